@@ -1,0 +1,25 @@
+//! The secret of a client's slot.
+ghost use Rattle.std.specs.Prelude.{◌≡◌, ℕ};
+
+use std::marker::Model;
+
+/// What a client has to know of its slot to cancel there.
+#[derive(Clone, Copy, Debug, PartialEq, Eq, PartialOrd, Ord, Hash)]
+pub struct Secret(pub u32);
+
+impl Model for Secret {
+    ghost Value = { ℕ };
+
+    ghost view = { λ s. s.0 };
+
+    ghost inverse = { λ n. record { 0 = n } };
+}
+
+impl Secret {
+    /// The number.
+    pub const fn get(self) -> u32
+        ensures { result ≡ self }
+    {
+        self.0
+    }
+}
