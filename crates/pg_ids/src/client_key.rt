@@ -55,6 +55,7 @@ impl ClientKey {
     pub fn from_bytes(bytes: [u8; 8]) -> ClientKey
         // Every eight bytes are those of the key.
         ensures found { key_bytes result ≡ bytes }
+        ensures key { IsKey result }
         // They are those of no other key.
         ensures only { (key : ClientKey) → IsKey key → key_bytes key ≡ bytes → key ≡ result }
     {

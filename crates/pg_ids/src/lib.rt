@@ -3,6 +3,7 @@
 
 mod client_key;
 mod hop_count;
+mod link_no;
 mod peer_no;
 mod server_key;
 mod slot_no;
@@ -10,6 +11,7 @@ mod slot_secret;
 
 pub use client_key::ClientKey;
 pub use hop_count::Hops;
+pub use link_no::LinkNo;
 pub use peer_no::PeerNo;
 pub use server_key::ServerKey;
 pub use slot_no::SlotNo;

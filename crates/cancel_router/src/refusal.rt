@@ -1,0 +1,36 @@
+//! Why a cancel request goes nowhere.
+ghost use Rattle.std.specs.Prelude.{◌≡◌};
+ghost use Rattle.cancel_router.specs.Refusals.{number_of};
+
+use thiserror::Error;
+
+/// Why a cancel request goes nowhere. Nobody is told: the requester's connection is closed all the same.
+#[derive(Clone, Copy, Debug, PartialEq, Eq, Hash, Error)]
+pub enum RouteRefusal {
+    /// The request has passed through as many poolers as it may.
+    #[error("60 Spent")]
+    Spent,
+    /// No live slot has this number and this secret.
+    #[error("61 Unknown")]
+    Unknown,
+    /// The key's pooler isn't in the list of peers.
+    #[error("62 NoPeer")]
+    NoPeer,
+    /// The slot's client holds no link.
+    #[error("63 NoLink")]
+    NoLink,
+}
+
+impl RouteRefusal {
+    /// Its number among all refusals, 60 to 63.
+    pub const fn number(self) -> u8
+        ensures { result ≡ number_of self }
+    {
+        match self {
+            RouteRefusal::Spent => 60,
+            RouteRefusal::Unknown => 61,
+            RouteRefusal::NoPeer => 62,
+            RouteRefusal::NoLink => 63,
+        }
+    }
+}

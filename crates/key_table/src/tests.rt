@@ -1,0 +1,44 @@
+//! The table over a few logins, and each slot of the largest table.
+use crate::{Full, KeyTable};
+use pg_ids::{ClientKey, PeerNo, Secret, SlotNo};
+use std::test::Fail;
+
+#[test]
+fn logins(rt: HostRuntime) -> Result<(), Fail> {
+    let peer = PeerNo::new(2).ok_or("no peer 2")?;
+    let mut table = KeyTable::new(rt.alloc(), peer, 2)?;
+    assert_eq!(rt; table.next_slot(), Some(SlotNo(0)));
+    let first = table.issue(Secret(1))?;
+    assert_eq!(rt; first.to_bytes(), [0, 8, 0, 0, 0, 0, 0, 7]);
+    let second = table.issue(Secret(5))?;
+    assert_eq!(rt; second.to_bytes(), [0, 8, 0, 4, 0, 0, 0, 0x17]);
+    assert_eq!(rt; table.next_slot(), None);
+    assert_eq!(rt; table.issue(Secret(9)), Err(Full));
+    assert_eq!(rt; table.find(&first), Some(SlotNo(0)));
+    assert_eq!(rt; table.find(&second), Some(SlotNo(1)));
+
+    // Another secret, another slot, another peer; other hops are no matter.
+    for bytes in [
+        [0, 8, 0, 0, 0, 0, 0, 0x0b],
+        [0, 8, 0, 4, 0, 0, 0, 7],
+        [0, 8, 0, 8, 0, 0, 0, 7],
+        [0, 4, 0, 0, 0, 0, 0, 7],
+    ] {
+        assert_eq!(rt; table.find(&ClientKey::from_bytes(bytes)), None);
+    }
+    let spent = ClientKey::from_bytes([0, 8, 0, 0, 0, 0, 0, 4]);
+    assert_eq!(rt; table.find(&spent), Some(SlotNo(0)));
+    Ok(())
+}
+
+#[test]
+fn retired(rt: HostRuntime) -> Result<(), Fail> {
+    let peer = PeerNo::new(0).ok_or("no peer 0")?;
+    let mut table = KeyTable::new(rt.alloc(), peer, 1)?;
+    let key = table.issue(Secret(7))?;
+    table.retire(key.slot);
+    assert_eq!(rt; table.find(&key), None);
+    assert_eq!(rt; table.next_slot(), Some(SlotNo(0)));
+    assert_eq!(rt; Full.number(), 30);
+    Ok(())
+}
