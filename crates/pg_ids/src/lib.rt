@@ -2,6 +2,7 @@
 #![tactic(auto)]
 
 mod client_key;
+mod database_no;
 mod hop_count;
 mod link_no;
 mod peer_no;
@@ -10,6 +11,7 @@ mod slot_no;
 mod slot_secret;
 
 pub use client_key::ClientKey;
+pub use database_no::DatabaseNo;
 pub use hop_count::Hops;
 pub use link_no::LinkNo;
 pub use peer_no::PeerNo;

@@ -1,5 +1,5 @@
 //! The worked keys, by their bytes.
-use crate::{ClientKey, Hops, LinkNo, PeerNo, Secret, ServerKey, SlotNo};
+use crate::{ClientKey, DatabaseNo, Hops, LinkNo, PeerNo, Secret, ServerKey, SlotNo};
 
 // Keys by their parts: peer, slot, secret, hops, and the bytes that a person works out of the layout.
 const KEYS: [(u16, u16, u32, u8, [u8; 8]); 6] = [
@@ -29,6 +29,7 @@ fn ranges(rt: HostRuntime) {
     assert!(rt; Hops::new(4).is_none());
     assert_eq!(rt; SlotNo(65535).get(), 65535);
     assert_eq!(rt; LinkNo(9).get(), 9);
+    assert_eq!(rt; DatabaseNo(63).get(), 63);
     assert_eq!(rt; Secret(4294967295).get(), 4294967295);
     assert_eq!(rt;
         ServerKey([1, 2, 3, 4, 5, 6, 7, 8]).to_bytes(),

@@ -1,0 +1,22 @@
+-- The numbers of what a node refuses (own).
+use Rattle.std.specs.Prelude.{ℕ}
+use Rattle.key_table.specs.Refusals.{FULL}
+use Rattle.cancel_router.specs.Refusals.{number_of}
+use Rattle.node_core.specs.declared.refusal.JoinRefusal.{JoinRefusal}
+use Rattle.node_core.specs.declared.refusal.JoinRefusal.TheVariants as join
+use Rattle.node_core.specs.declared.refusal.CancelRefusal.{CancelRefusal}
+use Rattle.node_core.specs.declared.refusal.CancelRefusal.TheVariants as cancel
+
+-- no number is left to give
+abbrev pub EXHAUSTED : ℕ
+EXHAUSTED = 33
+
+-- the number of a refused login
+abbrev pub join_number : JoinRefusal → ℕ
+join_number join.Full = FULL
+join_number join.Exhausted = EXHAUSTED
+
+-- the number of a refused cancel request
+abbrev pub cancel_number : CancelRefusal → ℕ
+cancel_number (cancel.Route refusal) = number_of refusal
+cancel_number cancel.Exhausted = EXHAUSTED

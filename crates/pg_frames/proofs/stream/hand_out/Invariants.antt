@@ -1,0 +1,10 @@
+use Rattle.std.proofs.Common.{length}
+use Rattle.pg_frames.proofs.CutLemmas.{Handed}
+use Rattle.pg_frames.proofs.stream.hand_out.Given as goal
+
+-- the frames handed out so far stood before what is left
+abbrev pub invariant-ready : goal.invariant-ready
+invariant-ready l = Handed l.initial.cutter l.initial.frames.items l.cutter l.frames.items
+
+abbrev pub decreases-ready : goal.decreases-ready
+decreases-ready l = length l.cutter

@@ -1,0 +1,11 @@
+-- The numbers of the refusals (own).
+use Rattle.std.specs.Prelude.{ℕ}
+use Rattle.pg_frames.specs.declared.error.FrameError.{FrameError}
+use Rattle.pg_frames.specs.declared.error.FrameError.TheVariants.{BadLength, TooLong, BadType, Memory}
+
+-- the number of a refusal
+abbrev pub number_of : FrameError → ℕ
+number_of BadLength = 10
+number_of TooLong = 11
+number_of BadType = 12
+number_of Memory = 13

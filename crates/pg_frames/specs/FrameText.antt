@@ -1,0 +1,65 @@
+-- The text of frames, and the cutting of a stream into frames (PostgreSQL manual, "Messaging Overview" and "Message
+-- Formats"; the greatest length field is own).
+use Rattle.std.specs.Prelude.{ℕ, ◌≡◌, ◌+◌, ◌≤◌, Bool, List, [], ◌∷◌, ◌++◌, length, IsTrue, not, nat_lt, if◌then◌else◌, Option, Some, None, Result, Ok, Err}
+use Rattle.std.specs.List.{AllByRecursion, flat_map}
+use Rattle.std.specs.Char.{is_ascii_alphanumeric}
+use Rattle.byteorder.specs.Endian.{big_bytes, big_number}
+use Rattle.pg_frames.specs.declared.frame.Frame.{Frame}
+use Rattle.pg_frames.specs.declared.error.FrameError.{FrameError}
+use Rattle.pg_frames.specs.declared.error.FrameError.TheVariants.{BadLength, TooLong, BadType, Memory}
+
+-- the text of a frame: its type byte, its length as Int32, which counts itself and not the type byte, and its body
+unfoldable pub text : Frame → List ℕ
+text frame = frame.kind ∷ (big_bytes 4 (4 + length frame.body) ++ frame.body)
+
+-- the texts of frames, one after another
+abbrev pub texts : List Frame → List ℕ
+texts frames = flat_map text frames
+
+-- a type byte is an ASCII letter or digit
+abbrev pub is_type : ℕ → Bool
+is_type byte = is_ascii_alphanumeric byte
+
+-- a frame of the format: its type is one, and its length field is at most 1,048,576 (own)
+pub record IsFrame (frame : Frame) : Type 0 where
+  pub type_byte : IsTrue (is_type frame.kind)
+  pub size : 4 + length frame.body ≤ 1048576
+
+-- no frame's text begins this
+abbrev pub BeginsNoFrame : List ℕ → Type 0
+BeginsNoFrame bytes = (frame : Frame) (more : List ℕ) → IsFrame frame → bytes ≡ text frame ++ more → ⊥
+
+-- a stream is cut into these frames, and no more, and a rest
+pub record Cuts (stream : List ℕ) (frames : List Frame) (rest : List ℕ) : Type 0 where
+  pub whole : stream ≡ texts frames ++ rest
+  pub each : AllByRecursion IsFrame frames
+  pub longest : BeginsNoFrame rest
+
+-- the fault at the front of a rest, if one stands there: the type is judged first, the length as soon as it is whole
+unfoldable pub fault_at : List ℕ → Option FrameError
+fault_at [] = None
+fault_at (kind ∷ more) =
+    if not (is_type kind) then Some BadType
+    else (if nat_lt (length more) 4 then None
+    else (if nat_lt (big_number 4 more) 4 then Some BadLength
+    else (if nat_lt 1048576 (big_number 4 more) then Some TooLong
+    else None)))
+
+-- the rest of the stream's cutting has this fault at its front, or none
+pub record HasFault (stream : List ℕ) (fault : Option FrameError) : Type 0 where
+  pub frames : List Frame
+  pub rest : List ℕ
+  pub cuts : Cuts stream frames rest
+  pub stands : fault_at rest ≡ fault
+
+-- an answer tells the fault, or that there is none; want of memory tells nothing
+abbrev pub Tells : Result (Unit {0}) FrameError → Option FrameError → Type 0
+Tells (Ok _) fault = fault ≡ None
+Tells (Err BadLength) fault = fault ≡ Some BadLength
+Tells (Err TooLong) fault = fault ≡ Some TooLong
+Tells (Err BadType) fault = fault ≡ Some BadType
+Tells (Err Memory) fault = Unit {0}
+
+-- the answer to a stream so far tells the fault in its rest
+abbrev pub IsJudged : List ℕ → Result (Unit {0}) FrameError → Type 0
+IsJudged stream answer = (fault : Option FrameError) × HasFault stream fault × Tells answer fault

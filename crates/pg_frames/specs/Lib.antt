@@ -1,0 +1,4 @@
+pub mod FrameError
+pub mod FrameText
+pub mod Header
+pub mod Ready

@@ -1,0 +1,36 @@
+//! Why a stream is no list of frames, or a frame isn't written.
+ghost use Rattle.std.specs.Prelude.{◌≡◌};
+ghost use Rattle.pg_frames.specs.FrameError.{number_of};
+
+use thiserror::Error;
+
+/// A refusal of this crate.
+#[derive(Clone, Copy, Debug, PartialEq, Eq, Error)]
+pub enum FrameError {
+    /// A length field below 4: it counts itself.
+    #[error("a length field below 4")]
+    BadLength,
+    /// A length field above 1,048,576.
+    #[error("a length field above 1048576")]
+    TooLong,
+    /// A type byte that is no ASCII letter or digit. It is judged before the length.
+    #[error("a type byte that is no letter or digit")]
+    BadType,
+    /// Want of memory.
+    #[error("out of memory")]
+    Memory,
+}
+
+impl FrameError {
+    /// The number that the refusal is known by.
+    pub const fn number(self) -> u8
+        ensures { result ≡ number_of self }
+    {
+        match self {
+            FrameError::BadLength => 10,
+            FrameError::TooLong => 11,
+            FrameError::BadType => 12,
+            FrameError::Memory => 13,
+        }
+    }
+}

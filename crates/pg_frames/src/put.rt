@@ -1,0 +1,48 @@
+//! Writing a frame.
+ghost use Rattle.std.specs.Prelude.{◌≡◌, ◌≢◌, ◌↔◌, ◌+◌, ◌<◌, ◌++◌, length, IsTrue, OnOk, OnErr, Err, IsOkUnless};
+ghost use Rattle.pg_frames.specs.FrameText.{text, is_type, IsFrame};
+
+use crate::header::{FIELD_LEN, HEADER_LEN, MAX_LENGTH};
+use crate::{Frame, FrameError};
+use byteorder::{BigEndian, ByteOrder};
+
+/// Appends the frame's text. A frame that isn't of the format is refused, its type first; a refusal leaves the
+/// vector as it was.
+pub fn put_frame(frame: &Frame, out: &mut Vec<u8>) -> Result<(), FrameError>
+    ensures ok { OnOk result (out.new.items ≡ out.old.items ++ text frame.now) }
+    ensures of_format { OnOk result (IsFrame frame.now) }
+    ensures bad_type { (result ≡ Err FrameError.BadType) ↔ (IsTrue (is_type frame.now.kind) → ⊥) }
+    ensures too_long { (result ≡ Err FrameError.TooLong)
+        ↔ (IsTrue (is_type frame.now.kind) × (1048576 < 4 + length frame.now.body)) }
+    ensures no_bad_length { result ≢ Err FrameError.BadLength }
+    ensures err { OnErr result (out.new.items ≡ out.old.items) }
+{
+    if !frame.kind.is_ascii_alphanumeric() {
+        return Err(FrameError::BadType);
+    }
+    if frame.body.len() > MAX_LENGTH - FIELD_LEN {
+        return Err(FrameError::TooLong);
+    }
+    let field = FIELD_LEN + frame.body.len();
+    append(frame, field as u32, out)
+}
+
+// Makes the room first, so that want of memory leaves the vector as it was.
+#[tactic(auto, unfolding(crate::specs::FrameText::text))]
+fn append(frame: &Frame, field: u32, out: &mut Vec<u8>) -> Result<(), FrameError>
+    requires { field ≡ 4 + length frame.now.body }
+    ensures ok { OnOk result (out.new.items ≡ out.old.items ++ text frame.now) }
+    ensures err { OnErr result (out.new.items ≡ out.old.items) }
+    ensures only_memory { IsOkUnless result FrameError.Memory }
+{
+    let mut number = [0; 4];
+    BigEndian::write_u32(&mut number, field);
+    let body = frame.body.as_slice();
+    if out.reserve(HEADER_LEN + body.len()).is_err() {
+        return Err(FrameError::Memory);
+    }
+    out.push(frame.kind).unwrap();
+    out.extend_from_slice(&number).unwrap();
+    out.extend_from_slice(body).unwrap();
+    Ok(())
+}

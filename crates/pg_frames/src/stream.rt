@@ -1,0 +1,88 @@
+//! A whole stream, and the laws of its cutting.
+ghost use Rattle.std.specs.Prelude.{◌≡◌, ◌<◌, ◌++◌, ◌∷◌, ℕ, List, IfOk, OnOk, None, slice_index};
+ghost use Rattle.std.specs.List.{flat_map};
+ghost use Rattle.pg_frames.specs.declared.frame.Frame.{Frame};
+ghost use Rattle.pg_frames.specs.FrameText.{text, fault_at, IsFrame, Cuts, HasFault};
+
+use crate::{Cutter, Frame, FrameError};
+use std::alloc::{AllocError, Global};
+
+/// The frames of a stream, and the fault in what follows them.
+#[derive(Debug, Drop)]
+pub struct Cutting {
+    /// The frames, in their order.
+    pub frames: Vec<Frame>,
+    /// The fault, if one stands in the rest. It is never want of memory.
+    pub fault: Option<FrameError>,
+}
+
+/// What the stream is cut into that comes in these pieces.
+pub fn cut(alloc: Global, pieces: &[&[u8]]) -> Result<Cutting, AllocError>
+    ensures cut { IfOk result (λ c. (rest : List ℕ)
+        × Cuts (flat_map (λ piece. piece.now) pieces.now) c.frames.items rest
+        × (c.fault ≡ fault_at rest)) }
+    // No other frames are, and no other fault, so it doesn't matter how the stream was cut into pieces.
+    ensures only { IfOk result (λ c. (frames : List Frame) (rest : List ℕ)
+        → Cuts (flat_map (λ piece. piece.now) pieces.now) frames rest
+        → (frames ≡ c.frames.items) × (fault_at rest ≡ c.fault)) }
+{
+    let mut cutter = Cutter::new(alloc);
+    let mut frames = Vec::new(alloc);
+    for piece in pieces {
+        let fault = take_piece(&mut cutter, &mut frames, piece)?;
+        if fault.is_some() {
+            return Ok(Cutting { frames, fault });
+        }
+    }
+    Ok(Cutting {
+        frames,
+        fault: None,
+    })
+}
+
+// Feeds a piece, and takes the frames that are ready then.
+fn take_piece(
+    cutter: &mut Cutter,
+    frames: &mut Vec<Frame>,
+    piece: &[u8],
+) -> Result<Option<FrameError>, AllocError>
+    ensures { IfOk result (λ fault. HasFault cutter.old None
+        → (more : List Frame) × Cuts (cutter.old ++ piece.now) more cutter.new
+        × (frames.new.items ≡ frames.old.items ++ more)
+        × (fault ≡ fault_at cutter.new)) }
+{
+    let answer = cutter.feed(piece);
+    hand_out(cutter, frames)?;
+    match answer {
+        Ok(()) => Ok(None),
+        Err(fault) if fault == FrameError::Memory => Err(AllocError),
+        Err(fault) => Ok(Some(fault)),
+    }
+}
+
+// Takes the frames that are ready.
+fn hand_out(cutter: &mut Cutter, frames: &mut Vec<Frame>) -> Result<(), AllocError>
+    ensures { OnOk result ((more : List Frame) × Cuts cutter.old more cutter.new
+        × (frames.new.items ≡ frames.old.items ++ more)) }
+{
+    'ready: loop {
+        match cutter.next() {
+            Ok(Some(frame)) => frames.push(frame)?,
+            Ok(None) => return Ok(()),
+            Err(_) => return Err(AllocError),
+        }
+    }
+}
+
+/// The laws of the cutting, for any stream of bytes.
+pub fn one_cutting()
+    // There is one.
+    ensures found { (stream : List ℕ) → ((i : ℕ) → slice_index stream i < 256)
+        → (frames : List Frame) × (rest : List ℕ) × Cuts stream frames rest }
+    // There is no other.
+    ensures only { (stream : List ℕ) (frames others : List Frame) (rest left : List ℕ)
+        → Cuts stream frames rest → Cuts stream others left → (frames ≡ others) × (rest ≡ left) }
+    // The text of a frame is read again, whatever follows.
+    ensures again { (frame : Frame) (more : List ℕ) (frames : List Frame) (rest : List ℕ)
+        → IsFrame frame → Cuts more frames rest → Cuts (text frame ++ more) (frame ∷ frames) rest }
+{}

@@ -1,0 +1,4 @@
+pub mod Texts
+pub mod Decision
+pub mod Calls
+pub mod Statuses

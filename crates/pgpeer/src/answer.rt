@@ -1,0 +1,91 @@
+//! The program's answer to its words.
+ghost use Rattle.std.specs.Prelude.{◌≡◌, ◌⊎◌, ℕ, List, map, MatchResult, string_bytes, Some};
+ghost use Rattle.std.specs.Io.KnownBytes.{Appends, Keeps};
+ghost use Rattle.pg_ids.specs.declared.client_key.ClientKey.{ClientKey};
+ghost use Rattle.pgpeer.specs.Calls.{IsKeyCall};
+ghost use Rattle.pgpeer.specs.Statuses.{status_of};
+ghost use Rattle.pgpeer.specs.Texts.{key_text};
+
+use crate::decide::decide_line;
+use crate::fault::Fault;
+use crate::key::key_line;
+use crate::opener::Opener;
+use crate::words::{Request, requested};
+use hex::FromHex;
+use pg_ids::ClientKey;
+use std::alloc::Global;
+use std::io::Write;
+
+/// Writes the answer to these words, and nothing else, to `out`, or why there is none to `err`. Answers
+/// the status that the program ends with: 0, or 1 for a fault in running, or 2 for words that ask for nothing.
+pub fn answer<O: Opener, W: Write, E: Write>(
+    alloc: Global,
+    words: &[&str],
+    opener: &O,
+    out: &mut W,
+    err: &mut E,
+) -> u8
+    // `key` with 16 hexadecimal digits tells the key's parts, unless memory or the writer fails.
+    ensures key { (hex : List ℕ) (key : ClientKey) → IsKeyCall (map (λ word. word.now) words.now) hex key
+        → ((result ≡ 0) × Appends (W.contents out.old) (W.contents out.new) (key_text key)) ⊎ (result ≡ 1) }
+    // Words that ask for nothing get nothing on `out`.
+    ensures silent { result ≡ 2 → Keeps (W.contents out.old) (W.contents out.new) }
+    // An answer leaves nothing on `err`.
+    ensures told { result ≡ 0 → Keeps (E.contents err.old) (E.contents err.new) }
+{
+    match reply(alloc, words, opener) {
+        Ok(text) => write_text(out, text.as_str(), 0),
+        Err(fault) => write_fault(alloc, err, &fault),
+    }
+}
+
+fn reply<O: Opener>(alloc: Global, words: &[&str], _opener: &O) -> Result<String, Fault>
+    ensures { (hex : List ℕ) (key : ClientKey) → IsKeyCall (map (λ word. word.now) words.now) hex key
+        → MatchResult result (λ text. string_bytes text ≡ key_text key) (λ fault. fault ≡ Fault.Memory) }
+{
+    if let Some(key) = key_asked(words) {
+        return key_line(alloc, key).map_err(|_| Fault::Memory);
+    }
+    match requested(alloc, words)? {
+        Request::Show(text) => Ok(text),
+        Request::Key(hex) => Err(Fault::Usage(format!(in alloc;
+            "key {hex}: 16 hexadecimal digits are wanted"
+        )?)),
+        Request::Decide(words) => decide_line(alloc, &words),
+    }
+}
+
+// The key that the words name, where they are `key` and 16 hexadecimal digits.
+fn key_asked(words: &[&str]) -> Option<ClientKey>
+    ensures { (hex : List ℕ) (key : ClientKey) → IsKeyCall (map (λ word. word.now) words.now) hex key
+        → result ≡ Some key }
+{
+    let [word, hex] = words else {
+        return None;
+    };
+    if *word != "key" {
+        return None;
+    }
+    let bytes = <[u8; 8] as FromHex>::from_hex(*hex).ok()?;
+    Some(ClientKey::from_bytes(bytes))
+}
+
+// Answers the status, or 1 where the text can't be written.
+fn write_text<W: Write>(writer: &mut W, text: &str, status: u8) -> u8
+    ensures { ((result ≡ status) × Appends (W.contents writer.old) (W.contents writer.new) text.now) ⊎ (result ≡ 1) }
+{
+    if writer.write_all(text.as_bytes()).is_ok() && writer.flush().is_ok() {
+        status
+    } else {
+        1
+    }
+}
+
+fn write_fault<W: Write>(alloc: Global, writer: &mut W, fault: &Fault) -> u8
+    ensures { (result ≡ status_of fault.now) ⊎ (result ≡ 1) }
+{
+    match format!(in alloc; "{fault}\n") {
+        Ok(text) => write_text(writer, text.as_str(), fault.status()),
+        Err(_) => write_text(writer, "out of memory\n", 1),
+    }
+}

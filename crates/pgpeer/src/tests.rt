@@ -1,0 +1,381 @@
+//! What the program answers to words, line by line.
+use crate::answer::answer;
+use crate::opener::Opener;
+use std::alloc::Global;
+use std::io;
+use std::test::Fail;
+
+// No file is there.
+#[derive(Drop)]
+struct NoFiles;
+
+impl Opener for NoFiles {
+    type Reader = io::Empty;
+
+    fn open(&self, _name: &str) -> io::Result<io::Empty> {
+        Err(io::Error::from(io::ErrorKind::NotFound))
+    }
+}
+
+// The status, what is written to standard output, and what to standard error.
+fn answered(alloc: Global, words: &[&str]) -> (u8, Vec<u8>, Vec<u8>) {
+    let mut out = Vec::new(alloc);
+    let mut err = Vec::new(alloc);
+    let status = answer(alloc, words, &NoFiles, &mut out, &mut err);
+    (status, out, err)
+}
+
+// A request for slot 0 of pooler 2, with secret 1 and hops 3.
+const ONE: &str = "0000001004d2162e0008000000000007";
+
+// Requests for slots 59,999 and 60,000 of pooler 2, with secret 7 and hops 3.
+const LAST: &str = "0000001004d2162e000ba97c0000001f";
+
+const PAST: &str = "0000001004d2162e000ba9800000001f";
+
+#[test]
+fn keys(rt: HostRuntime) {
+    for (hex, line) in [
+        ("0008000000000007", "peer 2 slot 0 secret 1 hops 3\n"),
+        (
+            "ffffffffffffffff",
+            "peer 16383 slot 65535 secret 4294967295 hops 3\n",
+        ),
+        (
+            "FFFFffffFFFFffff",
+            "peer 16383 slot 65535 secret 4294967295 hops 3\n",
+        ),
+        ("0000000000000000", "peer 0 slot 0 secret 0 hops 0\n"),
+    ] {
+        let (status, out, err) = answered(rt.alloc(), &["key", hex]);
+        assert_eq!(rt; status, 0, "{hex}");
+        assert_eq!(rt; out.as_slice(), line.as_bytes(), "{hex}");
+        assert!(rt; err.is_empty(), "{hex}");
+    }
+}
+
+#[test]
+fn orders(rt: HostRuntime) {
+    for (words, line) in [
+        (
+            ["decide", "--me", "1", "--peers", "2", ONE].as_slice(),
+            "forward 2 0000001004d2162e0008000000000006\n",
+        ),
+        (
+            &[
+                "decide",
+                "--me",
+                "1",
+                "--peers",
+                "2",
+                "0000001004D2162E0008000000000007",
+            ],
+            "forward 2 0000001004d2162e0008000000000006\n",
+        ),
+        (
+            &["decide", "--me", "1", "--peers", "1,2,3", ONE],
+            "forward 2 0000001004d2162e0008000000000006\n",
+        ),
+        (&["decide", "--me", "1", ONE], "refused 62\n"),
+        (
+            &["decide", "--me", "1", "--peers", "3", ONE],
+            "refused 62\n",
+        ),
+        (
+            &[
+                "decide",
+                "--me",
+                "1",
+                "--peers",
+                "2",
+                "0000001004d2162e0008000000000005",
+            ],
+            "refused 60\n",
+        ),
+        (&["decide", "--me", "2", ONE], "refused 61\n"),
+        (
+            &[
+                "decide",
+                "--me",
+                "2",
+                "--live",
+                "1",
+                "0000001004d2162e0008000000000004",
+            ],
+            "refused 60\n",
+        ),
+        (
+            &[
+                "decide",
+                "--me",
+                "2",
+                "--live",
+                "1",
+                "0000001004d2162e000800000000000b",
+            ],
+            "refused 61\n",
+        ),
+        (&["decide", "--me", "2", "--live", "1", ONE], "refused 63\n"),
+        (
+            &[
+                "decide",
+                "--me",
+                "2",
+                "--live",
+                "1,5",
+                "0000001004d2162e0008000400000017",
+            ],
+            "refused 63\n",
+        ),
+        (
+            &[
+                "decide",
+                "--me",
+                "2",
+                "--live",
+                "1,5",
+                "0000001004d2162e0008000400000007",
+            ],
+            "refused 61\n",
+        ),
+        (
+            &[
+                "decide",
+                "--me",
+                "2",
+                "--live",
+                "4294967295",
+                "0000001004d2162e00080003ffffffff",
+            ],
+            "refused 63\n",
+        ),
+    ] {
+        let (status, out, err) = answered(rt.alloc(), words);
+        assert_eq!(rt; status, 0, "{words:?}");
+        assert_eq!(rt; out.as_slice(), line.as_bytes(), "{words:?}");
+        assert!(rt; err.is_empty(), "{words:?}");
+    }
+}
+
+#[test]
+fn faults(rt: HostRuntime) {
+    for (words, status, line) in [
+        // A packet that is refused, or is no CancelRequest.
+        (["decide", "--me", "1", ""].as_slice(), 1, "packet 8\n"),
+        (
+            &["decide", "--me", "1", "0000001004d2162e00080000000000"],
+            1,
+            "packet 8\n",
+        ),
+        (
+            &["decide", "--me", "1", "0000001104d2162e000800000000000700"],
+            1,
+            "packet 6\n",
+        ),
+        (&["decide", "--me", "1", "00000007"], 1, "packet 1\n"),
+        (&["decide", "--me", "1", "00002711"], 1, "packet 2\n"),
+        (
+            &["decide", "--me", "1", "0000000900030001"],
+            1,
+            "packet 3\n",
+        ),
+        (
+            &["decide", "--me", "1", "0000000804d2162f"],
+            1,
+            "not a cancel\n",
+        ),
+        (
+            &["decide", "--me", "1", "0000000804d21630"],
+            1,
+            "not a cancel\n",
+        ),
+        (
+            &["decide", "--me", "1", "0000000804d2162fff"],
+            1,
+            "not a cancel\n",
+        ),
+        (
+            &["decide", "--me", "1", "00000010000300007573657200610000"],
+            1,
+            "not a cancel\n",
+        ),
+        // Bytes past a CancelRequest.
+        (
+            &["decide", "--me", "1", "0000001004d2162e000800000000000700"],
+            2,
+            "packet: 1 bytes follow the CancelRequest\n",
+        ),
+        // Words that are no numbers, or none that there may be.
+        (
+            &["key", "000800000000000"],
+            2,
+            "key 000800000000000: 16 hexadecimal digits are wanted\n",
+        ),
+        (
+            &["key", "00080000000000070"],
+            2,
+            "key 00080000000000070: 16 hexadecimal digits are wanted\n",
+        ),
+        (
+            &["key", "000800000000000g"],
+            2,
+            "key 000800000000000g: 16 hexadecimal digits are wanted\n",
+        ),
+        (&["key", ""], 2, "key : 16 hexadecimal digits are wanted\n"),
+        (
+            &["decide", "--me", "16384", ONE],
+            2,
+            "--me 16384: a number from 0 to 16383 is wanted\n",
+        ),
+        (
+            &["decide", "--me", "01", ONE],
+            2,
+            "--me 01: a number from 0 to 16383 is wanted\n",
+        ),
+        (
+            &["decide", "--me", "+1", ONE],
+            2,
+            "--me +1: a number from 0 to 16383 is wanted\n",
+        ),
+        (
+            &["decide", "--me", " 1", ONE],
+            2,
+            "--me  1: a number from 0 to 16383 is wanted\n",
+        ),
+        (
+            &["decide", "--me", "", ONE],
+            2,
+            "--me : a number from 0 to 16383 is wanted\n",
+        ),
+        (
+            &["decide", "--me", "99999999999999999999999", ONE],
+            2,
+            "--me 99999999999999999999999: a number from 0 to 16383 is wanted\n",
+        ),
+        (
+            &["decide", "--me", "1", "--peers", "0", ONE],
+            2,
+            "--peers 0: numbers from 1 to 16383 are wanted, with commas between\n",
+        ),
+        (
+            &["decide", "--me", "1", "--peers", "", ONE],
+            2,
+            "--peers : numbers from 1 to 16383 are wanted, with commas between\n",
+        ),
+        (
+            &["decide", "--me", "1", "--peers", "2,", ONE],
+            2,
+            "--peers : numbers from 1 to 16383 are wanted, with commas between\n",
+        ),
+        (
+            &["decide", "--me", "1", "--peers", "2,3,2", ONE],
+            2,
+            "--peers 2: this peer was named before\n",
+        ),
+        (
+            &["decide", "--me", "1", "--live", "", ONE],
+            2,
+            "--live : numbers from 0 to 4294967295 are wanted, with commas between\n",
+        ),
+        (
+            &["decide", "--me", "1", "--live", "4294967296", ONE],
+            2,
+            "--live 4294967296: numbers from 0 to 4294967295 are wanted, with commas between\n",
+        ),
+        (
+            &["decide", "--me", "1", "--live", "1:1112131415161718", ONE],
+            2,
+            "--live 1:1112131415161718: numbers from 0 to 4294967295 are wanted, with commas between\n",
+        ),
+        (
+            &["decide", "--me", "1", "--live", "007", ONE],
+            2,
+            "--live 007: numbers from 0 to 4294967295 are wanted, with commas between\n",
+        ),
+    ] {
+        let (answered_status, out, err) = answered(rt.alloc(), words);
+        assert_eq!(rt; answered_status, status, "{words:?}");
+        assert!(rt; out.is_empty(), "{words:?}");
+        assert_eq!(rt; err.as_slice(), line.as_bytes(), "{words:?}");
+    }
+}
+
+// What the parser of options refuses: status 2, nothing on standard output, and a text that says how it is right.
+#[test]
+fn usage(rt: HostRuntime) {
+    for words in [
+        [].as_slice(),
+        &["unknown"],
+        &["key"],
+        &["key", "0008000000000007", "0008000000000007"],
+        &["decide"],
+        &["decide", ONE],
+        &["decide", "--me", "1"],
+        &["decide", "--me", "1", "--me", "2", ONE],
+        &["decide", "--me", "1", "--peer", ONE],
+        &["decide", "--me", "1", ONE, ONE],
+    ] {
+        let (status, out, err) = answered(rt.alloc(), words);
+        assert_eq!(rt; status, 2, "{words:?}");
+        assert!(rt; out.is_empty(), "{words:?}");
+        assert!(rt; contains(&err, b"pgpeer"), "{words:?}");
+    }
+    let (status, out, err) = answered(rt.alloc(), &["decide", "--help"]);
+    assert_eq!(rt; status, 0);
+    assert!(rt; contains(&out, b"--peers <P,P..>"));
+    assert!(rt; err.is_empty());
+}
+
+fn contains(text: &[u8], part: &[u8]) -> bool {
+    text.windows(part.len().max(1)).any(|window| window == part)
+}
+
+#[test]
+fn limits(rt: HostRuntime) -> Result<(), Fail> {
+    let alloc = rt.alloc();
+    let mut peers = String::from_str(alloc, "1")?;
+    for number in 2..65 {
+        peers.push_str(format!(in alloc; ",{number}")?.as_str())?;
+    }
+    let (status, out, _) = answered(
+        alloc,
+        &["decide", "--me", "1", "--peers", peers.as_str(), ONE],
+    );
+    assert_eq!(rt;
+        (status, out.as_slice()),
+        (
+            0,
+            b"forward 2 0000001004d2162e0008000000000006\n".as_slice()
+        )
+    );
+    peers.push_str(",65")?;
+    let (status, _, err) = answered(
+        alloc,
+        &["decide", "--me", "1", "--peers", peers.as_str(), ONE],
+    );
+    assert_eq!(rt;
+        (status, err.as_slice()),
+        (2, b"--peers 65: there are at most 64 peers\n".as_slice())
+    );
+    Ok(())
+}
+
+#[test]
+fn sixty_thousand_clients(rt: HostRuntime) -> Result<(), Fail> {
+    let alloc = rt.alloc();
+    let mut live = String::from_str(alloc, "7")?;
+    for _ in 1..60000 {
+        live.push_str(",7")?;
+    }
+    for (packet, line) in [(LAST, "refused 63\n"), (PAST, "refused 61\n")] {
+        let (status, out) = order_among(alloc, live.as_str(), packet);
+        assert_eq!(rt; status, 0);
+        assert_eq!(rt; out.as_slice(), line.as_bytes());
+    }
+    Ok(())
+}
+
+fn order_among(alloc: Global, live: &str, packet: &str) -> (u8, Vec<u8>) {
+    let (status, out, _) = answered(alloc, &["decide", "--me", "2", "--live", live, packet]);
+    (status, out)
+}

@@ -1,0 +1,128 @@
+-- Answers that tell a text's outcome.
+use Rattle.std.proofs.Common.{◌≡◌, ℕ, ◌+◌, ◌-◌, ◌<◌, ◌≤◌, ◌⊎◌, Bool, true, false, if◌then◌else◌, nat_lt, ◌==◌, List, [], length, take, drop, Result, Ok, Err, refl, sym, ap, ◌∙◌, subst, inl, inr, arith, length-take, length-drop}
+use Rattle.std.proofs.lemmas.Bool.{false≢true, cases_lt, cond_below, cond_above}
+use Rattle.std.specs.Prelude.{String, string_bytes}
+use Rattle.std.specs.declared.alloc.Global.{Global}
+use Rattle.startup.specs.Kinds.{Seen}
+use Rattle.startup.specs.Packet.{startup_code, cancel_code, ssl_code, gss_code, packet, cancel_request, Begins}
+use Rattle.startup.specs.FirstPacket.{Outcome, length_of, code_of, HasHeader, StartsWith, Decides, IsUndecided, IsOutcome, Answers, Tells, Startup, Ssl, Gss, More, Refused}
+use Rattle.startup.specs.StartupMessage.{unless_empty}
+use Rattle.startup.specs.Session.{IsSessionOf}
+use Rattle.startup.specs.declared.session.Session.{Session}
+use Rattle.startup.specs.Header.{IsHeaderRead}
+use Rattle.startup.specs.declared.startup_error.StartupError.{StartupError}
+use Rattle.startup.specs.declared.startup_error.StartupError.TheVariants.{TooShort, TooLong, NoUser, Repeated, Truncated, Memory}
+use Rattle.startup.specs.declared.first.First.{First}
+use Rattle.startup.specs.declared.first.First.TheVariants as first
+use Rattle.startup.proofs.PacketLemmas.{Fields, AreBytes, begins_packet}
+use Rattle.startup.proofs.DecisionLemmas.{one_outcome}
+
+-- an answer tells no other outcome
+pub told_only : (seen : Seen) (text : List ℕ) (at_end : Bool) (result : Result First StartupError) → Answers seen text at_end result → (outcome : Outcome) → IsOutcome seen text at_end outcome → Tells result outcome
+told_only seen text at_end result answers outcome is =
+    subst (Tells result) (one_outcome seen text at_end answers.outcome outcome answers.is is) answers.told
+
+-- a refusal
+pub refused : (seen : Seen) (text : List ℕ) (at_end : Bool) (error : StartupError) → Decides seen text (Refused error) → Answers seen text at_end (Err error)
+refused seen text at_end error decides = record { outcome = Refused error; is = inl decides; told = inl refl }
+
+-- the answer where nothing is decided
+pub undecided : (seen : Seen) (text : List ℕ) (at_end : Bool) (result : Result First StartupError) → IsUndecided seen text → result ≡ (if at_end then Err Truncated else Ok first.More) → Answers seen text at_end result
+undecided seen text true result none is =
+    subst (Answers seen text true) (sym is) (record { outcome = Refused Truncated; is = inr (none, refl); told = inl refl })
+undecided seen text false result none is =
+    subst (Answers seen text false) (sym is) (record { outcome = More; is = inr (none, refl); told = refl })
+
+-- what a header is refused for
+pub header_refused : (seen : Seen) (text : List ℕ) (at_end : Bool) (error : StartupError) → IsHeaderRead text (Err error) → Answers seen text at_end (Err error)
+header_refused seen text at_end error (four, inl short) =
+    subst (λ (e : StartupError). Answers seen text at_end (Err e)) (sym short.0) (refused seen text at_end TooShort (four, short.1))
+header_refused seen text at_end error (four, inr long) =
+    subst (λ (e : StartupError). Answers seen text at_end (Err e)) (sym long.0) (refused seen text at_end TooLong (inl (four, long.1)))
+
+-- a whole CancelRequest
+pub cancelled : (text key : List ℕ) → AreBytes text → code_of text ≡ cancel_code → length_of text ≡ 16 → 16 ≤ length text → key ≡ take 8 (drop 8 text) → (length key ≡ 8) × Begins text (cancel_request key)
+cancelled text key bytes code measured whole is =
+    let eight : length key ≡ 8 = ap length is ∙ omega (arith, length-take 8 (drop 8 text), length-drop 8 text) in
+    let fields : Fields text cancel_code key = record {
+      whole = omega arith;
+      measured = omega arith;
+      coded = code;
+      bodied = is ∙ ap (λ (n : ℕ). take n (drop 8 text)) (sym eight);
+    } in
+    (eight, begins_packet text cancel_code key bytes fields)
+
+-- a header alone, whose length is 8
+begins_alone : (text : List ℕ) (code : ℕ) → AreBytes text → HasHeader text → code_of text ≡ code → length_of text ≡ 8 → Begins text (packet code [])
+begins_alone text code bytes header is measured =
+    begins_packet text code [] bytes (record { whole = header.stands; measured = measured; coded = is; bodied = refl })
+
+-- the answer to an SSLRequest's header
+fresh_ssl : (gss : Bool) (text : List ℕ) (at_end : Bool) (len : ℕ) (result : Result First StartupError) → AreBytes text → HasHeader text → code_of text ≡ ssl_code → len ≡ length_of text → result ≡ (if nat_lt 8 len then Err TooLong else Ok first.Ssl) → (8 < len) ⊎ (len ≤ 8) → Answers (record { ssl = false; gss = gss }) text at_end result
+fresh_ssl gss text at_end len result bytes header code measured is (inl long) =
+    subst (Answers _ text at_end) (sym (is ∙ sym (cond_below 8 len (Err TooLong) (Ok first.Ssl) long))) (refused _ text at_end TooLong (inr ((header, inl (code, refl)), omega arith)))
+fresh_ssl gss text at_end len result bytes header code measured is (inr short) =
+    let alone = begins_alone text ssl_code bytes header code (omega (arith, header.lower)) in
+    subst (Answers _ text at_end) (sym (is ∙ sym (cond_above 8 len (Err TooLong) (Ok first.Ssl) (Ok first.Ssl) short refl))) (record { outcome = Ssl; is = inl (refl, alone); told = refl })
+
+pub negotiated_ssl : (ssl gss : Bool) (text : List ℕ) (at_end : Bool) (len : ℕ) (result : Result First StartupError) → AreBytes text → HasHeader text → code_of text ≡ ssl_code → len ≡ length_of text → result ≡ (if ssl then Err Repeated else (if nat_lt 8 len then Err TooLong else Ok first.Ssl)) → Answers (record { ssl = ssl; gss = gss }) text at_end result
+negotiated_ssl true gss text at_end len result bytes header code measured is =
+    subst (Answers _ text at_end) (sym is) (refused _ text at_end Repeated (header, inl (code, refl)))
+negotiated_ssl false gss text at_end len result bytes header code measured is =
+    fresh_ssl gss text at_end len result bytes header code measured is (cases_lt 8 len)
+
+-- the answer to a GSSENCRequest's header
+fresh_gss : (ssl : Bool) (text : List ℕ) (at_end : Bool) (len : ℕ) (result : Result First StartupError) → AreBytes text → HasHeader text → code_of text ≡ gss_code → len ≡ length_of text → result ≡ (if nat_lt 8 len then Err TooLong else Ok first.Gss) → (8 < len) ⊎ (len ≤ 8) → Answers (record { gss = false; ssl = ssl }) text at_end result
+fresh_gss ssl text at_end len result bytes header code measured is (inl long) =
+    subst (Answers _ text at_end) (sym (is ∙ sym (cond_below 8 len (Err TooLong) (Ok first.Gss) long))) (refused _ text at_end TooLong (inr ((header, inr (code, refl)), omega arith)))
+fresh_gss ssl text at_end len result bytes header code measured is (inr short) =
+    let alone = begins_alone text gss_code bytes header code (omega (arith, header.lower)) in
+    subst (Answers _ text at_end) (sym (is ∙ sym (cond_above 8 len (Err TooLong) (Ok first.Gss) (Ok first.Gss) short refl))) (record { outcome = Gss; is = inl (refl, alone); told = refl })
+
+pub negotiated_gss : (ssl gss : Bool) (text : List ℕ) (at_end : Bool) (len : ℕ) (result : Result First StartupError) → AreBytes text → HasHeader text → code_of text ≡ gss_code → len ≡ length_of text → result ≡ (if gss then Err Repeated else (if nat_lt 8 len then Err TooLong else Ok first.Gss)) → Answers (record { ssl = ssl; gss = gss }) text at_end result
+negotiated_gss ssl true text at_end len result bytes header code measured is =
+    subst (Answers _ text at_end) (sym is) (refused _ text at_end Repeated (header, inr (code, refl)))
+negotiated_gss ssl false text at_end len result bytes header code measured is =
+    fresh_gss ssl text at_end len result bytes header code measured is (cases_lt 8 len)
+
+-- a whole StartupMessage, by its header and body
+pub starts_with_body : (text : List ℕ) (len : ℕ) → AreBytes text → HasHeader text → code_of text ≡ startup_code → len ≡ length_of text → len ≤ length text → StartsWith text (take (len - 8) (drop 8 text))
+starts_with_body text len bytes header code is whole =
+    let body = take (len - 8) (drop 8 text) in
+    let measured : length body ≡ len - 8 = omega (arith, header.lower, length-take (len - 8) (drop 8 text), length-drop 8 text) in
+    let fields : Fields text startup_code body = record {
+      whole = omega (arith, header.lower);
+      measured = omega (arith, header.lower);
+      coded = code;
+      bodied = ap (λ (n : ℕ). take n (drop 8 text)) (sym measured);
+    } in
+    record { begins = begins_packet text startup_code body bytes fields; upper = omega (arith, header.upper, header.lower) }
+
+same_unless_empty : (a b c d : List ℕ) → a ≡ c → b ≡ d → unless_empty a b ≡ unless_empty c d
+same_unless_empty a b c d p q = ap (λ (t : List ℕ). unless_empty t b) p ∙ ap (λ (t : List ℕ). unless_empty c t) q
+
+not_empty : (xs : List ℕ) → false ≡ (length xs == 0) → xs ≡ [] → ⊥
+not_empty xs has none = false≢true (has ∙ ap (λ (ys : List ℕ). length ys == 0) none)
+
+-- the session of a whole StartupMessage
+pub begun : (text : List ℕ) (len : ℕ) (session : Session) → StartsWith text (take (len - 8) (drop 8 text)) → HasHeader text → len ≡ length_of text → len ≤ length text → IsSessionOf session (take (len - 8) (drop 8 text)) → false ≡ (length session.user.now == 0) → (seen : Seen) → Decides seen text (Startup session.user.now (unless_empty session.database.now session.user.now) len)
+begun text len session starts header measured whole of named seen =
+    let body = take (len - 8) (drop 8 text) in
+    let is : len ≡ 8 + length body = omega (arith, header.lower, length-take (len - 8) (drop 8 text), length-drop 8 text) in
+    (of.parameters, record { sendable = of.sendable; message = subst (StartsWith text) of.spelled starts }, not_empty session.user.now named, of.user, same_unless_empty _ _ _ _ of.database of.user, is ∙ ap (λ (b : List ℕ). 8 + length b) of.spelled)
+
+pub unnamed : (text body : List ℕ) (session : Session) → StartsWith text body → IsSessionOf session body → session.user.now ≡ [] → (seen : Seen) → Decides seen text (Refused NoUser)
+unnamed text body session starts of empty seen =
+    (of.parameters, record { sendable = of.sendable; message = subst (StartsWith text) of.spelled starts }, sym of.user ∙ empty)
+
+-- memory is wanting where a session begins
+pub wanting : (seen : Seen) (text : List ℕ) (at_end : Bool) (user database : List ℕ) (used : ℕ) → Decides seen text (Startup user database used) → Answers seen text at_end (Err Memory)
+wanting seen text at_end user database used decides =
+    record { outcome = Startup user database used; is = inl decides; told = inr (tt, refl) }
+
+same_startup : (a b c d : List ℕ) (n : ℕ) → a ≡ c → b ≡ d → Startup a b n ≡ Startup c d n
+same_startup a b c d n p q = ap (λ (t : List ℕ). Startup t b n) p ∙ ap (λ (t : List ℕ). Startup c t n) q
+
+pub told_startup : (seen : Seen) (text : List ℕ) (at_end : Bool) (user database : List ℕ) (used : ℕ) (u d : String Global) → Decides seen text (Startup user database used) → string_bytes u ≡ user → string_bytes d ≡ database → Answers seen text at_end (Ok (first.Startup u d used))
+told_startup seen text at_end user database used u d decides is_user is_database =
+    record { outcome = Startup user database used; is = inl decides; told = same_startup _ _ _ _ used (sym is_user) (sym is_database) }

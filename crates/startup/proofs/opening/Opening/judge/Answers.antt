@@ -1,0 +1,39 @@
+use Rattle.std.proofs.Common.{arith, ◌∙◌, Some, None, Ok, Option, sym, subst}
+use Rattle.std.proofs.lemmas.Result.{err_from_is_err_and}
+use Rattle.startup.specs.FirstPacket.{Answers}
+use Rattle.startup.specs.Header.{IsHeaderRead}
+use Rattle.startup.specs.declared.header.Header.{Header}
+use Rattle.startup.specs.declared.startup_error.StartupError.TheVariants.{BadVersion}
+use Rattle.startup.proofs.AnswerLemmas.{refused, undecided, header_refused, negotiated_ssl, negotiated_gss}
+use Rattle.startup.proofs.DecisionLemmas.{undecided_cut}
+use Rattle.startup.proofs.opening.Opening.judge.Goals as goal
+
+pub returns-in_err-header : goal.returns-in_err-header
+returns-in_err-header c =
+    let exit = err_from_is_err_and c.from_residual.result c.from_residual.ensures.1 in
+    rw (exit.1, exit.2) (header_refused c.args.self.now c.args.so_far.now c.args.at_end c.in_err-header.field-0.0 c.in_err-header.ensures)
+
+pub returns-in_default : goal.returns-in_default
+returns-in_default c =
+    let read : IsHeaderRead c.args.so_far.now (Ok None) =
+    subst (λ (o : Option Header). IsHeaderRead c.args.so_far.now (Ok o)) c.in_default.is c.in_ok-header.ensures in
+    undecided c.args.self.now c.args.so_far.now c.args.at_end c.unfinished.result (undecided_cut c.args.self.now c.args.so_far.now read) c.unfinished.ensures
+
+pub returns-in-80877103 : goal.returns-in-80877103
+returns-in-80877103 c =
+    let read : IsHeaderRead c.args.so_far.now (Ok (Some c.in-Some.header)) =
+    subst (λ (o : Option Header). IsHeaderRead c.args.so_far.now (Ok o)) c.in-Some.is c.in_ok-header.ensures in
+    subst (λ seen. Answers seen c.args.so_far.now c.args.at_end c.read_negotiation.result) c.self.view_is (negotiated_ssl c.self.inside.ssl c.self.inside.gss c.args.so_far.now c.args.at_end c.in-Some.header.length c.read_negotiation.result (record { below = λ i. omega (arith, c.type_inv.so_far i) }) read.0 (sym read.2 ∙ c.in-80877103.is) read.1 c.read_negotiation.ensures)
+
+pub returns-in-80877104 : goal.returns-in-80877104
+returns-in-80877104 c =
+    let read : IsHeaderRead c.args.so_far.now (Ok (Some c.in-Some.header)) =
+    subst (λ (o : Option Header). IsHeaderRead c.args.so_far.now (Ok o)) c.in-Some.is c.in_ok-header.ensures in
+    subst (λ seen. Answers seen c.args.so_far.now c.args.at_end c.read_negotiation-in-80877104.result) c.self.view_is (negotiated_gss c.self.inside.ssl c.self.inside.gss c.args.so_far.now c.args.at_end c.in-Some.header.length c.read_negotiation-in-80877104.result (record { below = λ i. omega (arith, c.type_inv.so_far i) }) read.0 (sym read.2 ∙ c.in-80877104.is) read.1 c.read_negotiation-in-80877104.ensures)
+
+pub returns-in_default-code : goal.returns-in_default-code
+returns-in_default-code c =
+    let read : IsHeaderRead c.args.so_far.now (Ok (Some c.in-Some.header)) =
+    subst (λ (o : Option Header). IsHeaderRead c.args.so_far.now (Ok o)) c.in-Some.is c.in_ok-header.ensures in
+    let other = c.in_default-code in
+    refused c.args.self.now c.args.so_far.now c.args.at_end BadVersion (read.0, omega (arith, read.2), omega (arith, read.2), omega (arith, read.2), omega (arith, read.2))

@@ -1,0 +1,10 @@
+pub mod Packet
+pub mod StartupMessage
+pub mod Kinds
+pub mod FirstPacket
+pub mod Header
+pub mod Session
+pub mod Parameter
+pub mod Numbers
+pub mod ErrorCode
+pub mod Replies

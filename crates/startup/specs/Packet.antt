@@ -1,0 +1,42 @@
+-- The first packets, as bytes (PostgreSQL manual, "Message Formats": StartupMessage, CancelRequest,
+-- SSLRequest, GSSENCRequest).
+use Rattle.std.specs.Prelude.{ℕ, ◌≡◌, ◌+◌, ◌*◌, ◌^◌, List, [], ◌++◌, length}
+use Rattle.byteorder.specs.Endian.{big_bytes}
+
+-- the code of a StartupMessage of protocol 3.0, the version's two numbers
+abbrev pub startup_code : ℕ
+startup_code = 3 * 2 ^ 16
+
+-- the codes of the other first packets
+abbrev pub cancel_code : ℕ
+cancel_code = 80877102
+
+abbrev pub ssl_code : ℕ
+ssl_code = 80877103
+
+abbrev pub gss_code : ℕ
+gss_code = 80877104
+
+-- a packet with no type byte: an Int32 length that counts itself, an Int32 code, and the body
+abbrev pub packet : ℕ → List ℕ → List ℕ
+packet code body = big_bytes 4 (8 + length body) ++ big_bytes 4 code ++ body
+
+-- the packet that names a key to be cancelled
+abbrev pub cancel_request : List ℕ → List ℕ
+cancel_request key = packet cancel_code key
+
+-- the packets that ask for encryption
+abbrev pub ssl_request : List ℕ
+ssl_request = packet ssl_code []
+
+abbrev pub gss_request : List ℕ
+gss_request = packet gss_code []
+
+-- the packet that opens a session, by its body
+abbrev pub startup_message : List ℕ → List ℕ
+startup_message body = packet startup_code body
+
+-- the text begins with this packet
+pub record Begins (text whole : List ℕ) : Type 0 where
+  pub after : List ℕ
+  pub spelled : text ≡ whole ++ after

@@ -1,0 +1,58 @@
+-- What a pooler writes to a client (PostgreSQL manual, "Message Formats" and "Error and Notice Message
+-- Fields"; the parameters that a login reports are own).
+use Rattle.std.specs.Prelude.{ℕ, ◌≡◌, ◌≢◌, ◌+◌, ◌≤◌, List, [], ◌∷◌, ◌++◌, length, codes, Option, Some, None}
+use Rattle.byteorder.specs.Endian.{big_bytes}
+use Rattle.startup.specs.StartupMessage.{HasNoZero}
+use Rattle.pg_ids.specs.Key.{key_bytes}
+use Rattle.pg_ids.specs.declared.client_key.ClientKey.{ClientKey}
+
+-- a message: a type byte, an Int32 length that counts itself and not the type byte, and the body
+abbrev pub message : ℕ → List ℕ → List ℕ
+message kind body = kind ∷ big_bytes 4 (4 + length body) ++ body
+
+-- a text, and the zero byte that ends it
+abbrev pub zero_ended : List ℕ → List ℕ
+zero_ended text = text ++ 0 ∷ []
+
+-- AuthenticationOk
+abbrev pub authentication_ok : List ℕ
+authentication_ok = message 82 (big_bytes 4 0)
+
+-- ParameterStatus
+abbrev pub parameter_status : List ℕ → List ℕ → List ℕ
+parameter_status name value = message 83 (zero_ended name ++ zero_ended value)
+
+-- BackendKeyData, none where the client has no key
+abbrev pub backend_key_data : Option ClientKey → List ℕ
+backend_key_data None = []
+backend_key_data (Some key) = message 75 (key_bytes key)
+
+-- ReadyForQuery, idle
+abbrev pub ready_for_query : List ℕ
+ready_for_query = message 90 (73 ∷ [])
+
+-- what a client reads once it is logged in
+abbrev pub login : Option ClientKey → List ℕ
+login key =
+    authentication_ok ++ parameter_status (codes "server_version") (codes "16")
+    ++ parameter_status (codes "server_encoding") (codes "UTF8") ++ parameter_status (codes "client_encoding") (codes "UTF8")
+    ++ backend_key_data key ++ ready_for_query
+
+-- a field of an ErrorResponse: its type byte and its text
+abbrev pub error_field : ℕ → List ℕ → List ℕ
+error_field kind text = kind ∷ zero_ended text
+
+-- the fields of an ErrorResponse: the severity twice, as it may be translated and as it isn't, the code
+-- and the message; and the zero byte that ends them
+abbrev pub error_fields : List ℕ → List ℕ → List ℕ → List ℕ
+error_fields severity code text =
+    error_field 83 severity ++ error_field 86 severity ++ error_field 67 code ++ error_field 77 text ++ 0 ∷ []
+
+-- ErrorResponse
+abbrev pub error_response : List ℕ → List ℕ → List ℕ → List ℕ
+error_response severity code text = message 69 (error_fields severity code text)
+
+-- a text that a field can hold: no zero byte, and at most 8,000 bytes (own)
+pub record IsFieldText (text : List ℕ) : Type 0 where
+  pub no_zero : HasNoZero text
+  pub short : length text ≤ 8000

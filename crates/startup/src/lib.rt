@@ -1,0 +1,24 @@
+//! The first packet of a connection, as it is read and written.
+#![tactic(auto)]
+
+mod append;
+mod error_code;
+mod first;
+mod header;
+mod opening;
+mod packets;
+mod parameter;
+mod replies;
+mod request;
+mod session;
+mod startup_error;
+
+pub use error_code::{ErrorCode, Severity};
+pub use first::First;
+pub use opening::Opening;
+pub use replies::{write_error, write_login};
+pub use request::{write_cancel, write_startup};
+pub use startup_error::StartupError;
+
+#[cfg(test)]
+mod tests;

@@ -1,0 +1,85 @@
+//! What a pooler writes to a client before and about its session.
+ghost use Rattle.std.specs.Prelude.{◌≡◌, ◌∷◌, ◌++◌, OnOk, OnErr, IsOkUnless};
+ghost use Rattle.startup.specs.ErrorCode.{severity_text};
+ghost use Rattle.startup.specs.Replies.{login, error_fields, error_response, IsFieldText};
+
+use crate::append::append;
+use crate::error_code::Severity;
+use crate::startup_error::StartupError;
+use pg_ids::ClientKey;
+
+// AuthenticationOk and the three parameters that a login reports.
+const GREETING: &[u8; 84] = b"R\0\0\0\x08\0\0\0\0\
+    S\0\0\0\x16server_version\016\0\
+    S\0\0\0\x19server_encoding\0UTF8\0\
+    S\0\0\0\x19client_encoding\0UTF8\0";
+
+// BackendKeyData up to its key, and ReadyForQuery, idle.
+const KEY_DATA: &[u8; 5] = b"K\0\0\0\x0c";
+
+const READY: &[u8; 6] = b"Z\0\0\0\x05I";
+
+/// Puts a login's messages at the end of the buffer, with BackendKeyData where the client has a key
+/// (PostgreSQL manual, "Start-up"; the parameters are own). Answers `Memory` alone.
+pub fn write_login(key: Option<ClientKey>, out: &mut Vec<u8>) -> Result<(), StartupError>
+    ensures ok { OnOk result (out.new.items ≡ out.old.items ++ login key) }
+    ensures err { OnErr result (out.new.items ≡ out.old.items) }
+    ensures memory { IsOkUnless result StartupError.Memory }
+{
+    match key {
+        Some(key) => append(out, &[GREETING, KEY_DATA, &key.to_bytes(), READY]),
+        None => append(out, &[GREETING, READY]),
+    }
+}
+
+/// Puts an ErrorResponse at the end of the buffer: its severity twice, its code and its message
+/// (PostgreSQL manual, "Error and Notice Message Fields"). Answers `Memory` alone.
+pub fn write_error(
+    severity: Severity,
+    code: &str,
+    message: &str,
+    out: &mut Vec<u8>,
+) -> Result<(), StartupError>
+    requires code { IsFieldText code.now }
+    requires message { IsFieldText message.now }
+    ensures ok { OnOk result (out.new.items ≡ out.old.items
+        ++ error_response (severity_text severity) code.now message.now) }
+    ensures err { OnErr result (out.new.items ≡ out.old.items) }
+    ensures memory { IsOkUnless result StartupError.Memory }
+{
+    // The length, and for each field its type byte and a zero byte; the body ends with another.
+    let severity = severity.text();
+    let length = 4 + 4 * 2 + 1 + 2 * severity.len() + code.len() + message.len();
+    write_fields(&(length as u32).to_be_bytes(), severity, code, message, out)
+}
+
+// Puts an ErrorResponse of this length at the end of the buffer.
+fn write_fields<'a>(
+    length: &'a [u8],
+    severity: &'a str,
+    code: &'a str,
+    message: &'a str,
+    out: &mut Vec<u8>,
+) -> Result<(), StartupError>
+    ensures ok { OnOk result (out.new.items ≡ out.old.items
+        ++ (69 ∷ length.now ++ error_fields severity.now code.now message.now)) }
+    ensures err { OnErr result (out.new.items ≡ out.old.items) }
+    ensures memory { IsOkUnless result StartupError.Memory }
+{
+    append(
+        out,
+        &[
+            b"E",
+            length,
+            b"S",
+            severity.as_bytes(),
+            b"\0V",
+            severity.as_bytes(),
+            b"\0C",
+            code.as_bytes(),
+            b"\0M",
+            message.as_bytes(),
+            b"\0\0",
+        ],
+    )
+}

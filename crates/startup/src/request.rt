@@ -1,0 +1,75 @@
+//! Requests that a pooler writes.
+ghost use Rattle.std.specs.Prelude.{◌≡◌, ◌≢◌, ◌+◌, ◌≤◌, [], ◌++◌, Bool, List, ℕ, length, take, OnOk, OnErr, IsOkUnless};
+ghost use Rattle.byteorder.specs.Endian.{big_bytes};
+ghost use Rattle.startup.specs.Packet.{startup_code, cancel_request};
+ghost use Rattle.startup.specs.StartupMessage.{HasNoZero, asked_for, body_of, startup_request, unless_empty};
+ghost use Rattle.startup.specs.Kinds.{Seen};
+ghost use Rattle.startup.specs.FirstPacket.{Cancel, Startup, IsOutcome};
+
+use crate::append::append;
+use crate::header::CANCEL_CODE;
+use crate::startup_error::StartupError;
+use byteorder::{BigEndian, ByteOrder};
+
+/// The CancelRequest of these eight key bytes, whole (PostgreSQL manual, "Message Formats").
+pub fn write_cancel(key: [u8; 8]) -> [u8; 16]
+    ensures bytes { result ≡ cancel_request key }
+    // Bytes that begin with the request are read as one of this key, whatever follows.
+    ensures read { (seen : Seen) (after : List ℕ) (at_end : Bool)
+        → IsOutcome seen (result ++ after) at_end (Cancel key) }
+    // A key has no other request: bytes that are read as one of this key begin with these.
+    ensures only { (seen : Seen) (text : List ℕ) (at_end : Bool)
+        → IsOutcome seen text at_end (Cancel key) → take 16 text ≡ result }
+{
+    let mut request = [0; 16];
+    BigEndian::write_u32(&mut request, 16);
+    BigEndian::write_u32(&mut request[4..], CANCEL_CODE);
+    request[8..].copy_from_slice(&key);
+    request
+}
+
+/// Puts a StartupMessage of protocol 3.0 at the end of the buffer, which asks a server for this user and
+/// this database and nothing else (PostgreSQL manual, "Message Formats"). Answers `Memory` alone.
+pub fn write_startup(user: &str, database: &str, out: &mut Vec<u8>) -> Result<(), StartupError>
+    requires user { HasNoZero user.now }
+    requires database { HasNoZero database.now }
+    requires short { length user.now + length database.now ≤ 8000 }
+    ensures ok { OnOk result (out.new.items ≡ out.old.items ++ startup_request user.now database.now) }
+    ensures err { OnErr result (out.new.items ≡ out.old.items) }
+    ensures memory { IsOkUnless result StartupError.Memory }
+    // Bytes that begin with the message are read as this session's, whatever follows.
+    ensures read { user.now ≢ [] → (seen : Seen) (after : List ℕ) (at_end : Bool)
+        → let request = startup_request user.now database.now in
+        IsOutcome seen (request ++ after) at_end
+        (Startup user.now (unless_empty database.now user.now) (length request)) }
+{
+    // Length and code, the names, and each of the five texts' zero bytes.
+    let length = 8 + 4 + 8 + 5 + user.len() + database.len();
+    write_asked(&(length as u32).to_be_bytes(), user, database, out)
+}
+
+// Puts a StartupMessage of this length at the end of the buffer.
+fn write_asked<'a>(
+    length: &'a [u8],
+    user: &'a str,
+    database: &'a str,
+    out: &mut Vec<u8>,
+) -> Result<(), StartupError>
+    ensures ok { OnOk result (out.new.items ≡ out.old.items
+        ++ (length.now ++ big_bytes 4 startup_code ++ body_of (asked_for user.now database.now))) }
+    ensures err { OnErr result (out.new.items ≡ out.old.items) }
+    ensures memory { IsOkUnless result StartupError.Memory }
+{
+    append(
+        out,
+        &[
+            length,
+            b"\0\x03\0\0",
+            b"user\0",
+            user.as_bytes(),
+            b"\0database\0",
+            database.as_bytes(),
+            b"\0\0",
+        ],
+    )
+}

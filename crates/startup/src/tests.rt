@@ -1,0 +1,239 @@
+//! Bytes worked out by hand from the PostgreSQL manual's message formats.
+use super::*;
+use pg_ids::ClientKey;
+use std::process::Abort;
+use std::test::Fail;
+
+const CANCEL: &[u8; 16] = b"\0\0\0\x10\x04\xd2\x16\x2e\0\x08\0\0\0\0\0\x07";
+
+const SSL: &[u8; 8] = b"\0\0\0\x08\x04\xd2\x16\x2f";
+
+const GSS: &[u8; 8] = b"\0\0\0\x08\x04\xd2\x16\x30";
+
+const STARTUP: &[u8; 32] = b"\0\0\0\x20\0\x03\0\0user\0ann\0database\0shop\0\0";
+
+// Texts that are refused: the number, where it is decided, the bytes.
+const REFUSED: &[(u8, usize, &[u8])] = &[
+    (1, 4, b"\0\0\0\x07"),
+    (1, 4, b"\0\0\0\0\0\x03\0\0"),
+    (2, 4, b"\0\0\x27\x11"),
+    (2, 4, b"\xff\xff\xff\xff\0\x03\0\0"),
+    (2, 8, b"\0\0\0\x09\x04\xd2\x16\x2f\0"),
+    (2, 8, b"\0\0\0\x09\x04\xd2\x16\x30\0"),
+    (3, 8, b"\0\0\0\x09\0\x03\0\x01\0"),
+    (3, 8, b"\0\0\0\x08\0\0\0\0"),
+    (4, 8, b"\0\0\0\x08\0\x03\0\0"),
+    // The zero byte that ends the parameters isn't the last.
+    (4, 10, b"\0\0\0\x0a\0\x03\0\0\0\0"),
+    // The parameters don't end: behind a pair, within a value, behind another pair.
+    (4, 11, b"\0\0\0\x0b\0\x03\0\0a\0\0"),
+    (4, 12, b"\0\0\0\x0c\0\x03\0\0a\0bc"),
+    (4, 12, b"\0\0\0\x0c\0\x03\0\0a\0b\0"),
+    // No UTF-8, in a name and in a value.
+    (4, 13, b"\0\0\0\x0d\0\x03\0\0\xc3\0b\0\0"),
+    (4, 16, b"\0\0\0\x10\0\x03\0\0user\0\x80\0\0"),
+    // A name twice, before the want of a user, and with one.
+    (4, 16, b"\0\0\0\x10\0\x03\0\0a\0\0a\0b\0\0"),
+    (4, 26, b"\0\0\0\x1a\0\x03\0\0user\0a\0x\0\0user\0b\0\0"),
+    // Names that may not be set.
+    (4, 24, b"\0\0\0\x18\0\x03\0\0user\0a\0_pq_.\0b\0\0"),
+    (4, 29, b"\0\0\0\x1d\0\x03\0\0user\0a\0replication\0\0\0"),
+    (5, 9, b"\0\0\0\x09\0\x03\0\0\0"),
+    (5, 15, b"\0\0\0\x0f\0\x03\0\0user\0\0\0"),
+    (5, 23, b"\0\0\0\x17\0\x03\0\0database\0shop\0\0"),
+    (6, 8, b"\0\0\0\x0f\x04\xd2\x16\x2e\0\x08\0\0\0\0\0"),
+    (6, 8, b"\0\0\0\x11\x04\xd2\x16\x2e\0\x08\0\0\0\0\0\x07\0"),
+];
+
+// The number of a refusal, 0 where there is none.
+fn refusal_of(answer: &Result<First, StartupError>) -> u8 {
+    match answer {
+        Ok(_) => 0,
+        Err(error) => error.number(),
+    }
+}
+
+// Up to a place nothing is decided, and from there on the refusal.
+fn refused_from(rt: &impl Abort, opening: &mut Opening, number: u8, from: usize, text: &[u8]) {
+    for end in 0..=text.len() {
+        let so_far = &text[..end];
+        for at_end in [false, true] {
+            let answer = opening.read(so_far, at_end);
+            if end >= from {
+                assert_eq!(rt; refusal_of(&answer), number, "at {end} of {text:?}");
+            } else if at_end {
+                assert_eq!(rt; refusal_of(&answer), 8, "at {end} of {text:?}");
+            } else {
+                assert!(rt; matches!(answer, Ok(First::More)), "at {end} of {text:?}");
+            }
+        }
+    }
+}
+
+#[test]
+fn refusals(rt: HostRuntime) {
+    for (number, from, text) in REFUSED {
+        refused_from(&rt, &mut Opening::new(rt.alloc()), *number, *from, text);
+    }
+}
+
+#[test]
+fn negotiations(rt: HostRuntime) {
+    for (first, second) in [(SSL, GSS), (GSS, SSL)] {
+        let mut opening = Opening::new(rt.alloc());
+        assert!(rt; matches!(opening.read(&first[..7], false), Ok(First::More)));
+        let answer = opening.read(first, false);
+        assert!(rt; matches!(answer, Ok(First::Ssl | First::Gss)));
+        refused_from(&rt, &mut opening, 7, 8, first);
+        let other = opening.read(second, true);
+        assert!(rt; matches!(other, Ok(First::Ssl | First::Gss)) && other != answer);
+        refused_from(&rt, &mut opening, 7, 8, first);
+        refused_from(&rt, &mut opening, 7, 8, second);
+        // A second request is told before its length.
+        assert_eq!(rt;
+            refusal_of(&opening.read(b"\0\0\0\x09\x04\xd2\x16\x2f", false)),
+            7
+        );
+        assert!(rt; matches!(opening.read(CANCEL, false), Ok(First::Cancel { .. })));
+    }
+}
+
+#[test]
+fn cancel_requests(rt: HostRuntime) {
+    let key = [0, 8, 0, 0, 0, 0, 0, 7];
+    assert_eq!(rt; write_cancel(key), *CANCEL);
+    let mut opening = Opening::new(rt.alloc());
+    for end in 0..16 {
+        assert!(rt; matches!(opening.read(&CANCEL[..end], false), Ok(First::More)));
+        assert_eq!(rt; refusal_of(&opening.read(&CANCEL[..end], true)), 8);
+    }
+    let followed = b"\0\0\0\x10\x04\xd2\x16\x2e\0\x08\0\0\0\0\0\x07more";
+    for text in [CANCEL.as_slice(), followed] {
+        assert!(rt; opening.read(text, false) == Ok(First::Cancel { key }));
+        assert!(rt; opening.read(text, true) == Ok(First::Cancel { key }));
+    }
+}
+
+// Texts that begin a session: user, database, used, the bytes.
+const SESSIONS: &[(&str, &str, usize, &[u8])] = &[
+    ("ann", "shop", 32, STARTUP),
+    (
+        "ann",
+        "shop",
+        32,
+        b"\0\0\0\x20\0\x03\0\0user\0ann\0database\0shop\0\0Q\0\0\0\x04",
+    ),
+    (
+        "ann",
+        "shop",
+        32,
+        b"\0\0\0\x20\0\x03\0\0database\0shop\0user\0ann\0\0",
+    ),
+    ("a", "a", 16, b"\0\0\0\x10\0\x03\0\0user\0a\0\0"),
+    ("a", "a", 26, b"\0\0\0\x1a\0\x03\0\0user\0a\0database\0\0\0"),
+    // Other names are passed over, and so is one that only begins like a reserved one.
+    (
+        "a",
+        "a",
+        26,
+        b"\0\0\0\x1a\0\x03\0\0user\0a\0_pq_\0\0x\0y\0\0",
+    ),
+    (
+        "\u{e9}",
+        "\u{e9}",
+        17,
+        b"\0\0\0\x11\0\x03\0\0user\0\xc3\xa9\0\0",
+    ),
+];
+
+#[test]
+fn sessions(rt: HostRuntime) -> Result<(), Fail> {
+    for (user, database, used, text) in SESSIONS {
+        let mut opening = Opening::new(rt.alloc());
+        for end in 0..*used {
+            let so_far = text.get(..end).unwrap_or(b"");
+            assert!(rt; matches!(opening.read(so_far, false), Ok(First::More)));
+            assert_eq!(rt; refusal_of(&opening.read(so_far, true)), 8);
+        }
+        for at_end in [false, true] {
+            let expected = First::Startup {
+                user: String::from_str(rt.alloc(), user)?,
+                database: String::from_str(rt.alloc(), database)?,
+                used: *used,
+            };
+            assert_eq!(rt; opening.read(text, at_end)?, expected);
+        }
+    }
+    Ok(())
+}
+
+#[test]
+fn longest_packet(rt: HostRuntime) -> Result<(), Fail> {
+    let mut text = vec![in rt.alloc(); b'a'; 10000]?;
+    text[..13].copy_from_slice(b"\0\0\x27\x10\0\x03\0\0user\0");
+    text[9998..].copy_from_slice(b"\0\0");
+    let answer = Opening::new(rt.alloc()).read(&text, false)?;
+    assert!(rt; matches!(answer, First::Startup { used: 10000, .. }));
+    Ok(())
+}
+
+#[test]
+fn replies(rt: HostRuntime) -> Result<(), Fail> {
+    let login = b"R\0\0\0\x08\0\0\0\0S\0\0\0\x16server_version\016\0\
+        S\0\0\0\x19server_encoding\0UTF8\0S\0\0\0\x19client_encoding\0UTF8\0\
+        K\0\0\0\x0c\0\x08\0\0\0\0\0\x07Z\0\0\0\x05I";
+    let console = b"R\0\0\0\x08\0\0\0\0S\0\0\0\x16server_version\016\0\
+        S\0\0\0\x19server_encoding\0UTF8\0S\0\0\0\x19client_encoding\0UTF8\0Z\0\0\0\x05I";
+    let error = b"E\0\0\0\x2cSFATAL\0VFATAL\0C3D000\0Mno such database\0\0";
+    assert_eq!(rt; login.len(), 103);
+    let key = ClientKey::from_bytes([0, 8, 0, 0, 0, 0, 0, 7]);
+    let code = ErrorCode::InvalidCatalogName;
+
+    let mut out = Vec::new(rt.alloc());
+    write_login(Some(key), &mut out)?;
+    assert_eq!(rt; out.as_slice(), login.as_slice());
+    write_login(None, &mut out)?;
+    assert_eq!(rt; &out[103..], console.as_slice());
+    out.clear();
+    write_error(Severity::Fatal, code.code(), code.message(), &mut out)?;
+    assert_eq!(rt; out.as_slice(), error.as_slice());
+    out.clear();
+    write_startup("ann", "shop", &mut out)?;
+    assert_eq!(rt; out.as_slice(), STARTUP.as_slice());
+    Ok(())
+}
+
+// The errors of a pooler: condition, code, message.
+const ERRORS: [(ErrorCode, &str, &str); 9] = [
+    (ErrorCode::ProtocolViolation, "08P01", "protocol violation"),
+    (
+        ErrorCode::FeatureNotSupported,
+        "0A000",
+        "not in this profile",
+    ),
+    (ErrorCode::InvalidCatalogName, "3D000", "no such database"),
+    (ErrorCode::TooManyConnections, "53300", "too many clients"),
+    (ErrorCode::OutOfMemory, "53200", "out of memory"),
+    (
+        ErrorCode::ConnectionFailure,
+        "08006",
+        "server connection lost",
+    ),
+    (ErrorCode::InvalidAuthorization, "28000", "no user name"),
+    (ErrorCode::AdminShutdown, "57P01", "node restarted"),
+    (ErrorCode::QueryCanceled, "57014", "query canceled"),
+];
+
+#[test]
+fn error_texts(rt: HostRuntime) {
+    for (error, code, message) in ERRORS {
+        assert_eq!(rt; error.code(), code);
+        assert_eq!(rt; error.message(), message);
+    }
+    assert_eq!(rt; Severity::Error.text(), "ERROR");
+    assert_eq!(rt;
+        StartupError::NoUser.told(),
+        Some(ErrorCode::InvalidAuthorization)
+    );
+    assert_eq!(rt; StartupError::Truncated.told(), None);
+}
