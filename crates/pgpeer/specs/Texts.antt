@@ -23,3 +23,7 @@ refused_text number = codes "refused " ++ decimal number ++ codes "\n"
 abbrev pub order_text : Order → List ℕ
 order_text (Forward peer packet) = forward_text peer packet
 order_text (Refused refusal) = refused_text (cancel_number refusal)
+
+-- how many nodes a group has
+abbrev pub group_text : ℕ → List ℕ
+group_text count = codes "group of " ++ decimal count ++ codes " nodes\n"

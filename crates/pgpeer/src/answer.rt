@@ -6,6 +6,7 @@ ghost use Rattle.pgpeer.specs.Calls.{IsKeyCall};
 ghost use Rattle.pgpeer.specs.Statuses.{status_of};
 ghost use Rattle.pgpeer.specs.Texts.{key_text};
 
+use crate::check::check_line;
 use crate::decide::decide_line;
 use crate::fault::Fault;
 use crate::key::key_line;
@@ -39,7 +40,7 @@ pub fn answer<O: Opener, W: Write, E: Write>(
     }
 }
 
-fn reply<O: Opener>(alloc: Global, words: &[&str], _opener: &O) -> Result<String, Fault>
+fn reply<O: Opener>(alloc: Global, words: &[&str], opener: &O) -> Result<String, Fault>
     ensures { (hex : List ℕ) (key : ClientKey) → IsKeyCall (map (λ word. word.now) words.now) hex key
         → MatchResult result (λ text. string_bytes text ≡ key_text key) (λ fault. fault ≡ Fault.Memory) }
 {
@@ -51,6 +52,7 @@ fn reply<O: Opener>(alloc: Global, words: &[&str], _opener: &O) -> Result<String
         Request::Key(hex) => Err(Fault::Usage(format!(in alloc;
             "key {hex}: 16 hexadecimal digits are wanted"
         )?)),
+        Request::Check(files) => check_line(alloc, opener, &files),
         Request::Decide(words) => decide_line(alloc, &words),
     }
 }

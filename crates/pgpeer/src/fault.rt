@@ -11,6 +11,12 @@ pub enum Fault {
     /// The words ask for nothing that there is.
     #[error("{0}")]
     Usage(String),
+    /// Settings or a group are refused.
+    #[error("{0}")]
+    Settings(String),
+    /// A file can't be read, or there is no memory for it.
+    #[error("{0}")]
+    File(String),
     /// A first packet is refused, by this number.
     #[error("packet {0}")]
     Packet(u8),
@@ -26,12 +32,12 @@ pub enum Fault {
 }
 
 impl Fault {
-    /// The status that the program ends with: 2 for its words, 1 for a fault in running.
+    /// The status that the program ends with: 2 for its words and for settings, 1 for a fault in running.
     pub fn status(&self) -> u8
         ensures { result ≡ status_of self.now }
     {
         match self {
-            Fault::Usage(_) => 2,
+            Fault::Usage(_) | Fault::Settings(_) => 2,
             _ => 1,
         }
     }

@@ -2,18 +2,62 @@
 use crate::answer::answer;
 use crate::opener::Opener;
 use std::alloc::Global;
-use std::io;
+use std::io::{self, Read};
 use std::test::Fail;
 
-// No file is there.
+// Files by their names: what each holds, and whether reading it fails at its end.
 #[derive(Drop)]
-struct NoFiles;
+struct Files;
 
-impl Opener for NoFiles {
-    type Reader = io::Empty;
+const SMALL: &str =
+    "[pgbouncer]\npool_mode = transaction\nauth_type = trust\nlisten_addr = 127.0.0.1\nlisten_port = 7001\npeer_id = 1\n[databases]\nshop = host=127.0.0.1 port=7100 user=app pool_size=2\n[peers]\n2 = host=127.0.0.1 port=7002\n";
 
-    fn open(&self, _name: &str) -> io::Result<io::Empty> {
-        Err(io::Error::from(io::ErrorKind::NotFound))
+const TWO: &str =
+    "[pgbouncer]\npool_mode = transaction\nauth_type = trust\nlisten_addr = 127.0.0.1\npeer_id = 2\n[peers]\n1 = host=127.0.0.1 port=7001\n";
+
+const TWO_ALONE: &str =
+    "[pgbouncer]\npool_mode = transaction\nauth_type = trust\nlisten_addr = 127.0.0.1\npeer_id = 2\n";
+
+const ZERO: &str =
+    "[pgbouncer]\npool_mode = transaction\nauth_type = trust\nlisten_addr = 127.0.0.1\n";
+
+const LARGE_NUMBER: &str =
+    "[pgbouncer]\npool_mode = transaction\nauth_type = trust\nlisten_addr = 127.0.0.1\nlisten_port = 7001\npeer_id = 16384\n";
+
+// A reader of a text, which fails behind it where it is to.
+#[derive(Drop)]
+struct Text {
+    left: &'static [u8],
+    fails: bool,
+}
+
+impl Read for Text {
+    fn read(&mut self, buf: &mut [u8]) -> io::Result<usize> {
+        if self.left.is_empty() && self.fails {
+            return Err(io::Error::from(io::ErrorKind::ConnectionReset));
+        }
+        self.left.read(buf)
+    }
+}
+
+impl Opener for Files {
+    type Reader = Text;
+
+    fn open(&self, name: &str) -> io::Result<Text> {
+        let left: &'static [u8] = match name {
+            "small" | "broken" => SMALL.as_bytes(),
+            "two" => TWO.as_bytes(),
+            "two_alone" => TWO_ALONE.as_bytes(),
+            "zero" => ZERO.as_bytes(),
+            "large" => LARGE_NUMBER.as_bytes(),
+            "empty" => b"",
+            "latin" => b"[pgbouncer]\n# caf\xe9\n",
+            _ => return Err(io::Error::from(io::ErrorKind::NotFound)),
+        };
+        Ok(Text {
+            left,
+            fails: name == "broken",
+        })
     }
 }
 
@@ -21,7 +65,7 @@ impl Opener for NoFiles {
 fn answered(alloc: Global, words: &[&str]) -> (u8, Vec<u8>, Vec<u8>) {
     let mut out = Vec::new(alloc);
     let mut err = Vec::new(alloc);
-    let status = answer(alloc, words, &NoFiles, &mut out, &mut err);
+    let status = answer(alloc, words, &Files, &mut out, &mut err);
     (status, out, err)
 }
 
@@ -300,6 +344,45 @@ fn faults(rt: HostRuntime) {
     }
 }
 
+#[test]
+fn groups(rt: HostRuntime) {
+    for (words, status, out_line, err_line) in [
+        (["check", "small"].as_slice(), 0, "group of 1 nodes\n", ""),
+        (&["check", "small", "two"], 0, "group of 2 nodes\n", ""),
+        (&["check", "zero"], 0, "group of 1 nodes\n", ""),
+        (&["check", "two_alone", "two"], 2, "", "40 SamePeer\n"),
+        (&["check", "small", "two_alone"], 2, "", "41 MissingPeer\n"),
+        (&["check", "zero", "zero"], 2, "", "42 NoPeering\n"),
+        (&["check", "empty"], 2, "", "empty:0: 26 Missing\n"),
+        (&["check", "large"], 2, "", "large:6: 24 OutOfRange\n"),
+        (
+            &["check", "large", "nowhere"],
+            2,
+            "",
+            "large:6: 24 OutOfRange\n",
+        ),
+        (
+            &["check", "two", "two_alone", "large"],
+            2,
+            "",
+            "large:6: 24 OutOfRange\n",
+        ),
+    ] {
+        let (answered_status, out, err) = answered(rt.alloc(), words);
+        assert_eq!(rt; answered_status, status, "{words:?}");
+        assert_eq!(rt; out.as_slice(), out_line.as_bytes(), "{words:?}");
+        assert_eq!(rt; err.as_slice(), err_line.as_bytes(), "{words:?}");
+    }
+    // Files that can't be read, or are no text: the line names the file, and says why.
+    for name in ["nowhere", "broken", "latin"] {
+        let (status, out, err) = answered(rt.alloc(), &["check", "small", name]);
+        assert_eq!(rt; status, 1, "{name}");
+        assert!(rt; out.is_empty(), "{name}");
+        assert!(rt; err.starts_with(name.as_bytes()), "{name}");
+        assert!(rt; err.len() > name.len() + 3, "{name}");
+    }
+}
+
 // What the parser of options refuses: status 2, nothing on standard output, and a text that says how it is right.
 #[test]
 fn usage(rt: HostRuntime) {
@@ -308,6 +391,7 @@ fn usage(rt: HostRuntime) {
         &["unknown"],
         &["key"],
         &["key", "0008000000000007", "0008000000000007"],
+        &["check"],
         &["decide"],
         &["decide", ONE],
         &["decide", "--me", "1"],

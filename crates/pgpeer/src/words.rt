@@ -10,6 +10,8 @@ pub enum Request<'a> {
     Show(String),
     /// `key HEX16`
     Key(&'a str),
+    /// `check FILE..`
+    Check(Vec<&'a str>),
     /// `decide ..`
     Decide(DecideWords<'a>),
 }
@@ -35,6 +37,7 @@ pub fn requested<'a>(alloc: Global, words: &'a [&'a str]) -> Result<Request<'a>,
     };
     match matches.subcommand() {
         Some(("key", found)) => Ok(Request::Key(word(found, "HEX16"))),
+        Some(("check", found)) => Ok(Request::Check(words_of(alloc, found, "FILE")?)),
         Some(("decide", found)) => Ok(Request::Decide(DecideWords {
             me: word(found, "me"),
             peers: found.get_str("peers"),
@@ -47,6 +50,17 @@ pub fn requested<'a>(alloc: Global, words: &'a [&'a str]) -> Result<Request<'a>,
 
 fn word<'a>(found: &ArgMatches<'a>, name: &str) -> &'a str {
     found.get_str(name).unwrap_or("")
+}
+
+fn words_of<'a>(
+    alloc: Global,
+    found: &ArgMatches<'a>,
+    name: &str,
+) -> Result<Vec<&'a str>, AllocError> {
+    match found.get_strs(name) {
+        Some(words) => words.to_vec(alloc),
+        None => Ok(Vec::new(alloc)),
+    }
 }
 
 // Help is an answer; whatever else the parser says is a fault.
@@ -67,7 +81,8 @@ fn program<'a>(alloc: Global) -> Result<Command<'a>, AllocError> {
         .subcommand_required(true)
         .arg_required_else_help(true)
         .subcommand(key_command(alloc)?)?
-        .subcommand(decide_command(alloc)?)
+        .subcommand(decide_command(alloc)?)?
+        .subcommand(check_command(alloc)?)
 }
 
 fn key_command<'a>(alloc: Global) -> Result<Command<'a>, AllocError> {
@@ -102,4 +117,14 @@ fn decide_command<'a>(alloc: Global) -> Result<Command<'a>, AllocError> {
         .arg(peers)?
         .arg(live)?
         .arg(packet)
+}
+
+fn check_command<'a>(alloc: Global) -> Result<Command<'a>, AllocError> {
+    let files = Arg::new(alloc, "FILE")
+        .required(true)
+        .num_args(1..)
+        .help("Settings files, one for each node of the group");
+    Command::new(alloc, "check")
+        .about("Tell whether settings files make a group")
+        .arg(files)
 }

@@ -1,12 +1,12 @@
 -- Requests are read again, and a CancelRequest is one for each key.
-use Rattle.std.proofs.Common.{◌≡◌, ℕ, ◌+◌, Bool, true, false, ◌≢◌, ◌≤◌, codes, List, [], ◌∷◌, ◌++◌, length, take, refl, sym, ap, ◌∙◌, subst, inl, inr, arith, rules, length-append}
+use Rattle.std.proofs.Common.{◌≡◌, ℕ, ◌+◌, Bool, true, false, ◌≢◌, ◌≤◌, codes, List, [], ◌++◌, length, take, refl, ap, ◌∙◌, inl, inr, arith, rules, length-append}
 use Rattle.std.specs.Str.{IsUtf8}
 use Rattle.std.proofs.lemmas.Str.{IsUtf8-from_ascii}
 use Rattle.std.proofs.lemmas.List.{take_at}
 use Rattle.startup.specs.Kinds.{Seen}
 use Rattle.startup.specs.Packet.{cancel_request, Begins}
 use Rattle.startup.specs.StartupMessage.{IsText, IsParameter, AreParameters, HasNoZero, asked_for, body_of, startup_request, unless_empty}
-use Rattle.startup.specs.FirstPacket.{IsOutcome, Decides, StartsWith, Starts, Startup, Cancel, Refused, More}
+use Rattle.startup.specs.FirstPacket.{IsOutcome, Starts, Startup, Cancel}
 
 -- the request that a text of this outcome begins with
 begins_request : (text key : List ℕ) → length key ≡ 8 → Begins text (cancel_request key) → take 16 text ≡ cancel_request key

@@ -1,6 +1,6 @@
 -- What a pooler writes to a client (PostgreSQL manual, "Message Formats" and "Error and Notice Message
 -- Fields"; the parameters that a login reports are own).
-use Rattle.std.specs.Prelude.{ℕ, ◌≡◌, ◌≢◌, ◌+◌, ◌≤◌, List, [], ◌∷◌, ◌++◌, length, codes, Option, Some, None}
+use Rattle.std.specs.Prelude.{ℕ, ◌+◌, ◌≤◌, List, [], ◌∷◌, ◌++◌, length, codes, Option, Some, None}
 use Rattle.byteorder.specs.Endian.{big_bytes}
 use Rattle.startup.specs.StartupMessage.{HasNoZero}
 use Rattle.pg_ids.specs.Key.{key_bytes}

@@ -1,4 +1,5 @@
-//! The first packet of a connection, as it is read and written.
+//! How a connection begins: its first packets, read and written, and the login and the errors that
+//! answer them.
 #![tactic(auto)]
 
 mod append;

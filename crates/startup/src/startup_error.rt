@@ -61,7 +61,7 @@ impl StartupError {
 
     /// What the client is told before its connection is closed, a FATAL error; none where the bytes may
     /// not be a client's (own).
-    pub const fn told(self) -> Option<ErrorCode>
+    pub const fn error_code(self) -> Option<ErrorCode>
         ensures { result ≡ told_of_refusal self }
     {
         match self {

@@ -225,6 +225,23 @@ const ERRORS: [(ErrorCode, &str, &str); 9] = [
 ];
 
 #[test]
+fn refusal_texts(rt: HostRuntime) -> Result<(), Fail> {
+    let texts = [
+        (StartupError::TooShort, "the packet's length is below 8"),
+        (
+            StartupError::BadCancelLength,
+            "a cancel request's length is not 16",
+        ),
+        (StartupError::Memory, "out of memory"),
+    ];
+    for (error, text) in texts {
+        let shown = format!(in rt.alloc(); "{error}")?;
+        assert_eq!(rt; shown.as_str(), text);
+    }
+    Ok(())
+}
+
+#[test]
 fn error_texts(rt: HostRuntime) {
     for (error, code, message) in ERRORS {
         assert_eq!(rt; error.code(), code);
@@ -232,8 +249,8 @@ fn error_texts(rt: HostRuntime) {
     }
     assert_eq!(rt; Severity::Error.text(), "ERROR");
     assert_eq!(rt;
-        StartupError::NoUser.told(),
+        StartupError::NoUser.error_code(),
         Some(ErrorCode::InvalidAuthorization)
     );
-    assert_eq!(rt; StartupError::Truncated.told(), None);
+    assert_eq!(rt; StartupError::Truncated.error_code(), None);
 }

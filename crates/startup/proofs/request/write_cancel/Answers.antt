@@ -1,5 +1,4 @@
-use Rattle.std.proofs.Common.{rules, ◌∙◌, ◌≡◌}
-use Rattle.startup.specs.Packet.{cancel_request}
+use Rattle.std.proofs.Common.{rules, ◌∙◌}
 use Rattle.startup.proofs.RequestLemmas.{one_request}
 use Rattle.startup.proofs.request.write_cancel.Goals as goal
 

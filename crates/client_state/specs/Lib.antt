@@ -1,0 +1,6 @@
+pub mod Acts
+pub mod Asked
+pub mod Session
+pub mod Stages
+pub mod Text
+pub mod Told

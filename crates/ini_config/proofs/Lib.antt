@@ -1,0 +1,11 @@
+pub mod Places
+pub mod Databases
+pub mod Pairs
+pub mod Peers
+pub mod TextLemmas
+pub mod Numbers
+pub mod WordLemmas
+pub mod SectionLines
+pub mod Found
+pub mod LineLemmas
+pub mod Totals

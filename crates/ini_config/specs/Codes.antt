@@ -1,0 +1,35 @@
+-- The numbers of the refusals (own), as an operator reads them.
+use Rattle.std.specs.Prelude.{ℕ, ◌≡◌}
+use Rattle.ini_config.specs.declared.fault.IniCode.{IniCode}
+use Rattle.ini_config.specs.declared.fault.IniCode.TheVariants.{BadLine, UnknownSection, UnknownKey, BadNumber, OutOfRange, Repeated, Missing, NotInProfile, Memory}
+use Rattle.ini_config.specs.declared.fault.IniError.{IniError}
+use Rattle.ini_config.specs.declared.fault.GroupError.{GroupError}
+use Rattle.ini_config.specs.declared.fault.GroupError.TheVariants as group
+
+-- the number of a refusal of a settings file
+abbrev pub ini_number : IniCode → ℕ
+ini_number BadLine = 20
+ini_number UnknownSection = 21
+ini_number UnknownKey = 22
+ini_number BadNumber = 23
+ini_number OutOfRange = 24
+ini_number Repeated = 25
+ini_number Missing = 26
+ini_number NotInProfile = 27
+ini_number Memory = 28
+
+-- a fault in a line; want of memory is in none
+abbrev pub fault_at : ℕ → IniCode → IniError
+fault_at line Memory = record { line = 0; code = Memory }
+fault_at line code = record { line = line; code = code }
+
+-- memory ran out
+abbrev pub IsMemory : IniError → Type 0
+IsMemory fault = fault ≡ record { line = 0; code = Memory }
+
+-- the number of a refusal of a group
+abbrev pub group_number : GroupError → ℕ
+group_number group.SamePeer = 40
+group_number group.MissingPeer = 41
+group_number group.NoPeering = 42
+group_number group.Memory = 43

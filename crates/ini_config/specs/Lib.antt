@@ -1,0 +1,11 @@
+pub mod Codes
+pub mod Text
+pub mod Reads
+pub mod Node
+pub mod Keys
+pub mod Entry
+pub mod Settings
+pub mod View
+pub mod Inside
+pub mod Plain
+pub mod Group

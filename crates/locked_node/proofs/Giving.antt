@@ -1,0 +1,133 @@
+-- The exchange that gives the lock back keeps its rule, where the journal made one call more.
+use Rattle.std.proofs.Common.{◌≡◌, ◌≢◌, ℕ, ◌+◌, ◌-◌, ◌<◌, ◌≤◌, List, [], ◌∷◌, ◌++◌, Ok, Err, length, drop, get_or, set, Some, None, refl, sym, ap, ◌∙◌, subst, inl, ⊎_elim, arith, length-set, get_or-set_same}
+use Rattle.std.specs.Prelude.{sum_by, if◌then◌else◌}
+use Rattle.std.proofs.lemmas.Bool.{cases_eq, cases_lt}
+use Rattle.std.proofs.lemmas.Option.{same_Some}
+use Rattle.std.proofs.lemmas.List.{length-append}
+use Rattle.std.proofs.Math.Seq.{drop-append_seam}
+use Rattle.std.proofs.lemmas.List.Sums.{sum_by_push, sum_by-cons}
+use mathlib.Core.Option.{some, some-injective}
+use lib.ListN.{get_elem?}
+use Rattle.atomic_table.specs.Table.{State, Me, Step, gives, stepped, Allows}
+use Rattle.atomic_table.proofs.Lists.{at_set}
+use Rattle.node_core.specs.View.{NodeView}
+use Rattle.node_core.specs.declared.refusal.JoinRefusal.TheVariants as join
+use Rattle.node_core.specs.declared.exchange.LeaveReply.TheVariants as leave
+use Rattle.node_core.specs.declared.exchange.Exchange.{Exchange}
+use Rattle.node_core.specs.declared.exchange.Exchange.TheVariants.{Join, Leave, Cancel}
+use Rattle.node_core.specs.NodeStep.{NodeStep}
+use Rattle.locked_node.specs.declared.share.Share.{Share}
+use Rattle.locked_node.specs.Totals.{SameSum, is_of, number_at, calls_in, sum_in, calls_at, sum_at, all_calls}
+use Rattle.locked_node.specs.Journal.{JournalView, LogView, JournalStep, Appends, TAIL_LIMIT, log_all, log_calls, log_sum}
+use Rattle.locked_node.specs.Lock.{Kept, IsShare, IsFree, IsTaken, IsLocked, given, giving, last_call}
+use Rattle.locked_node.proofs.Sums.{same_plus, same_equal}
+use Rattle.locked_node.proofs.Replays.{replay_more}
+use Rattle.locked_node.proofs.Histories.{calls_push, sum_push}
+use Rattle.locked_node.proofs.Shares.{sum_change, sum_same, each_set}
+use Rattle.locked_node.proofs.Locking.{allowed, began, counted, weighed}
+
+-- the totals of a log with one call more
+pub record LogMore (old : LogView) (call : Exchange) (new : LogView) : Type 0 where
+  pub calls : (kind : ℕ) → log_calls new kind ≡ log_calls old kind + (if is_of kind call then 1 else 0)
+  pub sums : (kind position : ℕ) → SameSum (log_sum new kind position) (log_sum old kind position + number_at kind position call)
+  pub all : log_all new ≡ log_all old + 1
+  pub last : last_call new.tail ≡ call ∷ []
+
+-- the last of a list
+last_is : (tail calls : List Exchange) (call : Exchange) → tail ≡ calls ++ call ∷ [] → last_call tail ≡ call ∷ []
+last_is tail calls call e =
+    let long : length (calls ++ call ∷ []) ≡ length calls + 1 = length-append calls (call ∷ []) in
+    let n : length (calls ++ call ∷ []) - 1 ≡ length calls = omega (arith, long) in
+    ap last_call e ∙ (ap (λ (k : ℕ). drop k (calls ++ call ∷ [])) n ∙ drop-append_seam calls (call ∷ []))
+
+pub log_more : (old : LogView) (call : Exchange) (new : LogView) → Appends old call new → LogMore old call new
+log_more old call new a = ⊎_elim
+    (λ (room : length old.tail < TAIL_LIMIT). let e = a.room room in record {
+      calls = λ k. let t = ap (λ t. calls_at t k) e.1 in let s = ap (calls_in k) e.0 ∙ calls_push k old.tail call in omega (arith, t, s);
+      sums = λ k p. let t = ap (λ t. sum_at t k p) e.1 in let s = ap (sum_in k p) e.0 ∙ sum_push k p old.tail call in same_equal _ _ (omega (arith, t, s));
+      all = let t = ap (λ t. all_calls t) e.1 in let s = ap length e.0 ∙ length-append old.tail (call ∷ []) in omega (arith, t, s);
+      last = last_is new.tail old.tail call e.0;
+    })
+    (λ (full : TAIL_LIMIT ≤ length old.tail). let short = a.short in let e = a.full (omega (arith, short, full)) in let left = e.0 in let oldest = e.1.oldest in let counted = e.1.counted in record {
+      calls = λ k. let t = ap (λ t. calls_at t k) e.3 in let s = ap (calls_in k) e.2 ∙ calls_push k left.tail call in
+          let o = ap (calls_in k) e.1.leaves ∙ sum_by-cons (λ (x : Exchange). if is_of k x then 1 else 0) oldest left.tail in
+          let c = counted.calls k in omega (arith, t, s, o, c);
+      sums = λ k p. let t = ap (λ t. sum_at t k p) e.3 in let s = ap (sum_in k p) e.2 ∙ sum_push k p left.tail call in
+          let o = ap (sum_in k p) e.1.leaves ∙ sum_by-cons (number_at k p) oldest left.tail in
+          same_equal _ _ (omega (arith, t, s))
+          ∙ (same_plus (sum_at left.trimmed k p) (sum_at old.trimmed k p + number_at k p oldest) (sum_in k p left.tail + number_at k p call) (counted.sums k p)
+          ∙ same_equal _ _ (omega (arith, o)));
+      all = let t = ap (λ t. all_calls t) e.3 in let s = ap length e.2 ∙ length-append left.tail (call ∷ []) in let o = ap length e.1.leaves in let c = counted.all in omega (arith, t, s, o, c);
+      last = last_is new.tail left.tail call e.2;
+    })
+    (cases_lt (length old.tail) TAIL_LIMIT)
+
+-- a step keeps the node's databases
+pub step_pools : (old : NodeView) (call : Exchange) (new : NodeView) → NodeStep old call new → new.pools ≡ old.pools
+step_pools old (Join database secret (Ok pass)) new step = ap (λ (v : NodeView). v.pools) step.after
+step_pools old (Join database secret (Err join.Full)) new step = ap (λ (v : NodeView). v.pools) step.1
+step_pools old (Join database secret (Err join.Exhausted)) new step = ap (λ (v : NodeView). v.pools) step.2
+step_pools old (Leave pass leave.Left) new step = ap (λ (v : NodeView). v.pools) step.1.after
+step_pools old (Leave pass (leave.Holding again)) new step = absurd step
+step_pools old (Leave pass leave.Stale) new step = ap (λ (v : NodeView). v.pools) step.1
+step_pools old (Leave pass leave.Exhausted) new step = absurd step
+step_pools old (Cancel key order) new step = ap (λ (v : NodeView). v.pools) step.same
+
+-- what the callers were told, with one call more
+kept_more : (start journal : JournalView) (vs : List Share) (id : ℕ) (v : Share) (call : Exchange) (new : JournalView) → get_elem? vs id ≡ some v
+    → JournalStep journal call new → LogMore journal.log call new.log → Kept start vs journal → Kept start (set vs id (given v new)) new
+kept_more start journal vs id v call new at step more k = let made : v.made ++ last_call new.log.tail ≡ v.made ++ call ∷ [] = ap (λ l. v.made ++ l) more.last in record {
+  calls = k.calls ++ call ∷ [];
+  replay = replay_more start.view k.calls journal.view call new.view k.replay step.step;
+  told = λ f. let a = sum_by_push f k.calls call in let b = sum_change (weighed f) vs id v (given v new) at in let c = k.told f in
+      let d = ap (sum_by f) made ∙ sum_by_push f v.made call in omega (arith, a, b, c, d);
+  many = let a = length-append k.calls (call ∷ []) in let b = sum_change counted vs id v (given v new) at in let c = k.many in
+      let d = ap length made ∙ length-append v.made (call ∷ []) in omega (arith, a, b, c, d);
+  counts = λ kind. let a = more.calls kind in let b = k.counts kind in let c = calls_push kind k.calls call in omega (arith, a, b, c);
+  sums = λ kind p. more.sums kind p ∙ (same_plus _ _ (number_at kind p call) (k.sums kind p) ∙ same_equal _ _ (let c = sum_push kind p k.calls call in omega (arith, c)));
+  all = let a = more.all in let b = k.all in let c = length-append k.calls (call ∷ []) in omega (arith, a, b, c);
+  pools = step_pools journal.view call new.view step.step ∙ k.pools;
+}
+
+-- the lock is given back
+is_given : (start : JournalView) (s : State JournalView Share) (r : IsLocked start s) (p : IsTaken r.journal s) (id : ℕ) (v : Share) (call : Exchange) (new : JournalView)
+    → get_elem? s.views id ≡ some v → id ≡ p.taker → 0 < v.allowance → JournalStep r.journal call new
+    → IsLocked start (stepped s 0 0 id ((0, new) ∷ []) (given v new) gives)
+is_given start s r p id v call new at same may step =
+    let more = log_more r.journal.log call new.log step.appended in
+    let w : Share = given v new in
+    let mine = r.each id v at in
+    let made : length (v.made ++ last_call new.log.tail) ≡ length v.made + 1 = ap length (ap (λ l. v.made ++ l) more.last) ∙ length-append v.made (call ∷ []) in record {
+      word = length-set s.words 0 0 ∙ r.word;
+      journal = new;
+      kept = kept_more start r.journal s.views id v call new at step more r.kept;
+      fits = let a = sum_change allowed s.views id v w at in let b = r.fits in let c = more.all in omega (arith, a, b, c);
+      one_start = sum_same began s.views id v w at refl ∙ r.one_start;
+      each = each_set (IsShare start) s.views id w record { knows = λ _. mine.knows (omega arith); has = λ _. omega (arith, made); alike = mine.alike } r.each;
+      place = inl record {
+        word = let l = r.word in get_or-set_same s.words 0 0 0 (omega (arith, l));
+        home = ap (λ h. set h 0 (some new)) p.home;
+        idle = λ i u here. ⊎_elim (λ (t : (i ≡ id) × (w ≡ u)). subst (λ (z : Share). z.found ≡ None) t.1 refl) (λ (t : (i ≢ id) × (get_elem? s.views i ≡ some u)). p.others i u t.1 (λ e. t.0 (e ∙ sym same))) (at_set s.views id i w u here);
+      };
+    }
+
+-- the exchange that gives the lock back, from a caller that found `old` and has made it `new`
+pub lock_gives : (start : JournalView) (slots id : ℕ) (me : Me JournalView Share) (old : JournalView) (call : Exchange) (new : JournalView) (st : Step JournalView)
+    → me.0.found ≡ Some old → me.1 ≡ (0, new) ∷ [] → JournalStep old call new → Allows (IsLocked start) slots id me 0 (λ _. 0) (giving st me)
+lock_gives start slots id me old call new st found held step =
+    subst (λ (cs : List (ℕ × JournalView)). Allows (IsLocked start) slots id (me.0, cs) 0 (λ _. 0) (giving st (me.0, cs))) (sym held) (λ s r _ at _. ⊎_elim
+    (λ (p : IsFree r.journal s). let f = p.idle id me.0 at in cc (f, found))
+    (λ (p : IsTaken r.journal s). ⊎_elim
+    (λ (e : id ≡ p.taker).
+    let same : me.0 ≡ p.share = some-injective me.0 p.share (sym at ∙ (ap (get_elem? s.views) e ∙ p.there)) in
+    let is : old ≡ r.journal = same_Some old r.journal (sym found ∙ (ap (λ (z : Share). z.found) same ∙ p.found)) in
+    let may : 0 < me.0.allowance = subst (λ (z : Share). 0 < z.allowance) (sym same) p.may in (
+      given me.0 new,
+      gives,
+      tt,
+      is_given start s r p id me.0 call new at e may (subst (λ (j : JournalView). JournalStep j call new) is step),
+      (λ j e'. ap (λ (z : JournalView). (given me.0 z, [])) (ap (λ (l : List (ℕ × JournalView)). (get_or l 0 (0, new)).1) e')),
+    ))
+    (λ (ne : id ≢ p.taker). let f = p.others id me.0 at ne in cc (f, found))
+    (cases_eq id p.taker))
+    r.place)

@@ -1,0 +1,10 @@
+pub mod Sums
+pub mod Tallies
+pub mod Replays
+pub mod Histories
+pub mod Shares
+pub mod Locking
+pub mod Giving
+pub mod Stepping
+pub mod Wholes
+pub mod Forwarding

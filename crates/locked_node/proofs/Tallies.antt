@@ -1,0 +1,132 @@
+-- Rows of a tally are changed.
+use Rattle.std.proofs.Common.{◌≡◌, ◌≢◌, ℕ, zero, suc, ◌+◌, ◌%◌, ◌^◌, ◌<◌, ◌≤◌, Bool, true, false, cond, eqb, List, [], ◌∷◌, ◌++◌, length, get_or, take, replicate, set, refl, sym, ap, ◌∙◌, subst, ⊎_elim, arith, eq-eqb, ne_eqb, get_or-set_same, get_or-set_other}
+use Rattle.std.proofs.lemmas.Bool.{cases_eq, cases_lt}
+use Rattle.std.proofs.lemmas.List.Sums.{sum_by-set, sum_by_more, get_or-le-sum_by}
+use Rattle.std.proofs.lemmas.List.{take_all, get_or_past}
+use Rattle.std.proofs.Math.ListN.{length-set}
+use Rattle.std.specs.Prelude.{sum_by}
+use Rattle.node_core.specs.declared.exchange.Exchange.{Exchange}
+use Rattle.locked_node.specs.declared.tally.Row.{Row}
+use Rattle.locked_node.specs.declared.kind.Kind.{Kind}
+use Rattle.locked_node.specs.declared.kind.Kind.TheVariants.{Joined, JoinFull, JoinExhausted, Left, Holding, LeaveStale, LeaveExhausted, Forwarded, CancelSpent, CancelUnknown, CancelNoPeer, CancelNoLink, CancelExhausted}
+use Rattle.locked_node.specs.CallNumbers.{kind_of, index_of, numbers_of, width_of}
+use Rattle.locked_node.specs.Totals.{Counts, AddsUp, SameSum}
+use Rattle.locked_node.proofs.Sums.{same_reduced, same_equal}
+
+-- a row that counts nothing
+abbrev pub no_row : Row
+no_row = record { calls = 0; sums = [] }
+
+-- zeros behind a list are what it has past its end
+get_zeros : (n m p : ℕ) → get_or (take n (replicate {A = ℕ} m 0)) p 0 ≡ 0
+get_zeros zero m p = refl
+get_zeros (suc n) zero p = refl
+get_zeros (suc n) (suc m) zero = refl
+get_zeros (suc n) (suc m) (suc p) = get_zeros n m p
+
+pub get_padded : (xs : List ℕ) (n m p : ℕ) → length xs ≤ n → get_or (take n (xs ++ replicate m 0)) p 0 ≡ get_or xs p 0
+get_padded [] n m p short = get_zeros n m p
+get_padded (x ∷ xs) zero m p short = absurd (omega arith)
+get_padded (x ∷ xs) (suc n) m zero short = refl
+get_padded (x ∷ xs) (suc n) m (suc p) short = get_padded xs n m p (omega arith)
+
+-- no kind has more than eight numbers
+pub width_le : (kind : Kind) → width_of kind ≤ 8
+width_le Joined = omega arith
+width_le JoinFull = omega arith
+width_le JoinExhausted = omega arith
+width_le Left = omega arith
+width_le Holding = omega arith
+width_le LeaveStale = omega arith
+width_le LeaveExhausted = omega arith
+width_le Forwarded = omega arith
+width_le CancelSpent = omega arith
+width_le CancelUnknown = omega arith
+width_le CancelNoPeer = omega arith
+width_le CancelNoLink = omega arith
+width_le CancelExhausted = omega arith
+
+-- the row of the call's kind counts one more, and no other row changes
+pub counts_row : (rows : List Row) (kind : ℕ) (row : Row) (call : Exchange) → kind < length rows → kind ≡ index_of (kind_of call)
+    → row.calls ≡ (get_or rows kind no_row).calls + 1
+    → ((p : ℕ) → get_or row.sums p 0 ≡ (get_or (get_or rows kind no_row).sums p 0 + get_or (numbers_of call) p 0) % 2 ^ 128)
+    → Counts (record { rows = rows }) call (record { rows = set rows kind row })
+counts_row rows kind row call within is more added =
+    let here : get_or (set rows kind row) kind no_row ≡ row = get_or-set_same rows kind row no_row within in
+    let yes : eqb (index_of (kind_of call)) kind ≡ true = eq-eqb (index_of (kind_of call)) kind (sym is) in record {
+      calls = λ k. ⊎_elim
+          (λ (e : k ≡ kind). subst (λ (j : ℕ). (get_or (set rows kind row) j no_row).calls ≡ (get_or rows j no_row).calls + cond (eqb (index_of (kind_of call)) j) 1 0) (sym e)
+          (ap (λ (r : Row). r.calls) here ∙ (more ∙ ap (λ (b : Bool). (get_or rows kind no_row).calls + cond b 1 0) (sym yes))))
+          (λ (ne : k ≢ kind).
+          let no : eqb (index_of (kind_of call)) k ≡ false = ne_eqb (index_of (kind_of call)) k (λ e. ne (sym e ∙ sym is)) in
+          ap (λ (r : Row). r.calls) (get_or-set_other rows kind k row no_row ne) ∙ (plus_none (get_or rows k no_row).calls ∙ ap (λ (b : Bool). (get_or rows k no_row).calls + cond b 1 0) (sym no)))
+          (cases_eq k kind);
+      sums = λ k p. ⊎_elim
+          (λ (e : k ≡ kind). subst (λ (j : ℕ). SameSum (get_or (get_or (set rows kind row) j no_row).sums p 0) (get_or (get_or rows j no_row).sums p 0 + cond (eqb (index_of (kind_of call)) j) (get_or (numbers_of call) p 0) 0)) (sym e)
+          (same_reduced _ _ (ap (λ (r : Row). get_or r.sums p 0) here ∙ (added p ∙ ap (λ (b : Bool). (get_or (get_or rows kind no_row).sums p 0 + cond b (get_or (numbers_of call) p 0) 0) % 2 ^ 128) (sym yes)))))
+          (λ (ne : k ≢ kind).
+          let no : eqb (index_of (kind_of call)) k ≡ false = ne_eqb (index_of (kind_of call)) k (λ e. ne (sym e ∙ sym is)) in
+          same_equal _ _ (ap (λ (r : Row). get_or r.sums p 0) (get_or-set_other rows kind k row no_row ne) ∙ (plus_none (get_or (get_or rows k no_row).sums p 0) ∙ ap (λ (b : Bool). get_or (get_or rows k no_row).sums p 0 + cond b (get_or (numbers_of call) p 0) 0) (sym no))))
+          (cases_eq k kind);
+      all = let s = sum_by-set (λ (r : Row). r.calls) rows kind row no_row within in omega (arith, s, more);
+    }
+  where
+    plus_none : (n : ℕ) → n ≡ n + 0
+    plus_none n = omega arith
+
+-- no row counts more than all rows
+pub row_le : (rows : List Row) (kind : ℕ) → kind < length rows → (get_or rows kind no_row).calls ≤ sum_by (λ (r : Row). r.calls) rows
+row_le rows kind within = get_or-le-sum_by (λ (r : Row). r.calls) rows kind no_row within
+
+-- the rows below i are added up, and the others are as they were
+pub record Merged (i : ℕ) (old other now : List Row) : Type 0 where
+  pub below : (k : ℕ) → k < i → (get_or now k no_row).calls ≡ (get_or old k no_row).calls + (get_or other k no_row).calls
+  pub sums : (k p : ℕ) → k < i → SameSum (get_or (get_or now k no_row).sums p 0) (get_or (get_or old k no_row).sums p 0 + get_or (get_or other k no_row).sums p 0)
+  pub above : (k : ℕ) → i ≤ k → get_or now k no_row ≡ get_or old k no_row
+  pub all : sum_by (λ (r : Row). r.calls) now ≡ sum_by (λ (r : Row). r.calls) old + sum_by (λ (r : Row). r.calls) (take i other)
+  pub long : length now ≡ length old
+
+pub merged_none : (old other : List Row) → Merged 0 old other old
+merged_none old other = record { below = λ k h. absurd (omega arith); sums = λ k p h. absurd (omega arith); above = λ k h. refl; all = omega arith; long = refl }
+
+pub merged_more : (i : ℕ) (old other now : List Row) (row : Row) → i < length now → i < length other → Merged i old other now
+    → row.calls ≡ (get_or now i no_row).calls + (get_or other i no_row).calls
+    → ((p : ℕ) → get_or row.sums p 0 ≡ (get_or (get_or now i no_row).sums p 0 + get_or (get_or other i no_row).sums p 0) % 2 ^ 128)
+    → Merged (i + 1) old other (set now i row)
+merged_more i old other now row within there m more added =
+    let here : get_or (set now i row) i no_row ≡ row = get_or-set_same now i row no_row within in
+    let was : get_or now i no_row ≡ get_or old i no_row = m.above i (omega arith) in record {
+      below = λ k h. ⊎_elim
+          (λ (e : k ≡ i). subst (λ (j : ℕ). (get_or (set now i row) j no_row).calls ≡ (get_or old j no_row).calls + (get_or other j no_row).calls) (sym e)
+          (ap (λ (r : Row). r.calls) here ∙ (more ∙ ap (λ (r : Row). r.calls + (get_or other i no_row).calls) was)))
+          (λ (ne : k ≢ i). ap (λ (r : Row). r.calls) (get_or-set_other now i k row no_row ne) ∙ m.below k (omega arith))
+          (cases_eq k i);
+      sums = λ k p h. ⊎_elim
+          (λ (e : k ≡ i). subst (λ (j : ℕ). SameSum (get_or (get_or (set now i row) j no_row).sums p 0) (get_or (get_or old j no_row).sums p 0 + get_or (get_or other j no_row).sums p 0)) (sym e)
+          (same_reduced _ _ (ap (λ (r : Row). get_or r.sums p 0) here ∙ (added p ∙ ap (λ (r : Row). (get_or r.sums p 0 + get_or (get_or other i no_row).sums p 0) % 2 ^ 128) was))))
+          (λ (ne : k ≢ i). same_equal _ _ (ap (λ (r : Row). get_or r.sums p 0) (get_or-set_other now i k row no_row ne)) ∙ m.sums k p (omega arith))
+          (cases_eq k i);
+      above = λ k h. let ne : k ≢ i = omega arith in get_or-set_other now i k row no_row ne ∙ m.above k (omega arith);
+      all = let s = sum_by-set (λ (r : Row). r.calls) now i row no_row within in
+          let t = sum_by_more (λ (r : Row). r.calls) other i no_row there in
+          let a = m.all in
+          omega (arith, s, t, a, more);
+      long = length-set now i row ∙ m.long;
+    }
+
+-- all rows are added up
+pub merged_all : (old other now : List Row) (n : ℕ) → length old ≡ n → length other ≡ n → Merged n old other now
+    → AddsUp (record { rows = old }) (record { rows = other }) (record { rows = now })
+merged_all old other now n len same m =
+    let past : (k : ℕ) → n ≤ k → get_or now k no_row ≡ no_row = λ k h. m.above k h ∙ get_or_past old k no_row (omega (arith, len)) in
+    let none : (k : ℕ) → n ≤ k → get_or old k no_row ≡ no_row = λ k h. get_or_past old k no_row (omega (arith, len)) in
+    let nil : (k : ℕ) → n ≤ k → get_or other k no_row ≡ no_row = λ k h. get_or_past other k no_row (omega (arith, same)) in record {
+      calls = λ k. ⊎_elim (λ (h : k < n). m.below k h)
+          (λ (h : n ≤ k). let a = ap (λ (r : Row). r.calls) (past k h) in let b = ap (λ (r : Row). r.calls) (none k h) in let c = ap (λ (r : Row). r.calls) (nil k h) in omega (arith, a, b, c))
+          (cases_lt k n);
+      sums = λ k p. ⊎_elim (λ (h : k < n). m.sums k p h)
+          (λ (h : n ≤ k). let a : get_or (get_or now k no_row).sums p 0 ≡ 0 = ap (λ (r : Row). get_or r.sums p 0) (past k h) in let b : get_or (get_or old k no_row).sums p 0 ≡ 0 = ap (λ (r : Row). get_or r.sums p 0) (none k h) in let c : get_or (get_or other k no_row).sums p 0 ≡ 0 = ap (λ (r : Row). get_or r.sums p 0) (nil k h) in
+          same_equal _ _ (omega (arith, a, b, c)))
+          (cases_lt k n);
+      all = let a = m.all in a ∙ ap (λ (rs : List Row). sum_by (λ (r : Row). r.calls) old + sum_by (λ (r : Row). r.calls) rs) (take_all n other (omega (arith, same)));
+    }

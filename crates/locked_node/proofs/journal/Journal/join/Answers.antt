@@ -1,0 +1,21 @@
+use Rattle.std.proofs.Common.{subst}
+use Rattle.node_core.specs.declared.exchange.Exchange.TheVariants.{Join}
+use Rattle.locked_node.specs.Journal.{JournalView, JournalStep, Appends}
+use Rattle.locked_node.proofs.Histories.{history_more, journal_step}
+use Rattle.locked_node.proofs.journal.Journal.join.Goals as goal
+
+pub append-requires : goal.append-requires
+append-requires c = c.if-is_full.ensures.full
+
+-- the history has one call more
+pub invariant_of-self : goal.invariant_of-self
+invariant_of-self c =
+    history_more _ (Join c.args.database c.args.secret c.join-reply.result) _ c.is_full.ensures.tail c.join-reply.ensures
+    (subst (λ r. Appends c.self.inside.log (Join c.args.database c.args.secret r) c.append.new.self) c.told.ensures c.append.ensures)
+    c.self.invariant
+
+pub returns-clause-step : goal.returns-clause-step
+returns-clause-step c = λ _.
+    subst (λ (j : JournalView). JournalStep j (Join c.args.database c.args.secret c.join-reply.result) (record { view = c.join-reply.new.self; log = c.append.new.self })) c.self.view_is
+    (journal_step _ (Join c.args.database c.args.secret c.join-reply.result) _ c.is_full.ensures.tail c.join-reply.ensures
+    (subst (λ r. Appends c.self.inside.log (Join c.args.database c.args.secret r) c.append.new.self) c.told.ensures c.append.ensures))

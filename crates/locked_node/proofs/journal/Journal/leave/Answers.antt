@@ -1,0 +1,21 @@
+use Rattle.std.proofs.Common.{subst}
+use Rattle.node_core.specs.declared.exchange.Exchange.TheVariants.{Leave}
+use Rattle.locked_node.specs.Journal.{JournalView, JournalStep, Appends}
+use Rattle.locked_node.proofs.Histories.{history_more, journal_step}
+use Rattle.locked_node.proofs.journal.Journal.leave.Goals as goal
+
+pub append-requires : goal.append-requires
+append-requires c = c.if-is_full.ensures.full
+
+-- the history has one call more
+pub invariant_of-self : goal.invariant_of-self
+invariant_of-self c =
+    history_more _ (Leave c.args.pass c.leave-reply.result) _ c.is_full.ensures.tail c.leave-reply.ensures
+    (subst (λ p. Appends c.self.inside.log (Leave p c.leave-reply.result) c.append.new.self) c.details-details.ensures (subst (λ r. Appends c.self.inside.log (Leave c.details-details.result r) c.append.new.self) c.left.ensures c.append.ensures))
+    c.self.invariant
+
+pub returns-clause-step : goal.returns-clause-step
+returns-clause-step c = λ _.
+    subst (λ (j : JournalView). JournalStep j (Leave c.args.pass c.leave-reply.result) (record { view = c.leave-reply.new.self; log = c.append.new.self })) c.self.view_is
+    (journal_step _ (Leave c.args.pass c.leave-reply.result) _ c.is_full.ensures.tail c.leave-reply.ensures
+    (subst (λ p. Appends c.self.inside.log (Leave p c.leave-reply.result) c.append.new.self) c.details-details.ensures (subst (λ r. Appends c.self.inside.log (Leave c.details-details.result r) c.append.new.self) c.left.ensures c.append.ensures)))

@@ -1,0 +1,14 @@
+use Rattle.std.proofs.Common.{[], refl, sym, subst}
+use Rattle.locked_node.specs.Replay.{Replay}
+use Rattle.locked_node.proofs.Histories.{tally_none}
+use Rattle.locked_node.proofs.journal.Journal.new.Goals as goal
+
+pub invariant_of-result : goal.invariant_of-result
+invariant_of-result c = record {
+  past = [];
+  first = c.args.core;
+  base = c.args.core;
+  before = refl;
+  after = subst (λ t. Replay c.args.core t c.args.core) (sym c.in_ok-log.ensures.tail) refl;
+  totals = tally_none c.in_ok-log.log.trimmed c.in_ok-log.ensures.trimmed;
+}

@@ -1,0 +1,132 @@
+//! The last calls of a node, and the totals of those before them.
+ghost use Rattle.std.specs.Prelude.{◌≡◌, ◌+◌, ◌<◌, ◌≤◌, [], length, IfOk, MatchBool};
+
+use crate::tally::Tally;
+use node_core::Exchange;
+use std::alloc::{AllocError, Global};
+use std::collections::VecDeque;
+use std::marker::Model;
+
+/// How many calls are kept with their replies.
+const TAIL: usize = 4096;
+
+/// How many calls there may be.
+const MOST: u128 = 1 << 127;
+
+// A call with its reply, as it is kept.
+#[derive(Debug, Drop)]
+pub struct Kept {
+    call: Exchange,
+}
+
+impl Model for Kept {
+    ghost use Rattle.node_core.specs.declared.exchange.Exchange.{Exchange};
+
+    ghost Value = { Exchange };
+
+    ghost view = { λ k. k.call };
+}
+
+// The tail of a journal. It has room for all the calls that it keeps.
+#[derive(Debug, Drop)]
+pub(crate) struct Log {
+    tail: VecDeque<Kept>,
+    trimmed: Tally,
+    calls: u128,
+}
+
+impl Model for Log {
+    ghost use Rattle.std.specs.Prelude.{◌≡◌, ◌+◌, ◌^◌, ◌≤◌, length};
+    ghost use Rattle.std.specs.VecDeque.{deque_capacity};
+    ghost use Rattle.locked_node.specs.Journal.{LogView};
+    ghost use Rattle.locked_node.specs.Totals.{all_calls};
+
+    ghost Value = { LogView };
+
+    ghost view = { λ l. record { tail = l.tail.items; trimmed = l.trimmed } };
+
+    ghost invariant = { λ l. (length l.tail.items ≤ 4096) × (4096 ≤ deque_capacity l.tail) × (l.calls ≡ all_calls l.trimmed + length l.tail.items) × (l.calls ≤ 2 ^ 127) };
+}
+
+impl Log {
+    ghost use Rattle.locked_node.specs.Journal.{Appends, Trims, log_all, CALL_LIMIT, TAIL_LIMIT};
+    ghost use Rattle.locked_node.specs.Totals.{IsEmpty};
+    ghost use Rattle.locked_node.specs.Lock.{IsTotalOf};
+
+    /// No calls, and room for the tail.
+    pub(crate) fn new(alloc: Global) -> Result<Log, AllocError>
+        ensures tail { IfOk result (λ log. log.tail ≡ []) }
+        ensures trimmed { IfOk result (λ log. IsEmpty log.trimmed) }
+    {
+        Ok(Log {
+            tail: VecDeque::with_capacity(alloc, TAIL)?,
+            trimmed: Tally::new(),
+            calls: 0,
+        })
+    }
+
+    /// How many calls there were.
+    pub(crate) fn calls(&self) -> u128
+        ensures value { result ≡ log_all self.now }
+        ensures within { result ≤ CALL_LIMIT }
+        ensures tail { length self.now.tail ≤ TAIL_LIMIT }
+    {
+        self.calls
+    }
+
+    /// How many calls it takes more.
+    pub(crate) fn calls_left(&self) -> u128
+        ensures { result + log_all self.now ≡ CALL_LIMIT }
+    {
+        MOST - self.calls
+    }
+
+    /// The totals of all calls.
+    pub(crate) fn totals(&self) -> Tally
+        ensures { IsTotalOf self.now result }
+    {
+        let mut totals = self.trimmed;
+        for i in 0..self.tail.len() {
+            let kept = &self.tail[i];
+            totals.count(&kept.call);
+        }
+        totals
+    }
+
+    /// Whether no further call is taken.
+    pub(crate) fn is_full(&self) -> bool
+        ensures full { MatchBool result (log_all self.now ≡ CALL_LIMIT) (log_all self.now < CALL_LIMIT) }
+        ensures tail { length self.now.tail ≤ TAIL_LIMIT }
+    {
+        self.calls == MOST
+    }
+
+    /// Puts a call behind the tail. The oldest one leaves it where it is full.
+    pub(crate) fn append(&mut self, call: &Exchange)
+        requires { log_all self.old < CALL_LIMIT }
+        ensures { Appends self.old call.now self.new }
+    {
+        if self.tail.len() == TAIL {
+            self.trim();
+        }
+        self.tail.push_back_reserved(Kept { call: *call });
+        self.calls += 1;
+    }
+
+    // Takes the oldest call off the tail, and counts it.
+    fn trim(&mut self)
+        requires some { 0 < length self.old.tail }
+        requires room { log_all self.old < CALL_LIMIT }
+        ensures { Trims self.old self.new }
+    {
+        let Kept { call } = self.tail.pop_front().unwrap();
+        self.trimmed.count(&call);
+    }
+
+    /// The totals of the calls that left the tail.
+    pub(crate) fn trimmed(&self) -> &Tally
+        ensures { result.now ≡ self.now.trimmed }
+    {
+        &self.trimmed
+    }
+}
