@@ -1,5 +1,5 @@
 -- A request that a node sends on goes to its key's peer.
-use Rattle.std.proofs.Common.{◌≡◌, ℕ, Bool, true, false, cond, eqb, List, ◌⊎◌, inl, inr, ⊎_elim, refl, sym, ap, ◌∙◌}
+use Rattle.std.proofs.Common.{◌≡◌, ℕ, Bool, true, false, cond, eqb, List, ◌⊎◌, inl, inr, ⊎_elim, sym, ap, ◌∙◌}
 use Rattle.pg_ids.specs.declared.client_key.ClientKey.{ClientKey}
 use Rattle.pg_ids.specs.Key.{key_bytes, lowered}
 use Rattle.key_table.specs.Slots.{Slots, names}

@@ -203,16 +203,17 @@ fn eight_threads(rt: HostRuntime) -> Result<(), Fail> {
     let three = pair(&shared, &mut first).ok_or("six callers")?;
     let last = first.split(&shared).ok_or("eight callers")?;
     let four = Two(first, last);
+    let lock = &shared;
     let (front, back) = thread::join(
         &rt,
         || -> (Caller, Told)
-            requires { (four.0.lock ≡ shared.now) × (four.1.lock ≡ shared.now) × (one.0.lock ≡ shared.now) × (one.1.lock ≡ shared.now) × (0 < length four.0.start.view.pools) × (0 < length four.1.start.view.pools) × (0 < length one.0.start.view.pools) × (0 < length one.1.start.view.pools) }
+            requires { (four.0.lock ≡ lock.now) × (four.1.lock ≡ lock.now) × (one.0.lock ≡ lock.now) × (one.1.lock ≡ lock.now) × (0 < length four.0.start.view.pools) × (0 < length four.1.start.view.pools) × (0 < length one.0.start.view.pools) × (0 < length one.1.start.view.pools) }
             ensures { result.0.lock ≡ four.0.lock }
-        { by_four(&rt, &shared, four, one) },
+        { by_four(&rt, lock, four, one) },
         || -> (Caller, Told)
-            requires { (two.0.lock ≡ shared.now) × (two.1.lock ≡ shared.now) × (three.0.lock ≡ shared.now) × (three.1.lock ≡ shared.now) × (0 < length two.0.start.view.pools) × (0 < length two.1.start.view.pools) × (0 < length three.0.start.view.pools) × (0 < length three.1.start.view.pools) }
+            requires { (two.0.lock ≡ lock.now) × (two.1.lock ≡ lock.now) × (three.0.lock ≡ lock.now) × (three.1.lock ≡ lock.now) × (0 < length two.0.start.view.pools) × (0 < length two.1.start.view.pools) × (0 < length three.0.start.view.pools) × (0 < length three.1.start.view.pools) }
             ensures { result.0.lock ≡ two.0.lock }
-        { by_four(&rt, &shared, two, three) },
+        { by_four(&rt, lock, two, three) },
     );
     let (caller, told) = united(&shared, front, back);
     for (kind, calls) in [
@@ -261,16 +262,17 @@ fn two_threads(rt: HostRuntime) -> Result<(), Fail> {
     let peer = PeerNo::new(2).ok_or("no such peer")?;
     let (shared, mut first) = Shared::new(rt.alloc(), node(rt.alloc(), 3)?)?;
     let second = first.split(&shared).ok_or("a second caller")?;
+    let lock = &shared;
     let ((mut one, pass), (two, order)) = thread::join(
         &rt,
         || -> (Caller, Result<Pass, JoinRefusal>)
-            requires { (first.lock ≡ shared.now) × (0 < length first.start.view.pools) }
+            requires { (first.lock ≡ lock.now) × (0 < length first.start.view.pools) }
             ensures { result.0.lock ≡ first.lock }
-        { client(&rt, &shared, first) },
+        { client(&rt, lock, first) },
         || -> (Caller, Order)
-            requires { second.lock ≡ shared.now }
+            requires { second.lock ≡ lock.now }
             ensures { result.0.lock ≡ second.lock }
-        { canceller(&rt, &shared, second) },
+        { canceller(&rt, lock, second) },
     );
     one.join(&shared, two);
     let pass = pass.expect(&rt, "a slot");
@@ -302,19 +304,21 @@ fn trims(rt: HostRuntime) -> Result<(), Fail> {
 // One slot: the second client finds none, a pass of another node is stale, and the first client leaves.
 #[test]
 fn answers(rt: HostRuntime) -> Result<(), Fail> {
-    let mut journal = node(rt.alloc(), 1)?;
-    let mut other = node(rt.alloc(), 2)?;
-    assert!(rt; !is_full(other.join(DatabaseNo(0), Secret(1))));
-    let first = journal.join(DatabaseNo(0), Secret(1)).expect(&rt, "a slot");
-    let stranger = other
-        .join(DatabaseNo(0), Secret(9))
+    let (shared, mut caller) = Shared::new(rt.alloc(), node(rt.alloc(), 1)?)?;
+    let (elsewhere, mut guest) = Shared::new(rt.alloc(), node(rt.alloc(), 2)?)?;
+    assert!(rt; !is_full(elsewhere.join(&rt, &mut guest, DatabaseNo(0), Secret(1))));
+    let first = shared
+        .join(&rt, &mut caller, DatabaseNo(0), Secret(1))
+        .expect(&rt, "a slot");
+    let stranger = elsewhere
+        .join(&rt, &mut guest, DatabaseNo(0), Secret(9))
         .expect(&rt, "another slot");
-    let full = is_full(journal.join(DatabaseNo(0), Secret(2)));
-    let stale = is_stale(journal.leave(stranger));
-    let left = is_left(journal.leave(first));
+    let full = is_full(shared.join(&rt, &mut caller, DatabaseNo(0), Secret(2)));
+    let stale = is_stale(shared.leave(&rt, &mut caller, stranger));
+    let left = is_left(shared.leave(&rt, &mut caller, first));
     assert!(rt; full && stale && left);
     // The key of peer 1, slot 0, secret 1 and three hops, the database 0 and the secret, and the secret 2.
-    let totals = journal.totals();
+    let totals = *caller.tally();
     let key = 0x0004_0000_0000_0007u128;
     assert_eq!(rt; totals.sums(Kind::Joined), [1, 0, 0, 0, 1, key, 0, 0]);
     assert_eq!(rt; totals.sums(Kind::JoinFull), [0, 2, 0, 0, 0, 0, 0, 0]);
@@ -324,7 +328,7 @@ fn answers(rt: HostRuntime) -> Result<(), Fail> {
         totals.sums(Kind::LeaveStale),
         [1, 0, 1, strange, 0, 0, 0, 0]
     );
-    assert_eq!(rt; journal.calls_left(), (1 << 127) - 4);
+    assert_eq!(rt; caller.allowance(), (1 << 127) - 4);
     Ok(())
 }
 

@@ -16,10 +16,12 @@ use hex::FromHex;
 use pg_ids::ClientKey;
 use std::alloc::Global;
 use std::io::Write;
+use std::sync::Wait;
 
 /// Writes the answer to these words, and nothing else, to `out`, or why there is none to `err`. Answers
 /// the status that the program ends with: 0, or 1 for a fault in running, or 2 for words that ask for nothing.
-pub fn answer<O: Opener, W: Write, E: Write>(
+pub fn answer<R: Wait, O: Opener, W: Write, E: Write>(
+    rt: &R,
     alloc: Global,
     words: &[&str],
     opener: &O,
@@ -34,13 +36,18 @@ pub fn answer<O: Opener, W: Write, E: Write>(
     // An answer leaves nothing on `err`.
     ensures told { result ≡ 0 → Keeps (E.contents err.old) (E.contents err.new) }
 {
-    match reply(alloc, words, opener) {
+    match reply(rt, alloc, words, opener) {
         Ok(text) => write_text(out, text.as_str(), 0),
         Err(fault) => write_fault(alloc, err, &fault),
     }
 }
 
-fn reply<O: Opener>(alloc: Global, words: &[&str], opener: &O) -> Result<String, Fault>
+fn reply<R: Wait, O: Opener>(
+    rt: &R,
+    alloc: Global,
+    words: &[&str],
+    opener: &O,
+) -> Result<String, Fault>
     ensures { (hex : List ℕ) (key : ClientKey) → IsKeyCall (map (λ word. word.now) words.now) hex key
         → MatchResult result (λ text. string_bytes text ≡ key_text key) (λ fault. fault ≡ Fault.Memory) }
 {
@@ -53,7 +60,7 @@ fn reply<O: Opener>(alloc: Global, words: &[&str], opener: &O) -> Result<String,
             "key {hex}: 16 hexadecimal digits are wanted"
         )?)),
         Request::Check(files) => check_line(alloc, opener, &files),
-        Request::Decide(words) => decide_line(alloc, &words),
+        Request::Decide(words) => decide_line(rt, alloc, &words),
     }
 }
 

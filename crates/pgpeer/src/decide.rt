@@ -1,19 +1,22 @@
 //! `pgpeer decide`: what a pooler does with the first packet of a connection.
-ghost use Rattle.std.specs.Prelude.{◌≡◌, ◌+◌, ◌<◌, ◌≤◌, ◌∷◌, [], IfOk, OnOk, Ok, length, string_bytes, vec_len, vec_capacity, max};
+ghost use Rattle.std.specs.Prelude.{◌≡◌, ◌+◌, ◌<◌, ◌≤◌, ◌∷◌, [], IfOk, Ok, length, string_bytes, vec_len, vec_capacity, max};
 ghost use Rattle.node_core.specs.View.{IsFresh};
 ghost use Rattle.pgpeer.specs.Texts.{order_text, forward_text, refused_text};
 ghost use Rattle.hex.specs.Hex.{decode_of};
 ghost use Rattle.startup.specs.Packet.{cancel_request};
 ghost use Rattle.pgpeer.specs.Calls.{TellsOrder};
-ghost use Rattle.pgpeer.specs.Decision.{AllJoin, IsDecided};
+ghost use Rattle.pgpeer.specs.Decision.{Joins, Asks, IsDecided};
+ghost use Rattle.locked_node.specs.Journal.{JournalView, log_all, CALL_LIMIT};
 
 use crate::fault::Fault;
 use crate::number::number;
 use crate::words::DecideWords;
+use locked_node::{Caller, Journal, Shared};
 use node_core::{DatabaseNo, LeaveReply, NodeCore, Order, Pass, Settings};
 use pg_ids::{PeerNo, Secret};
 use startup::{First, Opening};
 use std::alloc::{AllocError, Global};
+use std::sync::Wait;
 
 /// The most peers that a pooler has.
 const PEERS: usize = 64;
@@ -21,11 +24,16 @@ const PEERS: usize = 64;
 /// The most clients that the words name.
 const CLIENTS: usize = 65535;
 
+// What leaving answers where it can't come here.
+const STALE: u8 = 32;
+
+const EXHAUSTED: u8 = 33;
+
 /// The database of each client.
 const DATABASE: DatabaseNo = DatabaseNo(0);
 
 /// The line that tells what a pooler does with a packet.
-pub fn decide_line(alloc: Global, words: &DecideWords<'_>) -> Result<String, Fault>
+pub fn decide_line<R: Wait>(rt: &R, alloc: Global, words: &DecideWords<'_>) -> Result<String, Fault>
     ensures { IfOk result (λ line. TellsOrder words.now.packet.now (string_bytes line)) }
 {
     let me = own_number(alloc, words.me)?;
@@ -33,7 +41,7 @@ pub fn decide_line(alloc: Global, words: &DecideWords<'_>) -> Result<String, Fau
     let secrets = secrets_of(alloc, words.live)?;
     let packet = packet_of(alloc, words.packet)?;
     let key = cancel_key(alloc, &packet)?;
-    let order = decided(alloc, me, peers, &secrets, &key)?;
+    let order = decided(rt, alloc, me, peers, &secrets, &key)?;
     order_line(alloc, order)
 }
 
@@ -127,8 +135,11 @@ fn cancel_key(alloc: Global, packet: &[u8]) -> Result<[u8; 8], Fault>
     }
 }
 
-/// The order that a node gives, once these clients have joined it, each with its secret, in order.
-pub fn decided(
+/// The order that a node gives, once these clients have joined it, each with its secret. The node's steps go
+/// through its lock. The lock tells which calls were made, and not in which order: so the clients join behind
+/// one lock, the request comes behind the next, and the clients leave behind a third.
+pub fn decided<R: Wait>(
+    rt: &R,
     alloc: Global,
     me: PeerNo,
     peers: Vec<PeerNo>,
@@ -140,38 +151,118 @@ pub fn decided(
 {
     let clients = secrets.len().max(1) as u32;
     let settings = Settings::plain(alloc, me, peers, 1, clients)?;
-    let mut core = NodeCore::new(alloc, &settings)?;
+    let journal = Journal::new(alloc, NodeCore::new(alloc, &settings)?)?;
     let mut passes = Vec::with_capacity(alloc, secrets.len())?;
-    let joined = join_all(&mut core, secrets, &mut passes);
-    let order = core.cancel(key);
-    leave_all(&mut core, passes);
-    joined?;
-    Ok(order)
+    match order_among(rt, alloc, journal, secrets, key, &mut passes) {
+        Ok((journal, order)) => {
+            leave_all(rt, alloc, journal, passes)?;
+            Ok(order)
+        }
+        Err(fault) => {
+            forfeit_all(passes);
+            Err(fault)
+        }
+    }
+}
+
+// The order, and the journal after it.
+fn order_among<R: Wait>(
+    rt: &R,
+    alloc: Global,
+    journal: Journal,
+    secrets: &[Secret],
+    key: &[u8; 8],
+    passes: &mut Vec<Pass>,
+) -> Result<(Journal, Order), Fault>
+    requires database { 0 < length journal.view.pools }
+    requires room { vec_len passes.old + length secrets.now ≤ vec_capacity passes.old }
+    requires calls { log_all journal.log + length secrets.now < CALL_LIMIT }
+    ensures { IfOk result (λ made. (joined : JournalView) × Joins journal secrets.now joined × Asks joined key.now made.1 made.0) }
+{
+    let joined = join_all(rt, alloc, journal, secrets, passes)?;
+    ask(rt, alloc, joined, key)
 }
 
 // Each client joins, until one is refused.
-fn join_all(core: &mut NodeCore, secrets: &[Secret], passes: &mut Vec<Pass>) -> Result<(), Fault>
-    requires database { 0 < length core.old.pools }
+fn join_all<R: Wait>(
+    rt: &R,
+    alloc: Global,
+    journal: Journal,
+    secrets: &[Secret],
+    passes: &mut Vec<Pass>,
+) -> Result<Journal, Fault>
+    requires database { 0 < length journal.view.pools }
     requires room { vec_len passes.old + length secrets.now ≤ vec_capacity passes.old }
-    ensures { OnOk result (AllJoin core.old secrets.now core.new) }
+    requires calls { log_all journal.log + length secrets.now < CALL_LIMIT }
+    ensures { IfOk result (λ joined. Joins journal secrets.now joined) }
 {
+    let (shared, mut caller) = Shared::new(alloc, journal)?;
     for secret in secrets {
-        match core.join(DATABASE, *secret) {
+        match shared.join(rt, &mut caller, DATABASE, *secret) {
             Ok(pass) => passes.push_reserved(pass),
             Err(refusal) => return Err(Fault::Unexpected(refusal.number())),
         }
     }
-    Ok(())
+    Ok(shared.into_journal(caller))
 }
 
-fn leave_all(core: &mut NodeCore, mut passes: Vec<Pass>) {
+// The request comes.
+fn ask<R: Wait>(
+    rt: &R,
+    alloc: Global,
+    journal: Journal,
+    key: &[u8; 8],
+) -> Result<(Journal, Order), Fault>
+    requires { log_all journal.log < CALL_LIMIT }
+    ensures { IfOk result (λ made. Asks journal key.now made.1 made.0) }
+{
+    let (shared, mut caller) = Shared::new(alloc, journal)?;
+    let order = shared.cancel(rt, &mut caller, key);
+    Ok((shared.into_journal(caller), order))
+}
+
+// Each client leaves.
+fn leave_all<R: Wait>(
+    rt: &R,
+    alloc: Global,
+    journal: Journal,
+    mut passes: Vec<Pass>,
+) -> Result<(), Fault> {
+    let Ok((shared, mut caller)) = Shared::new(alloc, journal) else {
+        forfeit_all(passes);
+        return Err(Fault::Memory);
+    };
+    let mut done = Ok(());
     while let Some(pass) = passes.pop() {
-        match core.leave(pass) {
-            LeaveReply::Holding(pass) => {
-                pass.forfeit();
-            }
-            LeaveReply::Left | LeaveReply::Stale | LeaveReply::Exhausted => {}
+        if let Err(fault) = leave(rt, &shared, &mut caller, pass) {
+            done = Err(fault);
         }
+    }
+    passes.destroy_empty();
+    done
+}
+
+// A client leaves. While it holds something, it is asked again.
+fn leave<R: Wait>(rt: &R, shared: &Shared, caller: &mut Caller, pass: Pass) -> Result<(), Fault>
+    requires { caller.old.lock ≡ shared.now }
+    ensures { caller.new.lock ≡ caller.old.lock }
+{
+    let mut pass = pass;
+    for _ in rt.forever() {
+        match shared.leave(rt, caller, pass) {
+            LeaveReply::Left => return Ok(()),
+            LeaveReply::Holding(again) => pass = again,
+            LeaveReply::Stale => return Err(Fault::Unexpected(STALE)),
+            LeaveReply::Exhausted => return Err(Fault::Unexpected(EXHAUSTED)),
+        }
+    }
+    unreachable!()
+}
+
+// The journal of these passes is at its end.
+fn forfeit_all(mut passes: Vec<Pass>) {
+    while let Some(pass) = passes.pop() {
+        pass.forfeit();
     }
     passes.destroy_empty();
 }

@@ -25,6 +25,7 @@ fn main(rt: HostRuntime) -> io::Result<ExitCode> {
         texts.push(word.as_str())?;
     }
     let status = answer(
+        &rt,
         alloc,
         &texts,
         &Disk::new(&rt),

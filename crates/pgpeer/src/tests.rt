@@ -3,6 +3,7 @@ use crate::answer::answer;
 use crate::opener::Opener;
 use std::alloc::Global;
 use std::io::{self, Read};
+use std::sync::Wait;
 use std::test::Fail;
 
 // Files by their names: what each holds, and whether reading it fails at its end.
@@ -62,10 +63,10 @@ impl Opener for Files {
 }
 
 // The status, what is written to standard output, and what to standard error.
-fn answered(alloc: Global, words: &[&str]) -> (u8, Vec<u8>, Vec<u8>) {
+fn answered<R: Wait>(rt: &R, alloc: Global, words: &[&str]) -> (u8, Vec<u8>, Vec<u8>) {
     let mut out = Vec::new(alloc);
     let mut err = Vec::new(alloc);
-    let status = answer(alloc, words, &Files, &mut out, &mut err);
+    let status = answer(rt, alloc, words, &Files, &mut out, &mut err);
     (status, out, err)
 }
 
@@ -91,7 +92,7 @@ fn keys(rt: HostRuntime) {
         ),
         ("0000000000000000", "peer 0 slot 0 secret 0 hops 0\n"),
     ] {
-        let (status, out, err) = answered(rt.alloc(), &["key", hex]);
+        let (status, out, err) = answered(&rt, rt.alloc(), &["key", hex]);
         assert_eq!(rt; status, 0, "{hex}");
         assert_eq!(rt; out.as_slice(), line.as_bytes(), "{hex}");
         assert!(rt; err.is_empty(), "{hex}");
@@ -194,7 +195,7 @@ fn orders(rt: HostRuntime) {
             "refused 63\n",
         ),
     ] {
-        let (status, out, err) = answered(rt.alloc(), words);
+        let (status, out, err) = answered(&rt, rt.alloc(), words);
         assert_eq!(rt; status, 0, "{words:?}");
         assert_eq!(rt; out.as_slice(), line.as_bytes(), "{words:?}");
         assert!(rt; err.is_empty(), "{words:?}");
@@ -337,7 +338,7 @@ fn faults(rt: HostRuntime) {
             "--live 007: numbers from 0 to 4294967295 are wanted, with commas between\n",
         ),
     ] {
-        let (answered_status, out, err) = answered(rt.alloc(), words);
+        let (answered_status, out, err) = answered(&rt, rt.alloc(), words);
         assert_eq!(rt; answered_status, status, "{words:?}");
         assert!(rt; out.is_empty(), "{words:?}");
         assert_eq!(rt; err.as_slice(), line.as_bytes(), "{words:?}");
@@ -368,14 +369,14 @@ fn groups(rt: HostRuntime) {
             "large:6: 24 OutOfRange\n",
         ),
     ] {
-        let (answered_status, out, err) = answered(rt.alloc(), words);
+        let (answered_status, out, err) = answered(&rt, rt.alloc(), words);
         assert_eq!(rt; answered_status, status, "{words:?}");
         assert_eq!(rt; out.as_slice(), out_line.as_bytes(), "{words:?}");
         assert_eq!(rt; err.as_slice(), err_line.as_bytes(), "{words:?}");
     }
     // Files that can't be read, or are no text: the line names the file, and says why.
     for name in ["nowhere", "broken", "latin"] {
-        let (status, out, err) = answered(rt.alloc(), &["check", "small", name]);
+        let (status, out, err) = answered(&rt, rt.alloc(), &["check", "small", name]);
         assert_eq!(rt; status, 1, "{name}");
         assert!(rt; out.is_empty(), "{name}");
         assert!(rt; err.starts_with(name.as_bytes()), "{name}");
@@ -399,12 +400,12 @@ fn usage(rt: HostRuntime) {
         &["decide", "--me", "1", "--peer", ONE],
         &["decide", "--me", "1", ONE, ONE],
     ] {
-        let (status, out, err) = answered(rt.alloc(), words);
+        let (status, out, err) = answered(&rt, rt.alloc(), words);
         assert_eq!(rt; status, 2, "{words:?}");
         assert!(rt; out.is_empty(), "{words:?}");
         assert!(rt; contains(&err, b"pgpeer"), "{words:?}");
     }
-    let (status, out, err) = answered(rt.alloc(), &["decide", "--help"]);
+    let (status, out, err) = answered(&rt, rt.alloc(), &["decide", "--help"]);
     assert_eq!(rt; status, 0);
     assert!(rt; contains(&out, b"--peers <P,P..>"));
     assert!(rt; err.is_empty());
@@ -422,6 +423,7 @@ fn limits(rt: HostRuntime) -> Result<(), Fail> {
         peers.push_str(format!(in alloc; ",{number}")?.as_str())?;
     }
     let (status, out, _) = answered(
+        &rt,
         alloc,
         &["decide", "--me", "1", "--peers", peers.as_str(), ONE],
     );
@@ -434,6 +436,7 @@ fn limits(rt: HostRuntime) -> Result<(), Fail> {
     );
     peers.push_str(",65")?;
     let (status, _, err) = answered(
+        &rt,
         alloc,
         &["decide", "--me", "1", "--peers", peers.as_str(), ONE],
     );
@@ -452,14 +455,14 @@ fn sixty_thousand_clients(rt: HostRuntime) -> Result<(), Fail> {
         live.push_str(",7")?;
     }
     for (packet, line) in [(LAST, "refused 63\n"), (PAST, "refused 61\n")] {
-        let (status, out) = order_among(alloc, live.as_str(), packet);
+        let (status, out) = order_among(&rt, alloc, live.as_str(), packet);
         assert_eq!(rt; status, 0);
         assert_eq!(rt; out.as_slice(), line.as_bytes());
     }
     Ok(())
 }
 
-fn order_among(alloc: Global, live: &str, packet: &str) -> (u8, Vec<u8>) {
-    let (status, out, _) = answered(alloc, &["decide", "--me", "2", "--live", live, packet]);
+fn order_among<R: Wait>(rt: &R, alloc: Global, live: &str, packet: &str) -> (u8, Vec<u8>) {
+    let (status, out, _) = answered(rt, alloc, &["decide", "--me", "2", "--live", live, packet]);
     (status, out)
 }

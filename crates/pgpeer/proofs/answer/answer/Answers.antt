@@ -1,4 +1,4 @@
-use Rattle.std.proofs.Common.{rules, ◌≡◌, inr, ap, subst, ⊎_elim, ◌∙◌}
+use Rattle.std.proofs.Common.{inr, ap, ⊎_elim, ◌∙◌}
 use Rattle.pgpeer.specs.Statuses.{status_of}
 use Rattle.pgpeer.proofs.answer.answer.Goals as goal
 

@@ -1,13 +1,17 @@
-use Rattle.std.proofs.Common.{◌≡◌, ◌+◌, ◌≤◌, length, drop, vec_len, vec_capacity}
-use Rattle.node_core.specs.View.{NodeView}
-use Rattle.pgpeer.specs.Decision.{AllJoin}
+use Rattle.std.proofs.Common.{◌≡◌, ◌+◌, ◌≤◌, length, drop, take, vec_len, vec_capacity}
+use Rattle.locked_node.specs.Totals.{all_calls}
+use Rattle.locked_node.specs.Journal.{log_all, CALL_LIMIT}
+use Rattle.pgpeer.specs.Decision.{AreJoins}
 use Rattle.pgpeer.proofs.decide.join_all.Given as goal
 
--- what the rest of the clients leaves, all of them leave
+-- the caller made the calls of the clients so far, and has all that is left
 abbrev pub invariant-loop-secret : goal.invariant-loop-secret
-invariant-loop-secret l =
+invariant-loop-secret g l =
     record {
-      pools : l.core.pools ≡ l.fn.core.pools;
+      lock : l.caller.lock ≡ l.shared-inside.table.shared.table_id;
+      start : l.caller.start ≡ l.fn.journal;
+      full : l.caller.allowance + all_calls l.caller.tally ≡ CALL_LIMIT;
+      count : all_calls l.caller.tally ≡ log_all l.fn.journal.log + l.secret-index;
       room : vec_len l.passes + length (drop l.secret-index l.secrets) ≤ vec_capacity l.passes;
-      joins : (new : NodeView) → AllJoin l.core (drop l.secret-index l.secrets) new → AllJoin l.fn.core l.secrets new;
+      joins : AreJoins (take l.secret-index l.secrets) l.caller.made;
     }
