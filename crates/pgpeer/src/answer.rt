@@ -90,7 +90,8 @@ fn write_text<W: Write>(writer: &mut W, text: &str, status: u8) -> u8
     }
 }
 
-fn write_fault<W: Write>(alloc: Global, writer: &mut W, fault: &Fault) -> u8
+/// Writes the fault, on a line of its own, and answers its status, or 1 where it can't be written.
+pub fn write_fault<W: Write>(alloc: Global, writer: &mut W, fault: &Fault) -> u8
     ensures { (result ≡ status_of fault.now) ⊎ (result ≡ 1) }
 {
     match format!(in alloc; "{fault}\n") {

@@ -12,25 +12,48 @@ mod opener;
 mod tests;
 mod words;
 
-use answer::answer;
+use answer::{answer, write_fault};
+use fault::Fault;
 use opener::Disk;
-use std::io;
+use std::alloc::{AllocError, Global};
+use std::io::ErrorKind;
 use std::process::ExitCode;
 
-fn main(rt: HostRuntime) -> io::Result<ExitCode> {
+fn main(rt: HostRuntime) -> ExitCode {
     let alloc = rt.alloc();
-    let words: Vec<String> = std::env::args(&rt)?.skip(1).collect(alloc)?;
-    let mut texts = Vec::with_capacity(alloc, words.len())?;
-    for word in &words {
-        texts.push(word.as_str())?;
+    let given = match given(&rt) {
+        Ok(given) => given,
+        Err(fault) => return failed(&rt, &fault),
+    };
+    let Ok(words) = words_of(alloc, &given) else {
+        return failed(&rt, &Fault::Memory);
+    };
+    let opener = Disk::new(&rt);
+    let (mut out, mut err) = (rt.stdout(), rt.stderr());
+    ExitCode::from(answer(&rt, alloc, &words, &opener, &mut out, &mut err))
+}
+
+// The words after the program's name.
+fn given(rt: &HostRuntime) -> Result<Vec<String>, Fault> {
+    let alloc = rt.alloc();
+    match std::env::args(rt) {
+        Ok(words) => Ok(words.skip(1).collect(alloc)?),
+        Err(error) if error.kind() == ErrorKind::InvalidData => Err(Fault::Usage(String::from_str(
+            alloc,
+            "the words have to be UTF-8",
+        )?)),
+        Err(_) => Err(Fault::Memory),
     }
-    let status = answer(
-        &rt,
-        alloc,
-        &texts,
-        &Disk::new(&rt),
-        &mut rt.stdout(),
-        &mut rt.stderr(),
-    );
-    Ok(ExitCode::from(status))
+}
+
+fn words_of(alloc: Global, given: &[String]) -> Result<Vec<&str>, AllocError> {
+    let mut words = Vec::with_capacity(alloc, given.len())?;
+    for word in given {
+        words.push(word.as_str())?;
+    }
+    Ok(words)
+}
+
+fn failed(rt: &HostRuntime, fault: &Fault) -> ExitCode {
+    ExitCode::from(write_fault(rt.alloc(), &mut rt.stderr(), fault))
 }

@@ -1,5 +1,6 @@
 //! What the words ask for.
 use crate::fault::Fault;
+use clap::error::ErrorKind;
 use clap::{Arg, ArgMatches, Command, Error};
 use std::alloc::{AllocError, Global};
 
@@ -65,6 +66,9 @@ fn words_of<'a>(
 
 // Help is an answer; whatever else the parser says is a fault.
 fn shown<'a>(alloc: Global, error: &Error) -> Result<Request<'a>, Fault> {
+    if error.kind() == ErrorKind::OutOfMemory {
+        return Err(Fault::Memory);
+    }
     let text = format!(in alloc; "{error}")?;
     if error.use_stderr() {
         Err(Fault::Usage(text))
