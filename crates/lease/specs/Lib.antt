@@ -1,0 +1,3 @@
+pub mod LinkValue
+pub mod OfNode
+pub mod LeaseLends

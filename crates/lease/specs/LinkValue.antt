@@ -1,0 +1,7 @@
+-- What contracts see of a link that is idle, held or quarantined (own).
+use Rattle.lease.specs.declared.link_record.LinkRecord.{LinkRecord}
+
+-- what the link says, and its stream
+pub record LinkValue (S : Type 0) : Type 0 where
+  pub details : LinkRecord
+  pub stream : S

@@ -1,0 +1,24 @@
+//! What a node gives out: passes, permits, leases of links, tickets. None can be copied, and each is spent
+//! once, by type: a path that drops one doesn't compile.
+#![tactic(auto)]
+
+mod held_link;
+mod idle_link;
+mod link_place;
+mod link_record;
+mod pass;
+mod permit;
+mod quarantined_link;
+mod ticket;
+
+pub use held_link::Lease;
+pub use idle_link::IdleLink;
+pub use link_place::LinkPlace;
+pub use link_record::LinkRecord;
+pub use pass::{Pass, PassRecord};
+pub use permit::{Permit, PermitRecord};
+pub use quarantined_link::QuarantinedLink;
+pub use ticket::{Ticket, TicketRecord};
+
+#[cfg(test)]
+mod tests;

@@ -1,0 +1,147 @@
+//! Each way that a value goes, once.
+ghost use Rattle.std.specs.Prelude.{◌≡◌, IfOk};
+
+use crate::{
+    IdleLink, Lease, LinkPlace, LinkRecord, Pass, PassRecord, Permit, PermitRecord, Ticket, TicketRecord,
+};
+use pg_ids::{ClientKey, DatabaseNo, LinkNo, PeerNo};
+use std::test::Fail;
+
+const AT: LinkPlace = LinkPlace {
+    database: DatabaseNo(1),
+    index: 8,
+};
+
+fn node() -> Result<PeerNo, Fail> {
+    Ok(PeerNo::new(2).ok_or("no peer 2")?)
+}
+
+fn permit() -> Result<Permit, Fail> {
+    Ok(Permit::new(PermitRecord {
+        peer: node()?,
+        incarnation: 3,
+        number: 4,
+        at: AT,
+    }))
+}
+
+#[test]
+fn a_pass(rt: HostRuntime) -> Result<(), Fail> {
+    let said = PassRecord {
+        key: ClientKey::from_bytes([0, 8, 0, 0, 0, 0, 0, 7]),
+        incarnation: 3,
+        number: 5,
+    };
+    let pass = Pass::new(said);
+    assert_eq!(rt; pass.details(), said);
+    assert_eq!(rt; pass.key().to_bytes(), [0, 8, 0, 0, 0, 0, 0, 7]);
+    assert_eq!(rt; pass.spend(), said);
+    assert_eq!(rt; Pass::new(said).forfeit(), said);
+    let two = node()?;
+    assert!(rt; said.is_of_node(two, 3));
+    assert!(rt; !said.is_of_node(two, 2));
+    assert!(rt; !said.is_of_node(PeerNo::new(1).ok_or("no peer 1")?, 3));
+    Ok(())
+}
+
+#[test]
+fn a_permit(rt: HostRuntime) -> Result<(), Fail> {
+    let said = PermitRecord {
+        peer: node()?,
+        incarnation: 3,
+        number: 4,
+        at: AT,
+    };
+    assert!(rt; said.is_of_node(node()?, 3));
+    assert!(rt; !said.is_of_node(node()?, 4));
+    let permit = Permit::new(said);
+    assert_eq!(rt; permit.details(), said);
+    assert_eq!(rt; permit.spend(), said);
+    assert_eq!(rt; Permit::new(said).forfeit(), said);
+    Ok(())
+}
+
+#[test]
+fn a_ticket(rt: HostRuntime) -> Result<(), Fail> {
+    let said = TicketRecord {
+        peer: node()?,
+        incarnation: 3,
+        number: 6,
+        link: LinkNo(7),
+        at: AT,
+    };
+    assert!(rt; said.is_of_node(node()?, 3));
+    assert!(rt; !said.is_of_node(node()?, 4));
+    let ticket = Ticket::new(said);
+    assert_eq!(rt; ticket.details(), said);
+    assert_eq!(rt; ticket.spend(), said);
+    assert_eq!(rt; Ticket::new(said).forfeit(), said);
+    Ok(())
+}
+
+#[test]
+fn a_link_in_each_of_its_places(rt: HostRuntime) -> Result<(), Fail> {
+    let said = LinkRecord {
+        peer: node()?,
+        incarnation: 3,
+        link: LinkNo(7),
+        at: AT,
+    };
+    assert!(rt; said.is_of_node(node()?, 3));
+    assert!(rt; !said.is_of_node(node()?, 4));
+    let mut lease = permit()?.up(LinkNo(7), 100);
+    assert_eq!(rt; lease.details(), said);
+    *lease.stream_mut() += 1;
+    assert_eq!(rt; (lease.details(), *lease.stream()), (said, 101));
+    let idle = lease.idle();
+    assert_eq!(rt; idle.details(), said);
+    let quarantined = idle.hold().quarantine();
+    assert_eq!(rt; quarantined.details(), said);
+    let quarantined = quarantined.hold().quarantine();
+    let idle = quarantined.free();
+    assert_eq!(rt; idle.details(), said);
+    assert_eq!(rt; idle.hold().close(), 101);
+    assert_eq!(rt; permit()?.up(LinkNo(8), 102).quarantine().close(), 102);
+    assert_eq!(rt; permit()?.up(LinkNo(9), 103).forfeit(), 103);
+    Ok(())
+}
+
+// A stream that takes so many more messages.
+#[derive(Debug, Drop)]
+struct Stream {
+    left: u8,
+}
+
+impl Stream {
+    fn send(&mut self) -> Result<(), Broken> {
+        self.left = self.left.checked_sub(1).ok_or(Broken)?;
+        Ok(())
+    }
+}
+
+#[derive(Clone, Copy, Debug, PartialEq, Eq)]
+struct Broken;
+
+// A `?` after `send` would drop a lease, and doesn't compile: the error waits until the lease is spent.
+// Whoever wrote to the stream has the same lease.
+fn send_once(mut lease: Lease<Stream>) -> Result<IdleLink<Stream>, (Stream, Broken)>
+    ensures { IfOk result (λ idle. idle.details ≡ lease.details) }
+{
+    let sent = lease.stream_mut().send();
+    match sent {
+        Ok(()) => Ok(lease.idle()),
+        Err(broken) => Err((lease.close(), broken)),
+    }
+}
+
+#[test]
+fn an_error_while_a_link_is_held(rt: HostRuntime) -> Result<(), Fail> {
+    let lease = permit()?.up(LinkNo(7), Stream { left: 1 });
+    let idle = send_once(lease).ok().ok_or("the stream took nothing")?;
+    assert_eq!(rt; idle.details().link, LinkNo(7));
+    let (stream, broken) = send_once(idle.hold())
+        .err()
+        .ok_or("the stream took two messages")?;
+    assert_eq!(rt; (stream.left, broken), (0, Broken));
+    Ok(())
+}
