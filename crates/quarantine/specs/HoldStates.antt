@@ -1,0 +1,15 @@
+-- How a link stands by its tickets (own).
+use Rattle.std.specs.Prelude.{ℕ, zero, suc, Bool, true, false}
+use Rattle.quarantine.specs.OpenTickets.{OpenTickets}
+use Rattle.quarantine.specs.declared.hold.HoldState.{HoldState}
+use Rattle.quarantine.specs.declared.hold.HoldState.TheVariants.{Clear, Waiting, Condemned}
+
+-- condemned once a ticket failed; else clear where none is open; else it waits for those that are
+abbrev pub state_by : ℕ → Bool → HoldState
+state_by tickets true = Condemned
+state_by zero false = Clear
+state_by (suc n) false = Waiting (suc n)
+
+-- how a link with these tickets stands
+abbrev pub state_of : OpenTickets → HoldState
+state_of t = state_by t.tickets t.condemned
