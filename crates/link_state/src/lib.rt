@@ -1,0 +1,18 @@
+//! The login of a pooler at a server: what it sends, what it makes of each of the server's messages, and when the link
+//! is up.
+#![tactic(auto)]
+
+mod act;
+mod error;
+mod head;
+mod login;
+mod stage;
+mod told;
+
+pub use act::LinkAct;
+pub use error::LinkError;
+pub use login::LinkLogin;
+pub use pg_ids::ServerKey;
+
+#[cfg(test)]
+mod tests;
