@@ -1,0 +1,17 @@
+-- What is true of the fields of a seat.
+use Rattle.std.specs.Prelude.{◌≡◌, []}
+use Rattle.stat_board.specs.Counts.{IsWithin}
+use Rattle.stat_board.specs.Seats.{SeatView}
+use Rattle.stat_board.specs.declared.seat.BoardSeat.TheInside.{Inside}
+
+-- a seat by its fields
+abbrev pub seat_of : Inside → SeatView
+seat_of s = record { board = s.place.table_id; allowance = s.allowance; counts = s.counts; readings = s.readings }
+
+-- what it says is what its place at the board knows
+pub record IsSeat (s : Inside) : Type 0 where
+  pub empty : s.place.me.1 ≡ []
+  pub allowance : s.place.me.0.allowance ≡ s.allowance
+  pub counts : s.place.me.0.counts ≡ s.counts
+  pub readings : s.place.me.0.readings ≡ s.readings
+  pub within : IsWithin s.place.me.0
