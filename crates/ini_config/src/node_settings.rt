@@ -1,8 +1,8 @@
 //! The settings of a node, which lend their values by name.
-ghost use Rattle.std.specs.Prelude.{◌≡◌, ◌<◌, ◌≤◌, ◌^◌, ◌↔◌, ℕ, length, map, position, slice_get, IsTrue, IfOk, IfSome};
+ghost use Rattle.std.specs.Prelude.{◌≡◌, ◌<◌, ◌≤◌, ◌^◌, ◌↔◌, ℕ, length, map, position, slice_get, unwrap_or, IsTrue, IfOk, IfSome};
 ghost use Rattle.std.specs.Option.{option_map};
 ghost use Rattle.std.specs.Str.{bytes_eq};
-ghost use Rattle.indexmap.specs.IndexMap.{keys};
+ghost use Rattle.indexmap.specs.IndexMap.{keys, values};
 ghost use Rattle.ini_config.specs.Node.{NodeSettings, pool_total};
 ghost use Rattle.ini_config.specs.Group.{lists};
 
@@ -147,6 +147,13 @@ impl Settings {
         Some(DatabaseNo(place as u8))
     }
 
+    /// The pool size of each database, in the order of the file.
+    pub fn pool_sizes(&self, alloc: Global) -> Result<Vec<u16>, AllocError>
+        ensures { IfOk result (λ v. v.items ≡ map (λ d. d.pool_size) self.now.databases) }
+    {
+        pools_of(alloc, &self.databases, self.default_pool_size)
+    }
+
     /// The number of peers, at most 64.
     pub fn peer_count(&self) -> usize
         ensures count { result ≡ length self.now.peers }
@@ -182,6 +189,20 @@ impl Settings {
     {
         self.peers.contains_key(&number)
     }
+}
+
+// The pool size of each database, of which some leave it to the default.
+fn pools_of(
+    alloc: Global,
+    databases: &IndexMap<String, DatabaseEntry>,
+    default: u16,
+) -> Result<Vec<u16>, AllocError>
+    ensures { IfOk result (λ v. v.items ≡ map (λ d. unwrap_or d.pool_size default) (values databases.now)) }
+{
+    databases
+        .values()
+        .map(|entry| entry.pool_size.unwrap_or(default))
+        .collect(alloc)
 }
 
 fn keys_of(alloc: Global, peers: &IndexMap<PeerNo, PeerEntry>) -> Result<Vec<PeerNo>, AllocError>

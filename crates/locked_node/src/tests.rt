@@ -3,7 +3,8 @@ ghost use Rattle.std.specs.Prelude.{◌≡◌, ◌<◌, ◌≤◌, length, IfOk,
 ghost use Rattle.std.specs.Thread.{IsSync};
 
 use crate::{Caller, Journal, Kind, Shared};
-use node_core::{DatabaseNo, JoinRefusal, LeaveReply, NodeCore, Order, Pass, Settings};
+use ini_config::Settings;
+use node_core::{DatabaseNo, JoinRefusal, LeaveReply, NodeCore, Order, Pass};
 use pg_ids::{PeerNo, Secret};
 use std::alloc::Global;
 use std::sync::Wait;

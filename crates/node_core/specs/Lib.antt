@@ -1,5 +1,4 @@
 pub mod Refusals
-pub mod NodeSettings
 pub mod View
 pub mod ViewOf
 pub mod NodeStep

@@ -1,7 +1,7 @@
 -- The view of a node (own).
-use Rattle.std.specs.Prelude.{ℕ, ◌≡◌, ◌≤◌, ◌^◌, List, Option, Some, None, slice_get, replicate}
+use Rattle.std.specs.Prelude.{ℕ, ◌≡◌, ◌≤◌, ◌^◌, List, Option, Some, None, map, slice_get, replicate}
 use Rattle.key_table.specs.Slots.{Slots, IsNext}
-use Rattle.node_core.specs.NodeSettings.{NodeSettings}
+use Rattle.ini_config.specs.Node.{NodeSettings}
 use Rattle.node_core.specs.declared.node_view.Client.{Client}
 
 -- A node's own number and its peers; the pool size of each database, by its place; the incarnation; the
@@ -38,15 +38,15 @@ pub record IsView (v : NodeView) : Type 0 where
   pub live : (slot : ℕ) → Agree (slice_get v.keys.secrets slot) (slice_get v.clients slot)
   pub numbers : v.next_pass ≤ 2 ^ 64
 
--- a node that was just made: nobody is logged in, and the first numbers are given next
+-- a node that was just made of its settings: nobody is logged in, and the first numbers are given next
 pub record IsFresh (settings : NodeSettings) (v : NodeView) : Type 0 where
   pub own : v.keys.peer ≡ settings.peer_id
   pub free : v.keys.secrets ≡ replicate settings.max_client_conn None
   pub next : IsNext v.keys.secrets v.keys.next
   pub fields : v ≡ record {
     me = settings.peer_id;
-    peers = settings.peers;
-    pools = settings.pool_sizes;
+    peers = map (λ p. p.number) settings.peers;
+    pools = map (λ d. d.pool_size) settings.databases;
     incarnation = 0;
     keys = v.keys;
     clients = replicate settings.max_client_conn None;

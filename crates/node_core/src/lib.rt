@@ -7,7 +7,6 @@ mod next_number;
 mod node;
 mod node_view;
 mod pass;
-mod plain_settings;
 mod refusal;
 
 pub use exchange::{Exchange, LeaveReply, Order};
@@ -16,7 +15,6 @@ pub use node::NodeCore;
 pub use node_view::{Client, View};
 pub use pass::{Pass, PassRecord};
 pub use pg_ids::DatabaseNo;
-pub use plain_settings::Settings;
 pub use refusal::{CancelRefusal, JoinRefusal};
 
 #[cfg(test)]

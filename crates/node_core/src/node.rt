@@ -7,8 +7,8 @@ ghost use Rattle.node_core.specs.NodeStep.{NodeStep};
 use crate::exchange::{LeaveReply, Order};
 use crate::node_view::View;
 use crate::pass::Pass;
-use crate::plain_settings::Settings;
 use crate::refusal::JoinRefusal;
+use ini_config::Settings;
 use pg_ids::{DatabaseNo, Secret};
 use std::alloc::{AllocError, Global};
 use std::marker::Model;
@@ -28,7 +28,8 @@ impl Model for NodeCore {
 }
 
 impl NodeCore {
-    /// A node with these settings, at which nobody is logged in. It takes all the memory that the node needs.
+    /// A node with these settings, at which nobody is logged in: its number, its peers and their order, the pool
+    /// size of each database, and a slot for each client. It takes all the memory that the node needs.
     pub fn new(alloc: Global, settings: &Settings) -> Result<NodeCore, AllocError>
         ensures { IfOk result (λ core. IsFresh settings.now core) }
     {

@@ -7,9 +7,9 @@ ghost use Rattle.node_core.specs.NodeStep.{NodeStep, stands};
 use crate::exchange::{LeaveReply, Order};
 use crate::next_number::NextNumber;
 use crate::pass::{Pass, PassRecord};
-use crate::plain_settings::Settings;
 use crate::refusal::{CancelRefusal, JoinRefusal};
 use cancel_router::{Route, decide};
+use ini_config::Settings;
 use key_table::KeyTable;
 use pg_ids::{ClientKey, DatabaseNo, PeerNo, Secret, SlotNo};
 use startup::write_cancel;
@@ -56,8 +56,8 @@ impl View {
         let limit = settings.max_client_conn();
         Ok(View {
             me,
-            peers: settings.peers().to_vec(alloc)?,
-            pools: settings.pool_sizes().to_vec(alloc)?,
+            peers: settings.peer_numbers(alloc)?,
+            pools: settings.pool_sizes(alloc)?,
             incarnation: 0,
             keys: KeyTable::new(alloc, me, limit)?,
             clients: vec![in alloc; None; limit as usize]?,

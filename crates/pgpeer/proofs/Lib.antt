@@ -1,1 +1,4 @@
 pub mod JoinLemmas
+pub mod NumberLemmas
+pub mod PacketLemmas
+pub mod WordLemmas

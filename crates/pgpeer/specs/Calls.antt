@@ -1,13 +1,17 @@
 -- What the words of the program ask for (own).
-use Rattle.std.specs.Prelude.{ℕ, ◌≡◌, List, [], ◌∷◌, codes, length, Ok}
+use Rattle.std.specs.Prelude.{ℕ, ◌≡◌, List, [], ◌∷◌, codes, length, max, Ok}
+use Rattle.std.specs.Option.{option_map}
 use Rattle.hex.specs.Hex.{decode_sized, decode_of}
 use Rattle.pg_ids.specs.Key.{IsKey, key_bytes}
 use Rattle.pg_ids.specs.declared.client_key.ClientKey.{ClientKey}
 use Rattle.startup.specs.Packet.{cancel_request}
-use Rattle.ini_config.specs.Node.{NodeSettings as FileSettings}
-use Rattle.node_core.specs.NodeSettings.{NodeSettings}
+use Rattle.ini_config.specs.Node.{NodeSettings}
+use Rattle.ini_config.specs.Plain.{plain_settings}
+use Rattle.ini_config.specs.Text.{number_in}
 use Rattle.node_core.specs.declared.exchange.Order.{Order}
+use Rattle.pgpeer.specs.declared.words.DecideWords.{DecideWords}
 use Rattle.pgpeer.specs.Decision.{IsDecided}
+use Rattle.pgpeer.specs.Numbers.{between_commas, AreNumbers}
 use Rattle.ini_config.specs.Group.{IsGroup}
 use Rattle.pgpeer.specs.Texts.{order_text, group_text}
 
@@ -17,18 +21,24 @@ pub record IsKeyCall (words : List (List ℕ)) (hex : List ℕ) (key : ClientKey
   pub digits : decode_sized hex 8 ≡ Ok (key_bytes key)
   pub is_key : IsKey key
 
--- the line tells an order that a node with some clients may give for the request in this packet
-pub record TellsOrder (hex line : List ℕ) : Type 0 where
-  pub settings : NodeSettings
+-- The line tells an order that a node may give for the request in the packet. The words give the node's number,
+-- its peers in order, and the secrets of the clients that have joined it; there is a slot for each of them, and one
+-- at least.
+pub record TellsOrder (words : DecideWords) (line : List ℕ) : Type 0 where
+  pub me : ℕ
+  pub peers : List ℕ
   pub secrets : List ℕ
   pub key : List ℕ
   pub order : Order
-  pub packet : decode_of hex ≡ Ok (cancel_request key)
-  pub decided : IsDecided settings secrets key order
+  pub own : number_in 0 16383 words.me.now ≡ Ok me
+  pub others : AreNumbers 1 16383 (between_commas (option_map (λ t. t.now) words.peers)) peers
+  pub clients : AreNumbers 0 4294967295 (between_commas (option_map (λ t. t.now) words.live)) secrets
+  pub packet : decode_of words.packet.now ≡ Ok (cancel_request key)
+  pub decided : IsDecided (plain_settings me peers 1 (max (length secrets) 1)) secrets key order
   pub text : line ≡ order_text order
 
 -- the line tells how many nodes a group has
 pub record TellsGroup (line : List ℕ) : Type 0 where
-  pub nodes : List FileSettings
+  pub nodes : List NodeSettings
   pub group : IsGroup nodes
   pub text : line ≡ group_text (length nodes)

@@ -1,7 +1,7 @@
 -- What `pgpeer decide` asks of a node (own).
 use Rattle.std.specs.Prelude.{ℕ, ◌≡◌, ◌+◌, List, [], ◌∷◌, length, Ok}
 use Rattle.std.specs.List.{sum_by}
-use Rattle.node_core.specs.NodeSettings.{NodeSettings}
+use Rattle.ini_config.specs.Node.{NodeSettings}
 use Rattle.node_core.specs.View.{NodeView, IsFresh}
 use Rattle.node_core.specs.declared.pass.PassRecord.{PassRecord}
 use Rattle.node_core.specs.declared.exchange.Order.{Order}

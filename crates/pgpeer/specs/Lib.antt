@@ -1,4 +1,5 @@
 pub mod Texts
+pub mod Numbers
 pub mod Decision
 pub mod Calls
 pub mod Statuses

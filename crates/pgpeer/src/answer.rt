@@ -1,5 +1,5 @@
 //! The program's answer to its words.
-ghost use Rattle.std.specs.Prelude.{◌≡◌, ◌⊎◌, ℕ, List, map, MatchResult, string_bytes, Some};
+ghost use Rattle.std.specs.Prelude.{◌≡◌, ◌⊎◌, ℕ, List, [], ◌∷◌, codes, map, MatchResult, IfSome, IsSomeAnd, string_bytes, Some};
 ghost use Rattle.std.specs.Io.KnownBytes.{Appends, Keeps};
 ghost use Rattle.pg_ids.specs.declared.client_key.ClientKey.{ClientKey};
 ghost use Rattle.pgpeer.specs.Calls.{IsKeyCall};
@@ -66,8 +66,21 @@ fn reply<R: Wait, O: Opener>(
 
 // The key that the words name, where they are `key` and 16 hexadecimal digits.
 fn key_asked(words: &[&str]) -> Option<ClientKey>
-    ensures { (hex : List ℕ) (key : ClientKey) → IsKeyCall (map (λ word. word.now) words.now) hex key
+    ensures found { IfSome result (λ key. (hex : List ℕ) × IsKeyCall (map (λ word. word.now) words.now) hex key) }
+    // Each such key is answered.
+    ensures only { (hex : List ℕ) (key : ClientKey) → IsKeyCall (map (λ word. word.now) words.now) hex key
         → result ≡ Some key }
+{
+    let hex = behind_key(words)?;
+    let bytes = <[u8; 8] as FromHex>::from_hex(hex).ok()?;
+    Some(ClientKey::from_bytes(bytes))
+}
+
+// The word behind `key`, where there are these two.
+fn behind_key<'a>(words: &[&'a str]) -> Option<&'a str>
+    ensures found { IfSome result (λ hex. map (λ word. word.now) words.now ≡ codes "key" ∷ hex.now ∷ []) }
+    ensures only { (hex : List ℕ) → map (λ word. word.now) words.now ≡ codes "key" ∷ hex ∷ []
+        → IsSomeAnd result (λ text. text.now ≡ hex) }
 {
     let [word, hex] = words else {
         return None;
@@ -75,8 +88,7 @@ fn key_asked(words: &[&str]) -> Option<ClientKey>
     if *word != "key" {
         return None;
     }
-    let bytes = <[u8; 8] as FromHex>::from_hex(*hex).ok()?;
-    Some(ClientKey::from_bytes(bytes))
+    Some(*hex)
 }
 
 // Answers the status, or 1 where the text can't be written.

@@ -1,18 +1,23 @@
 //! `pgpeer decide`: what a pooler does with the first packet of a connection.
-ghost use Rattle.std.specs.Prelude.{◌≡◌, ◌+◌, ◌<◌, ◌≤◌, ◌∷◌, [], IfOk, Ok, length, string_bytes, vec_len, vec_capacity, max};
-ghost use Rattle.node_core.specs.View.{IsFresh};
+ghost use Rattle.std.specs.Prelude.{◌≡◌, ◌≢◌, ◌+◌, ◌<◌, ◌≤◌, ℕ, List, All, AllPairs, IfOk, IfSome, Ok, length, string_bytes, vec_len, vec_capacity, max};
+ghost use Rattle.std.specs.Option.{option_map};
+ghost use Rattle.std.specs.Result.{result_ok};
+ghost use Rattle.ini_config.specs.Plain.{plain_settings};
+ghost use Rattle.ini_config.specs.Text.{number_in};
 ghost use Rattle.pgpeer.specs.Texts.{order_text, forward_text, refused_text};
 ghost use Rattle.hex.specs.Hex.{decode_of};
 ghost use Rattle.startup.specs.Packet.{cancel_request};
 ghost use Rattle.pgpeer.specs.Calls.{TellsOrder};
 ghost use Rattle.pgpeer.specs.Decision.{Joins, Asks, IsDecided};
+ghost use Rattle.pgpeer.specs.Numbers.{between_commas, AreNumbers};
 ghost use Rattle.locked_node.specs.Journal.{JournalView, log_all, CALL_LIMIT};
 
 use crate::fault::Fault;
-use crate::number::number;
+use crate::number::{between_commas, number};
 use crate::words::DecideWords;
+use ini_config::Settings;
 use locked_node::{Caller, Journal, Shared};
-use node_core::{DatabaseNo, LeaveReply, NodeCore, Order, Pass, Settings};
+use node_core::{DatabaseNo, LeaveReply, NodeCore, Order, Pass};
 use pg_ids::{PeerNo, Secret};
 use startup::{First, Opening};
 use std::alloc::{AllocError, Global};
@@ -34,7 +39,7 @@ const DATABASE: DatabaseNo = DatabaseNo(0);
 
 /// The line that tells what a pooler does with a packet.
 pub fn decide_line<R: Wait>(rt: &R, alloc: Global, words: &DecideWords<'_>) -> Result<String, Fault>
-    ensures { IfOk result (λ line. TellsOrder words.now.packet.now (string_bytes line)) }
+    ensures { IfOk result (λ line. TellsOrder words.now (string_bytes line)) }
 {
     let me = own_number(alloc, words.me)?;
     let peers = peer_numbers(alloc, words.peers)?;
@@ -45,7 +50,9 @@ pub fn decide_line<R: Wait>(rt: &R, alloc: Global, words: &DecideWords<'_>) -> R
     order_line(alloc, order)
 }
 
-fn own_number(alloc: Global, word: &str) -> Result<PeerNo, Fault> {
+fn own_number(alloc: Global, word: &str) -> Result<PeerNo, Fault>
+    ensures { IfOk result (λ me. number_in 0 16383 word.now ≡ Ok me) }
+{
     match peer(word, 0) {
         Some(me) => Ok(me),
         None => Err(Fault::Usage(format!(in alloc;
@@ -54,59 +61,81 @@ fn own_number(alloc: Global, word: &str) -> Result<PeerNo, Fault> {
     }
 }
 
-fn peer(word: &str, least: u64) -> Option<PeerNo> {
+fn peer(word: &str, least: u32) -> Option<PeerNo>
+    ensures value { result ≡ result_ok (number_in least 16383 word.now) }
+    ensures range { IfSome result (λ peer. least ≤ peer) }
+{
     let number = number(word, least, 16383)?;
-    PeerNo::new(u16::try_from(number).ok()?)
+    PeerNo::new(number as u16)
 }
 
-fn peer_numbers(alloc: Global, words: Option<&str>) -> Result<Vec<PeerNo>, Fault> {
+fn peer_numbers(alloc: Global, text: Option<&str>) -> Result<Vec<PeerNo>, Fault>
+    ensures numbers { IfOk result (λ peers. AreNumbers 1 16383 (between_commas (option_map (λ t. t.now) text.entry)) peers.items) }
+    ensures limit { IfOk result (λ peers. length peers.items ≤ 64) }
+    ensures numbered { IfOk result (λ peers. All (λ number. 0 < number) peers.items) }
+    ensures distinct { IfOk result (λ peers. AllPairs (λ a b. a ≢ b) peers.items) }
+{
     let mut peers = Vec::new(alloc);
-    let Some(words) = words else {
-        return Ok(peers);
-    };
-    for word in words.split(',') {
-        let Some(peer) = peer(word, 1) else {
-            return Err(Fault::Usage(format!(in alloc;
-                "--peers {word}: numbers from 1 to 16383 are wanted, with commas between"
-            )?));
-        };
-        if peers.contains(&peer) {
-            return Err(Fault::Usage(format!(in alloc;
-                "--peers {word}: this peer was named before"
-            )?));
-        }
-        if peers.len() == PEERS {
-            return Err(Fault::Usage(format!(in alloc;
-                "--peers {word}: there are at most {PEERS} peers"
-            )?));
-        }
+    let words = between_commas(alloc, text)?;
+    for word in &words {
+        let peer = one_more_peer(alloc, &peers, word)?;
         peers.push(peer)?;
     }
     Ok(peers)
 }
 
-fn secrets_of(alloc: Global, words: Option<&str>) -> Result<Vec<Secret>, Fault>
-    ensures { IfOk result (λ secrets. vec_len secrets ≤ 65535) }
+// The peer that a word names, behind these.
+fn one_more_peer(alloc: Global, peers: &[PeerNo], word: &str) -> Result<PeerNo, Fault>
+    ensures value { IfOk result (λ peer. number_in 1 16383 word.now ≡ Ok peer) }
+    ensures numbered { IfOk result (λ peer. 0 < peer) }
+    ensures new { IfOk result (λ peer. All (λ before. before ≢ peer) peers.now) }
+    ensures room { IfOk result (λ _. length peers.now < 64) }
+{
+    let Some(peer) = peer(word, 1) else {
+        return Err(Fault::Usage(format!(in alloc;
+            "--peers {word}: numbers from 1 to 16383 are wanted, with commas between"
+        )?));
+    };
+    if peers.contains(&peer) {
+        return Err(Fault::Usage(format!(in alloc; "--peers {word}: this peer was named before")?));
+    }
+    if peers.len() >= PEERS {
+        return Err(Fault::Usage(format!(in alloc;
+            "--peers {word}: there are at most {PEERS} peers"
+        )?));
+    }
+    Ok(peer)
+}
+
+fn secrets_of(alloc: Global, text: Option<&str>) -> Result<Vec<Secret>, Fault>
+    ensures numbers { IfOk result (λ secrets. AreNumbers 0 4294967295 (between_commas (option_map (λ t. t.now) text.entry)) secrets.items) }
+    ensures limit { IfOk result (λ secrets. length secrets.items ≤ 65535) }
 {
     let mut secrets = Vec::new(alloc);
-    let Some(words) = words else {
-        return Ok(secrets);
-    };
-    for word in words.split(',') {
-        let secret = number(word, 0, 4294967295).and_then(|number| u32::try_from(number).ok());
-        let Some(secret) = secret else {
-            return Err(Fault::Usage(format!(in alloc;
-                "--live {word}: numbers from 0 to 4294967295 are wanted, with commas between"
-            )?));
-        };
-        if secrets.len() == CLIENTS {
-            return Err(Fault::Usage(format!(in alloc;
-                "--live {word}: there are at most {CLIENTS} clients"
-            )?));
-        }
-        secrets.push(Secret(secret))?;
+    let words = between_commas(alloc, text)?;
+    for word in &words {
+        let secret = one_more_secret(alloc, secrets.len(), word)?;
+        secrets.push(secret)?;
     }
     Ok(secrets)
+}
+
+// The secret that a word names, behind so many.
+fn one_more_secret(alloc: Global, count: usize, word: &str) -> Result<Secret, Fault>
+    ensures value { IfOk result (λ secret. number_in 0 4294967295 word.now ≡ Ok secret) }
+    ensures room { IfOk result (λ _. count < 65535) }
+{
+    let Some(secret) = number(word, 0, 4294967295) else {
+        return Err(Fault::Usage(format!(in alloc;
+            "--live {word}: numbers from 0 to 4294967295 are wanted, with commas between"
+        )?));
+    };
+    if count >= CLIENTS {
+        return Err(Fault::Usage(format!(in alloc;
+            "--live {word}: there are at most {CLIENTS} clients"
+        )?));
+    }
+    Ok(Secret(secret))
 }
 
 fn packet_of(alloc: Global, word: &str) -> Result<Vec<u8>, Fault>
@@ -121,7 +150,9 @@ fn packet_of(alloc: Global, word: &str) -> Result<Vec<u8>, Fault>
 
 // The key of a CancelRequest that is the whole packet.
 fn cancel_key(alloc: Global, packet: &[u8]) -> Result<[u8; 8], Fault>
-    ensures { IfOk result (λ key. packet.now ≡ cancel_request key) }
+    ensures found { IfOk result (λ key. packet.now ≡ cancel_request key) }
+    // Every such packet is taken.
+    ensures taken { (key : List ℕ) → length key ≡ 8 → packet.now ≡ cancel_request key → result ≡ Ok key }
 {
     match Opening::new(alloc).read(packet, true) {
         Ok(First::Cancel { key }) => match packet.len().saturating_sub(16) {
@@ -146,8 +177,11 @@ pub fn decided<R: Wait>(
     secrets: &[Secret],
     key: &[u8; 8],
 ) -> Result<Order, Fault>
-    requires { length secrets.now ≤ 65535 }
-    ensures { IfOk result (λ order. IsDecided record { peer_id = me; peers = peers.items; pool_sizes = 1 ∷ []; max_client_conn = max (length secrets.now) 1 } secrets.now key.now order) }
+    requires clients { length secrets.now ≤ 65535 }
+    requires peers { length peers.items ≤ 64 }
+    requires numbered { All (λ number. 0 < number) peers.items }
+    requires distinct { AllPairs (λ a b. a ≢ b) peers.items }
+    ensures { IfOk result (λ order. IsDecided (plain_settings me peers.items 1 (max (length secrets.now) 1)) secrets.now key.now order) }
 {
     let clients = secrets.len().max(1) as u32;
     let settings = Settings::plain(alloc, me, peers, 1, clients)?;
