@@ -1,5 +1,5 @@
 -- What the words of the program ask for (own).
-use Rattle.std.specs.Prelude.{ℕ, ◌≡◌, List, [], ◌∷◌, codes, length, max, Ok}
+use Rattle.std.specs.Prelude.{ℕ, ◌≡◌, ◌≢◌, ◌≤◌, List, [], ◌∷◌, AllPairs, codes, length, max, Ok}
 use Rattle.std.specs.Option.{option_map}
 use Rattle.hex.specs.Hex.{decode_sized, decode_of}
 use Rattle.pg_ids.specs.Key.{IsKey, key_bytes}
@@ -22,8 +22,8 @@ pub record IsKeyCall (words : List (List ℕ)) (hex : List ℕ) (key : ClientKey
   pub is_key : IsKey key
 
 -- The line tells an order that a node may give for the request in the packet. The words give the node's number,
--- its peers in order, and the secrets of the clients that have joined it; there is a slot for each of them, and one
--- at least.
+-- its peers in order, at most 64 and none twice, and the secrets of the clients that have joined it, at most
+-- 65,535; there is a slot for each of them, and one at least.
 pub record TellsOrder (words : DecideWords) (line : List ℕ) : Type 0 where
   pub me : ℕ
   pub peers : List ℕ
@@ -33,6 +33,8 @@ pub record TellsOrder (words : DecideWords) (line : List ℕ) : Type 0 where
   pub own : number_in 0 16383 words.me.now ≡ Ok me
   pub others : AreNumbers 1 16383 (between_commas (option_map (λ t. t.now) words.peers)) peers
   pub clients : AreNumbers 0 4294967295 (between_commas (option_map (λ t. t.now) words.live)) secrets
+  pub limits : (length peers ≤ 64) × (length secrets ≤ 65535)
+  pub distinct : AllPairs (λ a b. a ≢ b) peers
   pub packet : decode_of words.packet.now ≡ Ok (cancel_request key)
   pub decided : IsDecided (plain_settings me peers 1 (max (length secrets) 1)) secrets key order
   pub text : line ≡ order_text order
