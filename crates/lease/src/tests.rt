@@ -2,7 +2,8 @@
 ghost use Rattle.std.specs.Prelude.{◌≡◌, IfOk};
 
 use crate::{
-    IdleLink, Lease, LinkPlace, LinkRecord, Pass, PassRecord, Permit, PermitRecord, Ticket, TicketRecord,
+    IdleLink, Lease, LinkPlace, LinkRecord, Pass, PassRecord, Permit, PermitRecord, Ticket,
+    TicketRecord,
 };
 use pg_ids::{ClientKey, DatabaseNo, LinkNo, PeerNo};
 use std::test::Fail;
