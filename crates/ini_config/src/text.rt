@@ -105,9 +105,10 @@ fn value_of(text: &str) -> Option<u32>
     text.parse().ok()
 }
 
-/// The number that the text is, from `low` to `high`.
+/// The number that the text is, from `low` to `high`: decimal digits with no zero in front of another. A text that is no
+/// number is `BadNumber`, and another number is `OutOfRange`.
 #[tactic(auto, unfolding(crate::specs::Text::number_in))]
-pub(crate) fn number_in(low: u32, high: u32, text: &str) -> Result<u32, IniCode>
+pub fn number_in(low: u32, high: u32, text: &str) -> Result<u32, IniCode>
     ensures value { result ≡ number_in low high text.now }
     ensures range { IfOk result (λ n. (low ≤ n) × (n ≤ high)) }
 {
