@@ -82,7 +82,7 @@ fn rows(rt: HostRuntime) -> Result<(), Fail> {
     ] {
         for at_once in [1, 3, 16] {
             let mut wire = Wire {
-                held: Vec::new(rt.alloc()),
+                held: Vec::with_capacity(rt.alloc(), PACKET.len())?,
                 at_once,
                 room,
                 full,
@@ -101,7 +101,7 @@ fn each_place(rt: HostRuntime) -> Result<(), Fail> {
     for room in 0..16usize {
         for full in [Full::Fails, Full::TakesNothing] {
             let mut wire = Wire {
-                held: Vec::new(rt.alloc()),
+                held: Vec::with_capacity(rt.alloc(), PACKET.len())?,
                 at_once: 16,
                 room,
                 full,
