@@ -8,9 +8,9 @@ use Rattle.ini_config.specs.Node.{NodeSettings}
 use Rattle.ini_config.specs.Group.{AllPeer, PeersDiffer, AllListed}
 use Rattle.ini_config.specs.declared.fault.GroupError.{GroupError}
 use Rattle.ini_config.specs.declared.fault.GroupError.TheVariants.{SamePeer, MissingPeer, NoPeering, Memory}
-use Rattle.pgpeer.specs.declared.check.Refusal.{Refusal}
-use Rattle.pgpeer.specs.declared.check.Refusal.TheVariants.{InFile, OfGroup, Other}
-use Rattle.pgpeer.specs.Files.{Folder, Says, SayInOrder, HasFault, IsFirstFault, IsGroupFault, MakeNoGroup, IsFileRefused, IsRefused}
+use Rattle.pgpeer.specs.declared.fault.Fault.{Fault}
+use Rattle.pgpeer.specs.declared.fault.Fault.TheVariants as told
+use Rattle.pgpeer.specs.Files.{Folder, Says, SayInOrder, HasFault, IsFirstFault, IsGroupFault, MakeNoGroup, IsFileFault, IsFault}
 
 use Rattle.std.specs.Result.{IfErr, IsErrAnd}
 
@@ -38,12 +38,17 @@ module _ (folder : Folder) (files : List (Bor (List ℕ))) (i : ℕ) (d : Bor (L
     fault = fault;
   }
 
-  -- a file that is refused is told of
-  pub IsRefused-at : (refusal : Refusal) → i < length files → SayInOrder folder (map (λ w. w.now) (take i files)) nodes → IsFileRefused (folder (get_or files i d).now) (get_or files i d).now refusal → IsRefused folder (map (λ w. w.now) files) refusal
-  IsRefused-at (InFile file error) within said (same, inl memory) = inl memory
-  IsRefused-at (InFile file error) within said (same, inr fault) = inr (subst (λ name. IsFirstFault folder (map (λ w. w.now) files) name error) (sym same) (IsFirstFault-at error within said fault))
-  IsRefused-at (OfGroup error) within said never = absurd never
-  IsRefused-at (Other fault) within said _ = tt
+  -- what is told of the file at a place
+  pub IsFault-at : (fault : Fault) → i < length files → SayInOrder folder (map (λ w. w.now) (take i files)) nodes → IsFileFault (folder (get_or files i d).now) (get_or files i d).now fault → IsFault folder (map (λ w. w.now) files) fault
+  IsFault-at (told.InFile file error) within said (same, inl memory) = inl memory
+  IsFault-at (told.InFile file error) within said (same, inr fault) = inr (subst (λ name. IsFirstFault folder (map (λ w. w.now) files) name error) (sym same) (IsFirstFault-at error within said fault))
+  IsFault-at (told.File text) within said _ = tt
+  IsFault-at told.Memory within said _ = tt
+  IsFault-at (told.Usage text) within said never = absurd never
+  IsFault-at (told.OfGroup error) within said never = absurd never
+  IsFault-at (told.Packet number) within said never = absurd never
+  IsFault-at told.NotACancel within said never = absurd never
+  IsFault-at (told.Unexpected number) within said never = absurd never
 
 -- nodes that are no group are told of
 pub MakeNoGroup-of : (folder : Folder) (files : List (List ℕ)) (nodes : List NodeSettings) (error : GroupError) → SayInOrder folder files nodes → (error ≡ NoPeering → ¬ AllPeer nodes) → (error ≡ SamePeer → AllPeer nodes × ¬ PeersDiffer nodes) → (error ≡ MissingPeer → AllPeer nodes × PeersDiffer nodes × ¬ AllListed nodes) → (error ≡ Memory) ⊎ MakeNoGroup folder files error

@@ -1,5 +1,5 @@
 -- What settings files say, where it is known what they hold, and their first fault (own).
-use Rattle.std.specs.Prelude.{ℕ, ◌≡◌, ◌⊎◌, List, ◌∷◌, ◌++◌, Option, IfSome, Ok, Err, ⊤}
+use Rattle.std.specs.Prelude.{ℕ, ◌≡◌, ◌⊎◌, List, ◌∷◌, ◌++◌, Option, IfSome, Ok, Err, string_bytes, ⊤}
 use Rattle.std.specs.List.{AllZip}
 use Rattle.ini_config.specs.declared.fault.IniError.{IniError}
 use Rattle.ini_config.specs.declared.fault.GroupError.{GroupError}
@@ -8,8 +8,8 @@ use Rattle.ini_config.specs.Codes.{IsMemory}
 use Rattle.ini_config.specs.Group.{AllPeer, PeersDiffer, AllListed}
 use Rattle.ini_config.specs.Node.{NodeSettings}
 use Rattle.ini_config.specs.Settings.{settings_of}
-use Rattle.pgpeer.specs.declared.check.Refusal.{Refusal}
-use Rattle.pgpeer.specs.declared.check.Refusal.TheVariants.{InFile, OfGroup, Other}
+use Rattle.pgpeer.specs.declared.fault.Fault.{Fault}
+use Rattle.pgpeer.specs.declared.fault.Fault.TheVariants as told
 
 -- what files with these names hold, each where it is known
 abbrev pub Folder : Type 0
@@ -57,14 +57,30 @@ pub record MakeNoGroup (folder : Folder) (files : List (List ℕ)) (error : Grou
   pub said : SayInOrder folder files nodes
   pub fault : IsGroupFault nodes error
 
--- The file is refused as it has to be, unless memory ran out; what else may come isn't in it. It's no fault of a group.
-abbrev pub IsFileRefused : Option (List ℕ) → List ℕ → Refusal → Type 0
-IsFileRefused known file (InFile refused error) = (refused.now ≡ file) × (IsMemory error ⊎ HasFault known error)
-IsFileRefused known file (OfGroup error) = ⊥
-IsFileRefused known file (Other fault) = ⊤
+-- The fault names this file and this error, unless there was no memory for the name.
+abbrev pub Names : List ℕ → IniError → Fault → Type 0
+Names name refused (told.InFile file error) = (string_bytes file ≡ name) × (error ≡ refused)
+Names name refused told.Memory = ⊤
+Names name refused fault = ⊥
 
--- The files are refused as they have to be, unless memory ran out; what else may come isn't in them.
-abbrev pub IsRefused : Folder → List (List ℕ) → Refusal → Type 0
-IsRefused folder files (InFile file error) = IsMemory error ⊎ IsFirstFault folder files file.now error
-IsRefused folder files (OfGroup error) = (error ≡ Memory) ⊎ MakeNoGroup folder files error
-IsRefused folder files (Other fault) = ⊤
+-- The fault says that a file can't be read, or that memory ran out.
+abbrev pub IsUnread : Fault → Type 0
+IsUnread (told.File text) = ⊤
+IsUnread told.Memory = ⊤
+IsUnread fault = ⊥
+
+-- A fault is told of the file with this name: its own first, or that it can't be read, or that memory ran out.
+abbrev pub IsFileFault : Option (List ℕ) → List ℕ → Fault → Type 0
+IsFileFault known name (told.InFile file error) = (string_bytes file ≡ name) × (IsMemory error ⊎ HasFault known error)
+IsFileFault known name (told.File text) = ⊤
+IsFileFault known name told.Memory = ⊤
+IsFileFault known name fault = ⊥
+
+-- A fault is told of files: the first of a file, or else of the group, or that a file can't be read, or that memory
+-- ran out.
+abbrev pub IsFault : Folder → List (List ℕ) → Fault → Type 0
+IsFault folder files (told.InFile file error) = IsMemory error ⊎ IsFirstFault folder files (string_bytes file) error
+IsFault folder files (told.OfGroup error) = (error ≡ Memory) ⊎ MakeNoGroup folder files error
+IsFault folder files (told.File text) = ⊤
+IsFault folder files told.Memory = ⊤
+IsFault folder files fault = ⊥

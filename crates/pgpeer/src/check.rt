@@ -1,7 +1,7 @@
 //! `pgpeer check`: whether settings files make a group.
-ghost use Rattle.std.specs.Prelude.{◌≡◌, IfErr, IfOk, map, string_bytes};
+ghost use Rattle.std.specs.Prelude.{◌≡◌, IfErr, IfOk, MatchResult, map, string_bytes};
 ghost use Rattle.pgpeer.specs.Calls.{TellsGroup};
-ghost use Rattle.pgpeer.specs.Files.{Holds, IsFileRefused, IsRefused, SayInOrder, Says};
+ghost use Rattle.pgpeer.specs.Files.{Holds, IsFault, IsFileFault, IsUnread, Names, SayInOrder, Says};
 ghost use Rattle.pgpeer.specs.Texts.{group_text};
 
 use crate::fault::Fault;
@@ -10,95 +10,70 @@ use ini_config::{Group, GroupError, IniCode, IniError, Settings, read_settings};
 use std::alloc::Global;
 use std::io::{Error, ErrorKind, Read};
 
-// Why files make no group.
-#[derive(Drop)]
-enum Refusal<'a> {
-    // What this file says is refused.
-    InFile(&'a str, IniError),
-    // What the files say is refused as a group.
-    OfGroup(GroupError),
-    // A file can't be read, or memory ran out.
-    Other(Fault),
-}
-
 /// The line that tells how many nodes these files make a group of. The files are judged in order, then the
 /// group, and the first fault alone is told.
 pub fn check_line<O: Opener>(alloc: Global, opener: &O, files: &[&str]) -> Result<String, Fault>
-    ensures { IfOk result (λ line. TellsGroup (O.text opener.now) (map (λ file. file.now) files.now) (string_bytes line)) }
+    ensures group { IfOk result (λ line. TellsGroup (O.text opener.now) (map (λ file. file.now) files.now) (string_bytes line)) }
+    ensures refused { IfErr result (λ fault. IsFault (O.text opener.now) (map (λ file. file.now) files.now) fault) }
 {
-    match group_of(alloc, opener, files) {
+    match Group::check(settings_of(alloc, opener, files)?) {
         Ok(group) => {
             let count = group.nodes().len();
             group_line(alloc, count)
         }
-        Err(refusal) => Err(fault(alloc, refusal)),
+        Err(error) => Err(Fault::OfGroup(error)),
     }
 }
 
 fn group_line(alloc: Global, count: usize) -> Result<String, Fault>
-    ensures { IfOk result (λ line. string_bytes line ≡ group_text count) }
+    ensures { MatchResult result (λ line. string_bytes line ≡ group_text count) (λ fault. fault ≡ Fault.Memory) }
 {
-    Ok(format!(in alloc; "group of {count} nodes\n")?)
-}
-
-// The group that the files say.
-fn group_of<'a, O: Opener>(
-    alloc: Global,
-    opener: &O,
-    files: &[&'a str],
-) -> Result<Group, Refusal<'a>>
-    ensures group { IfOk result (λ group. SayInOrder (O.text opener.now) (map (λ file. file.now) files.now) group) }
-    ensures refused { IfErr result (λ refusal. IsRefused (O.text opener.now) (map (λ file. file.now) files.now) refusal) }
-{
-    match Group::check(settings_of(alloc, opener, files)?) {
-        Ok(group) => Ok(group),
-        Err(error) => Err(Refusal::OfGroup(error)),
-    }
+    format!(in alloc; "group of {count} nodes\n").map_err(|_| Fault::Memory)
 }
 
 // The settings that the files say, in order.
-fn settings_of<'a, O: Opener>(
+fn settings_of<O: Opener>(
     alloc: Global,
     opener: &O,
-    files: &[&'a str],
-) -> Result<Vec<Settings>, Refusal<'a>>
+    files: &[&str],
+) -> Result<Vec<Settings>, Fault>
     ensures said { IfOk result (λ nodes. SayInOrder (O.text opener.now) (map (λ file. file.now) files.now) nodes.items) }
-    ensures refused { IfErr result (λ refusal. IsRefused (O.text opener.now) (map (λ file. file.now) files.now) refusal) }
+    ensures refused { IfErr result (λ fault. IsFault (O.text opener.now) (map (λ file. file.now) files.now) fault) }
 {
     let mut nodes = Vec::new(alloc);
     for file in files {
         let node = node_of(alloc, opener, file)?;
         let Ok(()) = nodes.push(node) else {
-            return Err(Refusal::OfGroup(GroupError::Memory));
+            return Err(Fault::OfGroup(GroupError::Memory));
         };
     }
     Ok(nodes)
 }
 
 // The settings that the file says.
-fn node_of<'a, O: Opener>(
+fn node_of<O: Opener>(
     alloc: Global,
     opener: &O,
-    file: &'a str,
-) -> Result<Settings, Refusal<'a>>
+    file: &str,
+) -> Result<Settings, Fault>
     ensures said { IfOk result (λ node. Says (O.text opener.now file.now) node) }
-    ensures refused { IfErr result (λ refusal. IsFileRefused (O.text opener.now file.now) file.now refusal) }
+    ensures refused { IfErr result (λ fault. IsFileFault (O.text opener.now file.now) file.now fault) }
 {
     let text = text_of(alloc, opener, file)?;
     match read_settings(alloc, text.as_str()) {
         Ok(settings) => Ok(settings),
-        Err(error) => Err(Refusal::InFile(file, error)),
+        Err(error) => Err(in_file(alloc, file, error)),
     }
 }
 
 // What the file holds.
-fn text_of<'a, O: Opener>(
+fn text_of<O: Opener>(
     alloc: Global,
     opener: &O,
-    file: &'a str,
-) -> Result<String, Refusal<'a>>
+    file: &str,
+) -> Result<String, Fault>
     ensures held { IfOk result (λ text. Holds (O.text opener.now file.now) (string_bytes text)) }
-    ensures refused { IfErr result (λ refusal. IsFileRefused (O.text opener.now file.now) file.now refusal) }
+    ensures refused { IfErr result (λ fault. IsFileFault (O.text opener.now file.now) file.now fault) }
 {
     let mut text = String::new(alloc);
     let read = match opener.open(file) {
@@ -108,9 +83,9 @@ fn text_of<'a, O: Opener>(
     match read {
         Ok(_) => Ok(text),
         Err(error) if error.kind() == ErrorKind::OutOfMemory => {
-            Err(Refusal::InFile(file, OUT_OF_MEMORY))
+            Err(in_file(alloc, file, OUT_OF_MEMORY))
         }
-        Err(error) => Err(Refusal::Other(unread(alloc, file, &error))),
+        Err(error) => Err(unread(alloc, file, &error)),
     }
 }
 
@@ -120,34 +95,20 @@ const OUT_OF_MEMORY: IniError = IniError {
     code: IniCode::Memory,
 };
 
-fn unread(alloc: Global, file: &str, error: &Error) -> Fault {
+fn in_file(alloc: Global, file: &str, error: IniError) -> Fault
+    ensures { Names file.now error result }
+{
+    match String::from_str(alloc, file) {
+        Ok(file) => Fault::InFile { file, error },
+        Err(_) => Fault::Memory,
+    }
+}
+
+fn unread(alloc: Global, file: &str, error: &Error) -> Fault
+    ensures { IsUnread result }
+{
     match format!(in alloc; "{file}: {error}") {
         Ok(text) => Fault::File(text),
-        Err(_) => Fault::Memory,
-    }
-}
-
-// What is told of a refusal.
-fn fault(alloc: Global, refusal: Refusal<'_>) -> Fault {
-    match refusal {
-        Refusal::InFile(file, error) => settings_fault(alloc, file, error),
-        Refusal::OfGroup(error) => group_fault(alloc, error),
-        Refusal::Other(fault) => fault,
-    }
-}
-
-fn settings_fault(alloc: Global, file: &str, error: IniError) -> Fault {
-    match format!(in alloc; "{file}:{error}") {
-        Ok(text) if error.code == IniCode::Memory => Fault::File(text),
-        Ok(text) => Fault::Settings(text),
-        Err(_) => Fault::Memory,
-    }
-}
-
-fn group_fault(alloc: Global, error: GroupError) -> Fault {
-    match format!(in alloc; "{error}") {
-        Ok(text) if error == GroupError::Memory => Fault::File(text),
-        Ok(text) => Fault::Settings(text),
         Err(_) => Fault::Memory,
     }
 }
