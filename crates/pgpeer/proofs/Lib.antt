@@ -1,3 +1,4 @@
+pub mod FileLemmas
 pub mod JoinLemmas
 pub mod NumberLemmas
 pub mod PacketLemmas

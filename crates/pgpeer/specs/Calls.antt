@@ -13,6 +13,7 @@ use Rattle.pgpeer.specs.declared.words.DecideWords.{DecideWords}
 use Rattle.pgpeer.specs.Decision.{IsDecided}
 use Rattle.pgpeer.specs.Numbers.{between_commas, AreNumbers}
 use Rattle.ini_config.specs.Group.{IsGroup}
+use Rattle.pgpeer.specs.Files.{Folder, SayInOrder}
 use Rattle.pgpeer.specs.Texts.{order_text, group_text}
 
 -- the words are `key` and a key's eight bytes in hexadecimal
@@ -39,8 +40,9 @@ pub record TellsOrder (words : DecideWords) (line : List ℕ) : Type 0 where
   pub decided : IsDecided (plain_settings me peers 1 (max (length secrets) 1)) secrets key order
   pub text : line ≡ order_text order
 
--- the line tells how many nodes a group has
-pub record TellsGroup (line : List ℕ) : Type 0 where
+-- the line tells how many nodes the files' group has, whose settings the files say, in order
+pub record TellsGroup (folder : Folder) (files : List (List ℕ)) (line : List ℕ) : Type 0 where
   pub nodes : List NodeSettings
+  pub said : SayInOrder folder files nodes
   pub group : IsGroup nodes
   pub text : line ≡ group_text (length nodes)

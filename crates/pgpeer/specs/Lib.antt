@@ -1,5 +1,6 @@
 pub mod Texts
 pub mod Numbers
 pub mod Decision
+pub mod Files
 pub mod Calls
 pub mod Statuses

@@ -1,31 +1,34 @@
 //! `pgpeer check`: whether settings files make a group.
-ghost use Rattle.std.specs.Prelude.{◌≡◌, IfOk, string_bytes};
+ghost use Rattle.std.specs.Prelude.{◌≡◌, IfErr, IfOk, MatchResult, map, string_bytes};
 ghost use Rattle.pgpeer.specs.Calls.{TellsGroup};
+ghost use Rattle.pgpeer.specs.Files.{Holds, IsFault, IsFileFault, IsUnread, Names, SayInOrder, Says};
 ghost use Rattle.pgpeer.specs.Texts.{group_text};
 
 use crate::fault::Fault;
 use crate::opener::Opener;
 use ini_config::{Group, GroupError, IniCode, IniError, Settings, read_settings};
 use std::alloc::Global;
-use std::io::{ErrorKind, Read};
+use std::io::{Error, ErrorKind, Read};
 
 /// The line that tells how many nodes these files make a group of. The files are judged in order, then the
 /// group, and the first fault alone is told.
 pub fn check_line<O: Opener>(alloc: Global, opener: &O, files: &[&str]) -> Result<String, Fault>
-    ensures { IfOk result (λ line. TellsGroup (string_bytes line)) }
+    ensures group { IfOk result (λ line. TellsGroup (O.text opener.now) (map (λ file. file.now) files.now) (string_bytes line)) }
+    ensures refused { IfErr result (λ fault. IsFault (O.text opener.now) (map (λ file. file.now) files.now) fault) }
 {
-    let group = match Group::check(settings_of(alloc, opener, files)?) {
-        Ok(group) => group,
-        Err(error) => return Err(group_fault(alloc, error)),
-    };
-    let count = group.nodes().len();
-    Ok(group_line(alloc, count)?)
+    match Group::check(settings_of(alloc, opener, files)?) {
+        Ok(group) => {
+            let count = group.nodes().len();
+            group_line(alloc, count)
+        }
+        Err(error) => Err(Fault::OfGroup(error)),
+    }
 }
 
 fn group_line(alloc: Global, count: usize) -> Result<String, Fault>
-    ensures { IfOk result (λ line. string_bytes line ≡ group_text count) }
+    ensures { MatchResult result (λ line. string_bytes line ≡ group_text count) (λ fault. fault ≡ Fault.Memory) }
 {
-    Ok(format!(in alloc; "group of {count} nodes\n")?)
+    format!(in alloc; "group of {count} nodes\n").map_err(|_| Fault::Memory)
 }
 
 // The settings that the files say, in order.
@@ -33,23 +36,45 @@ fn settings_of<O: Opener>(
     alloc: Global,
     opener: &O,
     files: &[&str],
-) -> Result<Vec<Settings>, Fault> {
+) -> Result<Vec<Settings>, Fault>
+    ensures said { IfOk result (λ nodes. SayInOrder (O.text opener.now) (map (λ file. file.now) files.now) nodes.items) }
+    ensures refused { IfErr result (λ fault. IsFault (O.text opener.now) (map (λ file. file.now) files.now) fault) }
+{
     let mut nodes = Vec::new(alloc);
     for file in files {
-        let text = text_of(alloc, opener, file)?;
-        match read_settings(alloc, text.as_str()) {
-            Ok(settings) => {
-                if nodes.push(settings).is_err() {
-                    return Err(group_fault(alloc, GroupError::Memory));
-                }
-            }
-            Err(error) => return Err(settings_fault(alloc, file, error)),
-        }
+        let node = node_of(alloc, opener, file)?;
+        let Ok(()) = nodes.push(node) else {
+            return Err(Fault::OfGroup(GroupError::Memory));
+        };
     }
     Ok(nodes)
 }
 
-fn text_of<O: Opener>(alloc: Global, opener: &O, file: &str) -> Result<String, Fault> {
+// The settings that the file says.
+fn node_of<O: Opener>(
+    alloc: Global,
+    opener: &O,
+    file: &str,
+) -> Result<Settings, Fault>
+    ensures said { IfOk result (λ node. Says (O.text opener.now file.now) node) }
+    ensures refused { IfErr result (λ fault. IsFileFault (O.text opener.now file.now) file.now fault) }
+{
+    let text = text_of(alloc, opener, file)?;
+    match read_settings(alloc, text.as_str()) {
+        Ok(settings) => Ok(settings),
+        Err(error) => Err(in_file(alloc, file, error)),
+    }
+}
+
+// What the file holds.
+fn text_of<O: Opener>(
+    alloc: Global,
+    opener: &O,
+    file: &str,
+) -> Result<String, Fault>
+    ensures held { IfOk result (λ text. Holds (O.text opener.now file.now) (string_bytes text)) }
+    ensures refused { IfErr result (λ fault. IsFileFault (O.text opener.now file.now) file.now fault) }
+{
     let mut text = String::new(alloc);
     let read = match opener.open(file) {
         Ok(mut reader) => reader.read_to_string(&mut text),
@@ -58,9 +83,9 @@ fn text_of<O: Opener>(alloc: Global, opener: &O, file: &str) -> Result<String, F
     match read {
         Ok(_) => Ok(text),
         Err(error) if error.kind() == ErrorKind::OutOfMemory => {
-            Err(settings_fault(alloc, file, OUT_OF_MEMORY))
+            Err(in_file(alloc, file, OUT_OF_MEMORY))
         }
-        Err(error) => Err(Fault::File(format!(in alloc; "{file}: {error}")?)),
+        Err(error) => Err(unread(alloc, file, &error)),
     }
 }
 
@@ -70,18 +95,20 @@ const OUT_OF_MEMORY: IniError = IniError {
     code: IniCode::Memory,
 };
 
-fn settings_fault(alloc: Global, file: &str, error: IniError) -> Fault {
-    match format!(in alloc; "{file}:{error}") {
-        Ok(text) if error.code == IniCode::Memory => Fault::File(text),
-        Ok(text) => Fault::Settings(text),
+fn in_file(alloc: Global, file: &str, error: IniError) -> Fault
+    ensures { Names file.now error result }
+{
+    match String::from_str(alloc, file) {
+        Ok(file) => Fault::InFile { file, error },
         Err(_) => Fault::Memory,
     }
 }
 
-fn group_fault(alloc: Global, error: GroupError) -> Fault {
-    match format!(in alloc; "{error}") {
-        Ok(text) if error == GroupError::Memory => Fault::File(text),
-        Ok(text) => Fault::Settings(text),
+fn unread(alloc: Global, file: &str, error: &Error) -> Fault
+    ensures { IsUnread result }
+{
+    match format!(in alloc; "{file}: {error}") {
+        Ok(text) => Fault::File(text),
         Err(_) => Fault::Memory,
     }
 }

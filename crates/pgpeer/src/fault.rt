@@ -2,6 +2,7 @@
 ghost use Rattle.std.specs.Prelude.{◌≡◌};
 ghost use Rattle.pgpeer.specs.Statuses.{status_of};
 
+use ini_config::{GroupError, IniCode, IniError};
 use std::alloc::{AllocError, AllocFailed};
 use thiserror::Error;
 
@@ -11,10 +12,18 @@ pub enum Fault {
     /// The words ask for nothing that there is.
     #[error("{0}")]
     Usage(String),
-    /// Settings or a group are refused.
+    /// What a settings file says is refused, or there is no memory for it.
+    #[error("{file}:{error}")]
+    InFile {
+        /// The file's name.
+        file: String,
+        /// The file's first fault.
+        error: IniError,
+    },
+    /// What settings files say is refused as a group, or there is no memory for it.
     #[error("{0}")]
-    Settings(String),
-    /// A file can't be read, or there is no memory for it.
+    OfGroup(GroupError),
+    /// A file can't be read.
     #[error("{0}")]
     File(String),
     /// A first packet is refused, by this number.
@@ -37,7 +46,9 @@ impl Fault {
         ensures { result ≡ status_of self.now }
     {
         match self {
-            Fault::Usage(_) | Fault::Settings(_) => 2,
+            Fault::InFile { error, .. } if error.code == IniCode::Memory => 1,
+            Fault::OfGroup(GroupError::Memory) => 1,
+            Fault::Usage(_) | Fault::InFile { .. } | Fault::OfGroup(_) => 2,
             _ => 1,
         }
     }

@@ -1,4 +1,7 @@
 //! Where the program's files come from.
+ghost use Rattle.std.specs.Prelude.{◌≡◌, ℕ, List, IfOk, IfSome, Some, None};
+ghost use Rattle.std.specs.declared.option.Option.{Option};
+
 use std::fs::File;
 use std::io::{self, Read};
 
@@ -7,8 +10,13 @@ pub trait Opener {
     /// What a file is read from.
     type Reader: Read + Drop;
 
+    // What the file with a name holds, where that is known.
+    ghost text: { Self → List ℕ → Option (List ℕ) } = { λ _ _. None };
+
     /// The file with this name, from its beginning.
-    fn open(&self, name: &str) -> io::Result<Self::Reader>;
+    fn open(&self, name: &str) -> io::Result<Self::Reader>
+        ensures text { IfOk result (λ reader. IfSome (text self.now name.now)
+            (λ bytes. Self.Reader.remaining reader ≡ Some bytes)) };
 }
 
 /// The files of the machine.

@@ -1,0 +1,58 @@
+-- One file more is read, or the first that is refused.
+use Rattle.std.proofs.Common.{◌≡◌, ℕ, suc, ◌+◌, ◌<◌, List, [], ◌∷◌, ◌++◌, ◌⊎◌, length, get_or, map, take, drop, Bor, Result, Ok, Err, inl, inr, refl, sym, ◌∙◌, ap, subst}
+use Rattle.std.proofs.lemmas.List.{take_more, map_push, take-append-drop, map-append}
+use Rattle.std.proofs.lemmas.Slice.Zip.{all_zipped_more}
+use Rattle.std.proofs.Math.Seq.{drop-cons}
+use Rattle.ini_config.specs.declared.fault.IniError.{IniError}
+use Rattle.ini_config.specs.Node.{NodeSettings}
+use Rattle.ini_config.specs.Group.{AllPeer, PeersDiffer, AllListed}
+use Rattle.ini_config.specs.declared.fault.GroupError.{GroupError}
+use Rattle.ini_config.specs.declared.fault.GroupError.TheVariants.{SamePeer, MissingPeer, NoPeering, Memory}
+use Rattle.pgpeer.specs.declared.fault.Fault.{Fault}
+use Rattle.pgpeer.specs.declared.fault.Fault.TheVariants as told
+use Rattle.pgpeer.specs.Files.{Folder, Says, SayInOrder, HasFault, IsFirstFault, IsGroupFault, MakeNoGroup, IsFileFault, IsFault}
+
+use Rattle.std.specs.Result.{IfErr, IsErrAnd}
+
+-- `?` passes a refusal on as it is
+pub passed_on : {T E : Type 0} (r : Result T E) (e : E) (P : E → Type 0) → IsErrAnd r (λ y. y ≡ e) → P e → IfErr r P
+passed_on (Err y) e P is holds = subst P (sym is) holds
+passed_on (Ok x) e P never holds = absurd never
+
+module _ (folder : Folder) (files : List (Bor (List ℕ))) (i : ℕ) (d : Bor (List ℕ)) (nodes : List NodeSettings) where
+  -- the file at a place says what one node more is
+  pub SayInOrder-next : (node : NodeSettings) → i < length files → SayInOrder folder (map (λ w. w.now) (take i files)) nodes → Says (folder (get_or files i d).now) node → SayInOrder folder (map (λ w. w.now) (take (i + 1) files)) (nodes ++ node ∷ [])
+  SayInOrder-next node within said says =
+      let more : map (λ (w : Bor (List ℕ)). w.now) (take (i + 1) files) ≡ map (λ (w : Bor (List ℕ)). w.now) (take i files) ++ (get_or files i d).now ∷ [] =
+      ap (map (λ (w : Bor (List ℕ)). w.now)) (take_more files i d within) ∙ map_push (λ (w : Bor (List ℕ)). w.now) (take i files) (get_or files i d) in
+      subst (λ ws. SayInOrder folder ws (nodes ++ node ∷ [])) (sym more) (all_zipped_more (λ file n. Says (folder file) n) (map (λ w. w.now) (take i files)) nodes (get_or files i d).now node said says)
+
+  -- the file at a place is the first with a fault
+  pub IsFirstFault-at : (error : IniError) → i < length files → SayInOrder folder (map (λ w. w.now) (take i files)) nodes → HasFault (folder (get_or files i d).now) error → IsFirstFault folder (map (λ w. w.now) files) (get_or files i d).now error
+  IsFirstFault-at error within said fault = record {
+    before = map (λ w. w.now) (take i files);
+    after = map (λ w. w.now) (drop (suc i) files);
+    place = ap (map (λ (w : Bor (List ℕ)). w.now)) (sym (take-append-drop i files) ∙ ap (λ rest. take i files ++ rest) (drop-cons files i d within)) ∙ map-append (λ (w : Bor (List ℕ)). w.now) (take i files) (get_or files i d ∷ drop (suc i) files);
+    nodes = nodes;
+    said = said;
+    fault = fault;
+  }
+
+  -- what is told of the file at a place
+  pub IsFault-at : (fault : Fault) → i < length files → SayInOrder folder (map (λ w. w.now) (take i files)) nodes → IsFileFault (folder (get_or files i d).now) (get_or files i d).now fault → IsFault folder (map (λ w. w.now) files) fault
+  IsFault-at (told.InFile file error) within said (same, inl memory) = inl memory
+  IsFault-at (told.InFile file error) within said (same, inr fault) = inr (subst (λ name. IsFirstFault folder (map (λ w. w.now) files) name error) (sym same) (IsFirstFault-at error within said fault))
+  IsFault-at (told.File text) within said _ = tt
+  IsFault-at told.Memory within said _ = tt
+  IsFault-at (told.Usage text) within said never = absurd never
+  IsFault-at (told.OfGroup error) within said never = absurd never
+  IsFault-at (told.Packet number) within said never = absurd never
+  IsFault-at told.NotACancel within said never = absurd never
+  IsFault-at (told.Unexpected number) within said never = absurd never
+
+-- nodes that are no group are told of
+pub MakeNoGroup-of : (folder : Folder) (files : List (List ℕ)) (nodes : List NodeSettings) (error : GroupError) → SayInOrder folder files nodes → (error ≡ NoPeering → ¬ AllPeer nodes) → (error ≡ SamePeer → AllPeer nodes × ¬ PeersDiffer nodes) → (error ≡ MissingPeer → AllPeer nodes × PeersDiffer nodes × ¬ AllListed nodes) → (error ≡ Memory) ⊎ MakeNoGroup folder files error
+MakeNoGroup-of folder files nodes NoPeering said zero same missing = inr record { nodes = nodes; said = said; fault = zero refl }
+MakeNoGroup-of folder files nodes SamePeer said zero same missing = inr record { nodes = nodes; said = said; fault = same refl }
+MakeNoGroup-of folder files nodes MissingPeer said zero same missing = inr record { nodes = nodes; said = said; fault = missing refl }
+MakeNoGroup-of folder files nodes Memory said zero same missing = inl refl

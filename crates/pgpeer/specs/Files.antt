@@ -1,0 +1,86 @@
+-- What settings files say, where it is known what they hold, and their first fault (own).
+use Rattle.std.specs.Prelude.{ℕ, ◌≡◌, ◌⊎◌, List, ◌∷◌, ◌++◌, Option, IfSome, Ok, Err, string_bytes, ⊤}
+use Rattle.std.specs.List.{AllZip}
+use Rattle.ini_config.specs.declared.fault.IniError.{IniError}
+use Rattle.ini_config.specs.declared.fault.GroupError.{GroupError}
+use Rattle.ini_config.specs.declared.fault.GroupError.TheVariants.{SamePeer, MissingPeer, NoPeering, Memory}
+use Rattle.ini_config.specs.Codes.{IsMemory}
+use Rattle.ini_config.specs.Group.{AllPeer, PeersDiffer, AllListed}
+use Rattle.ini_config.specs.Node.{NodeSettings}
+use Rattle.ini_config.specs.Settings.{settings_of}
+use Rattle.pgpeer.specs.declared.fault.Fault.{Fault}
+use Rattle.pgpeer.specs.declared.fault.Fault.TheVariants as told
+
+-- what files with these names hold, each where it is known
+abbrev pub Folder : Type 0
+Folder = List ℕ → Option (List ℕ)
+
+-- the text that was read is what the file holds, where that is known
+abbrev pub Holds : Option (List ℕ) → List ℕ → Type 0
+Holds known text = IfSome known (λ bytes. text ≡ bytes)
+
+-- the node is what the file's text says
+pub record Says (known : Option (List ℕ)) (node : NodeSettings) : Type 0 where
+  pub text : List ℕ
+  pub held : Holds known text
+  pub said : settings_of text ≡ Ok node
+
+-- the nodes are what the files say, one for each file, in order
+abbrev pub SayInOrder : Folder → List (List ℕ) → List NodeSettings → Type 0
+SayInOrder folder files nodes = AllZip (λ file node. Says (folder file) node) files nodes
+
+-- the file's text has this fault, its first
+pub record HasFault (known : Option (List ℕ)) (error : IniError) : Type 0 where
+  pub text : List ℕ
+  pub held : Holds known text
+  pub refused : settings_of text ≡ Err error
+
+-- this file has this fault, and each file before it says what a node is
+pub record IsFirstFault (folder : Folder) (files : List (List ℕ)) (file : List ℕ) (error : IniError) : Type 0 where
+  pub before : List (List ℕ)
+  pub after : List (List ℕ)
+  pub place : files ≡ before ++ file ∷ after
+  pub nodes : List NodeSettings
+  pub said : SayInOrder folder before nodes
+  pub fault : HasFault (folder file) error
+
+-- why the nodes are no group: the first of these that applies
+abbrev pub IsGroupFault : List NodeSettings → GroupError → Type 0
+IsGroupFault nodes NoPeering = ¬ AllPeer nodes
+IsGroupFault nodes SamePeer = AllPeer nodes × ¬ PeersDiffer nodes
+IsGroupFault nodes MissingPeer = AllPeer nodes × PeersDiffer nodes × ¬ AllListed nodes
+IsGroupFault nodes Memory = ⊥
+
+-- each file says what a node is, and the nodes are no group
+pub record MakeNoGroup (folder : Folder) (files : List (List ℕ)) (error : GroupError) : Type 0 where
+  pub nodes : List NodeSettings
+  pub said : SayInOrder folder files nodes
+  pub fault : IsGroupFault nodes error
+
+-- The fault names this file and this error, unless there was no memory for the name.
+abbrev pub Names : List ℕ → IniError → Fault → Type 0
+Names name refused (told.InFile file error) = (string_bytes file ≡ name) × (error ≡ refused)
+Names name refused told.Memory = ⊤
+Names name refused fault = ⊥
+
+-- The fault says that a file can't be read, or that memory ran out.
+abbrev pub IsUnread : Fault → Type 0
+IsUnread (told.File text) = ⊤
+IsUnread told.Memory = ⊤
+IsUnread fault = ⊥
+
+-- A fault is told of the file with this name: its own first, or that it can't be read, or that memory ran out.
+abbrev pub IsFileFault : Option (List ℕ) → List ℕ → Fault → Type 0
+IsFileFault known name (told.InFile file error) = (string_bytes file ≡ name) × (IsMemory error ⊎ HasFault known error)
+IsFileFault known name (told.File text) = ⊤
+IsFileFault known name told.Memory = ⊤
+IsFileFault known name fault = ⊥
+
+-- A fault is told of files: the first of a file, or else of the group, or that a file can't be read, or that memory
+-- ran out.
+abbrev pub IsFault : Folder → List (List ℕ) → Fault → Type 0
+IsFault folder files (told.InFile file error) = IsMemory error ⊎ IsFirstFault folder files (string_bytes file) error
+IsFault folder files (told.OfGroup error) = (error ≡ Memory) ⊎ MakeNoGroup folder files error
+IsFault folder files (told.File text) = ⊤
+IsFault folder files told.Memory = ⊤
+IsFault folder files fault = ⊥
