@@ -11,7 +11,6 @@ use Rattle.ini_config.specs.declared.fault.GroupError.TheVariants.{SamePeer, Mis
 use Rattle.pgpeer.specs.declared.fault.Fault.{Fault}
 use Rattle.pgpeer.specs.declared.fault.Fault.TheVariants as told
 use Rattle.pgpeer.specs.Files.{Folder, Says, SayInOrder, HasFault, IsFirstFault, IsGroupFault, MakeNoGroup, IsFileFault, IsFault}
-
 use Rattle.std.specs.Result.{IfErr, IsErrAnd}
 
 -- `?` passes a refusal on as it is

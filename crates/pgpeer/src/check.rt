@@ -32,11 +32,7 @@ fn group_line(alloc: Global, count: usize) -> Result<String, Fault>
 }
 
 // The settings that the files say, in order.
-fn settings_of<O: Opener>(
-    alloc: Global,
-    opener: &O,
-    files: &[&str],
-) -> Result<Vec<Settings>, Fault>
+fn settings_of<O: Opener>(alloc: Global, opener: &O, files: &[&str]) -> Result<Vec<Settings>, Fault>
     ensures said { IfOk result (λ nodes. SayInOrder (O.text opener.now) (map (λ file. file.now) files.now) nodes.items) }
     ensures refused { IfErr result (λ fault. IsFault (O.text opener.now) (map (λ file. file.now) files.now) fault) }
 {
@@ -51,11 +47,7 @@ fn settings_of<O: Opener>(
 }
 
 // The settings that the file says.
-fn node_of<O: Opener>(
-    alloc: Global,
-    opener: &O,
-    file: &str,
-) -> Result<Settings, Fault>
+fn node_of<O: Opener>(alloc: Global, opener: &O, file: &str) -> Result<Settings, Fault>
     ensures said { IfOk result (λ node. Says (O.text opener.now file.now) node) }
     ensures refused { IfErr result (λ fault. IsFileFault (O.text opener.now file.now) file.now fault) }
 {
@@ -67,11 +59,7 @@ fn node_of<O: Opener>(
 }
 
 // What the file holds.
-fn text_of<O: Opener>(
-    alloc: Global,
-    opener: &O,
-    file: &str,
-) -> Result<String, Fault>
+fn text_of<O: Opener>(alloc: Global, opener: &O, file: &str) -> Result<String, Fault>
     ensures held { IfOk result (λ text. Holds (O.text opener.now file.now) (string_bytes text)) }
     ensures refused { IfErr result (λ fault. IsFileFault (O.text opener.now file.now) file.now fault) }
 {

@@ -1,4 +1,9 @@
 //! What the program answers to words, line by line.
+ghost use Rattle.std.specs.Prelude.{◌≡◌};
+ghost use Rattle.std.specs.List.{find};
+ghost use Rattle.std.specs.Option.{option_copied};
+ghost use Rattle.std.specs.Str.{bytes_eq};
+
 use crate::answer::answer;
 use crate::opener::Opener;
 use std::alloc::Global;
@@ -6,9 +11,19 @@ use std::io::{self, Read};
 use std::sync::Wait;
 use std::test::Fail;
 
-// Files by their names: what each holds, and whether reading it fails at its end.
+// A file: its name, what it holds, and whether reading it fails at its end.
+#[derive(Clone, Copy)]
+struct TextFile {
+    name: &'static str,
+    text: &'static [u8],
+    fails: bool,
+}
+
+// Files over memory, which tell what they hold.
 #[derive(Drop)]
-struct Files;
+struct Files<'a> {
+    entries: &'a [TextFile],
+}
 
 const SMALL: &str =
     "[pgbouncer]\npool_mode = transaction\nauth_type = trust\nlisten_addr = 127.0.0.1\nlisten_port = 7001\npeer_id = 1\n[databases]\nshop = host=127.0.0.1 port=7100 user=app pool_size=2\n[peers]\n2 = host=127.0.0.1 port=7002\n";
@@ -33,6 +48,10 @@ struct Text {
 }
 
 impl Read for Text {
+    ghost use Rattle.std.specs.Prelude.{Some};
+
+    ghost remaining = { λ text. Some text.left.now };
+
     fn read(&mut self, buf: &mut [u8]) -> io::Result<usize> {
         if self.left.is_empty() && self.fails {
             return Err(io::Error::from(io::ErrorKind::ConnectionReset));
@@ -41,24 +60,38 @@ impl Read for Text {
     }
 }
 
-impl Opener for Files {
+impl Opener for Files<'_> {
     type Reader = Text;
 
+    ghost use Rattle.std.specs.List.{find};
+    ghost use Rattle.std.specs.Option.{option_map};
+    ghost use Rattle.std.specs.Str.{bytes_eq};
+
+    ghost text = { λ files name. option_map (λ entry. entry.text.now) (find (λ entry. bytes_eq entry.name.now name) files.entries.now) };
+
     fn open(&self, name: &str) -> io::Result<Text> {
-        let left: &'static [u8] = match name {
-            "small" | "broken" => SMALL.as_bytes(),
-            "two" => TWO.as_bytes(),
-            "two_alone" => TWO_ALONE.as_bytes(),
-            "zero" => ZERO.as_bytes(),
-            "large" => LARGE_NUMBER.as_bytes(),
-            "empty" => b"",
-            "latin" => b"[pgbouncer]\n# caf\xe9\n",
-            _ => return Err(io::Error::from(io::ErrorKind::NotFound)),
-        };
-        Ok(Text {
-            left,
-            fails: name == "broken",
-        })
+        match found(self.entries, name) {
+            Some(entry) => Ok(Text {
+                left: entry.text,
+                fails: entry.fails,
+            }),
+            None => Err(io::Error::from(io::ErrorKind::NotFound)),
+        }
+    }
+}
+
+// The first file with this name.
+fn found<'a>(entries: &'a [TextFile], name: &str) -> Option<&'a TextFile>
+    ensures { option_copied result ≡ find (λ entry. bytes_eq entry.name.now name.now) entries.now }
+{
+    entries.iter().find(|entry| entry.name == name)
+}
+
+fn whole_file(name: &'static str, text: &'static [u8]) -> TextFile {
+    TextFile {
+        name,
+        text,
+        fails: false,
     }
 }
 
@@ -66,7 +99,22 @@ impl Opener for Files {
 fn answered<R: Wait>(rt: &R, alloc: Global, words: &[&str]) -> (u8, Vec<u8>, Vec<u8>) {
     let mut out = Vec::new(alloc);
     let mut err = Vec::new(alloc);
-    let status = answer(rt, alloc, words, &Files, &mut out, &mut err);
+    let entries = [
+        whole_file("small", SMALL.as_bytes()),
+        whole_file("two", TWO.as_bytes()),
+        whole_file("two_alone", TWO_ALONE.as_bytes()),
+        whole_file("zero", ZERO.as_bytes()),
+        whole_file("large", LARGE_NUMBER.as_bytes()),
+        whole_file("empty", b""),
+        whole_file("latin", b"[pgbouncer]\n# caf\xe9\n"),
+        TextFile {
+            name: "broken",
+            text: SMALL.as_bytes(),
+            fails: true,
+        },
+    ];
+    let files = Files { entries: &entries };
+    let status = answer(rt, alloc, words, &files, &mut out, &mut err);
     (status, out, err)
 }
 
