@@ -10,7 +10,7 @@ use Rattle.ini_config.specs.declared.fault.GroupError.{GroupError}
 use Rattle.ini_config.specs.declared.fault.GroupError.TheVariants.{SamePeer, MissingPeer, NoPeering, Memory}
 use Rattle.pgpeer.specs.declared.fault.Fault.{Fault}
 use Rattle.pgpeer.specs.declared.fault.Fault.TheVariants as told
-use Rattle.pgpeer.specs.Files.{Folder, Says, SayInOrder, HasFault, IsFirstFault, IsGroupFault, MakeNoGroup, IsFileFault, IsFault}
+use Rattle.pgpeer.specs.Files.{Folder, Says, SayInOrder, HasFault, IsFirstFault, MakeNoGroup, IsFileFault, IsFault}
 use Rattle.std.specs.Result.{IfErr, IsErrAnd}
 
 -- `?` passes a refusal on as it is
