@@ -1,0 +1,9 @@
+pub mod Places
+pub mod Stacking
+pub mod Clients
+pub mod Changes
+pub mod Whole
+pub mod Handing
+pub mod Queues
+pub mod Asking
+pub mod NewLinks

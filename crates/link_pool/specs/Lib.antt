@@ -1,0 +1,9 @@
+pub mod Pool
+pub mod OnePlace
+pub mod PoolStep
+pub mod DatabaseStep
+pub mod Stacks
+pub mod Parts
+pub mod PoolOf
+pub mod Streams
+pub mod Stored

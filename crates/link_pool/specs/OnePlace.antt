@@ -1,0 +1,140 @@
+-- What is true of every node's links (own): each is in one place, and each client has one thing at most.
+use Rattle.std.specs.Prelude.{ℕ, ◌≡◌, ◌==◌, ◌&&◌, ◌+◌, ◌<◌, ◌≤◌, ◌^◌, Bool, false, List, [], ◌∷◌, Option, Some, None, length, slice_get, if◌then◌else◌}
+use Rattle.lease.specs.declared.link_place.LinkPlace.{LinkPlace}
+use Rattle.lease.specs.declared.permit.PermitRecord.{PermitRecord}
+use Rattle.quarantine.specs.OpenTickets.{OpenTickets}
+use Rattle.link_pool.specs.declared.place.Place.{Place}
+use Rattle.link_pool.specs.declared.place.Place.TheVariants as place
+use Rattle.link_pool.specs.declared.place.Link.{Link}
+use Rattle.link_pool.specs.declared.place.LinkState.{LinkState}
+use Rattle.link_pool.specs.declared.place.LinkState.TheVariants as state
+use Rattle.link_pool.specs.declared.place.Claim.{Claim}
+use Rattle.link_pool.specs.declared.place.Claim.TheVariants as claim
+use Rattle.link_pool.specs.Pool.{DatabasePool, PoolView, place_at, queue_at}
+
+-- whether both are one place
+abbrev pub same_place : LinkPlace → LinkPlace → Bool
+same_place a b = (a.database == b.database) && (a.index == b.index)
+
+-- whether a client has the link of this place
+abbrev pub has_link : LinkPlace → Option Claim → Bool
+has_link at None = false
+has_link at (Some claim.Nothing) = false
+has_link at (Some (claim.Waiting database)) = false
+has_link at (Some (claim.Open other)) = false
+has_link at (Some (claim.Link other)) = same_place other at
+
+-- whether a client has the permit of this place
+abbrev pub has_permit : LinkPlace → Option Claim → Bool
+has_permit at None = false
+has_permit at (Some claim.Nothing) = false
+has_permit at (Some (claim.Waiting database)) = false
+has_permit at (Some (claim.Open other)) = same_place other at
+has_permit at (Some (claim.Link other)) = false
+
+-- how often a client's claim says that it waits for the database
+abbrev pub waits : ℕ → Option Claim → ℕ
+waits database None = 0
+waits database (Some claim.Nothing) = 0
+waits database (Some (claim.Waiting other)) = if other == database then 1 else 0
+waits database (Some (claim.Open at)) = 0
+waits database (Some (claim.Link at)) = 0
+
+-- whether a link is with the client of this slot
+abbrev pub is_with : ℕ → LinkState → Bool
+is_with slot state.Idle = false
+is_with slot (state.Held other) = other == slot
+is_with slot state.Quarantined = false
+
+-- whether the link of a place is held by the client of this slot
+abbrev pub held_by : ℕ → Option Place → Bool
+held_by slot None = false
+held_by slot (Some place.Free) = false
+held_by slot (Some (place.Open permit other)) = false
+held_by slot (Some (place.Link link)) = is_with slot link.state
+
+-- whether a place is kept for the client of this slot
+abbrev pub open_for : ℕ → Option Place → Bool
+open_for slot None = false
+open_for slot (Some place.Free) = false
+open_for slot (Some (place.Open permit other)) = other == slot
+open_for slot (Some (place.Link link)) = false
+
+-- how often a slot stands in a queue
+abbrev pub times : ℕ → List ℕ → ℕ
+times slot [] = 0
+times slot (first ∷ rest) = (if first == slot then 1 else 0) + times slot rest
+
+-- an idle link has no open ticket and isn't condemned; a quarantined one has an open ticket and isn't condemned
+abbrev pub StateFits : LinkState → OpenTickets → Type 0
+StateFits state.Idle hold = (hold.tickets ≡ 0) × (hold.condemned ≡ false)
+StateFits (state.Held slot) hold = Unit {0}
+StateFits state.Quarantined hold = (0 < hold.tickets) × (hold.condemned ≡ false)
+
+-- a link says its node, its incarnation and its place, and its number was given
+pub record LinkFits (v : PoolView) (at : LinkPlace) (link : Link) : Type 0 where
+  pub says : link.details ≡ record { peer = v.peer; incarnation = v.incarnation; link = link.details.link; at = at }
+  pub given : link.details.link < v.next_link
+  pub tickets : link.hold.tickets ≤ 65535
+  pub state : StateFits link.state link.hold
+
+-- a permit likewise
+pub record PermitFits (v : PoolView) (at : LinkPlace) (permit : PermitRecord) : Type 0 where
+  pub says : permit ≡ record { peer = v.peer; incarnation = v.incarnation; number = permit.number; at = at }
+  pub given : permit.number < v.next_permit
+
+-- what stands at a place says so
+abbrev pub Fits : PoolView → LinkPlace → Option Place → Type 0
+Fits v at None = Unit {0}
+Fits v at (Some place.Free) = Unit {0}
+Fits v at (Some (place.Open permit slot)) = PermitFits v at permit
+Fits v at (Some (place.Link link)) = LinkFits v at link
+
+-- the number of the link of a place, and of its permit
+abbrev pub link_number : Option Place → Option ℕ
+link_number None = None
+link_number (Some place.Free) = None
+link_number (Some (place.Open permit slot)) = None
+link_number (Some (place.Link link)) = Some link.details.link
+
+abbrev pub permit_number : Option Place → Option ℕ
+permit_number None = None
+permit_number (Some place.Free) = None
+permit_number (Some (place.Open permit slot)) = Some permit.number
+permit_number (Some (place.Link link)) = None
+
+-- how many places have a link or a permit
+abbrev pub used : List Place → ℕ
+used [] = 0
+used (place.Free ∷ places) = used places
+used (place.Open permit slot ∷ places) = 1 + used places
+used (place.Link link ∷ places) = 1 + used places
+
+-- how many claims say that their client waits for the database
+abbrev pub waiting_claims : ℕ → List Claim → ℕ
+waiting_claims database [] = 0
+waiting_claims database (claim ∷ claims) = waits database (Some claim) + waiting_claims database claims
+
+-- links and permits of a database are at most its pool size; as many wait as clients say that they wait; each
+-- client may wait
+abbrev pub HasRoom : List Claim → ℕ → Option DatabasePool → Type 0
+HasRoom claims database None = Unit {0}
+HasRoom claims database (Some pool) = (used pool.places ≤ length pool.places) × (length pool.waiting ≡ waiting_claims database claims) × (pool.room ≡ length claims)
+
+-- what is true of every node's pools
+pub record IsPool (v : PoolView) : Type 0 where
+  -- what stands at a place says its node, incarnation and place, with a number that was given
+  pub fits : (at : LinkPlace) → Fits v at (place_at v at)
+  -- a client has a link exactly where that link is held by it
+  pub links : (slot : ℕ) (at : LinkPlace) → has_link at (slice_get v.claims slot) ≡ held_by slot (place_at v at)
+  -- a client has a permit exactly where its place is kept for it
+  pub permits : (slot : ℕ) (at : LinkPlace) → has_permit at (slice_get v.claims slot) ≡ open_for slot (place_at v at)
+  -- a client waits exactly where it stands in that queue, and it stands there once
+  pub queues : (slot database : ℕ) → waits database (slice_get v.claims slot) ≡ times slot (queue_at v database)
+  -- no two links have one number, and no two permits
+  pub link_once : (at other : LinkPlace) (number : ℕ) → link_number (place_at v at) ≡ Some number → link_number (place_at v other) ≡ Some number → at ≡ other
+  pub permit_once : (at other : LinkPlace) (number : ℕ) → permit_number (place_at v at) ≡ Some number → permit_number (place_at v other) ≡ Some number → at ≡ other
+  -- the numbers that are left
+  pub numbers : (v.next_link ≤ 2 ^ 64) × (v.next_permit ≤ 2 ^ 64) × (v.next_ticket ≤ 2 ^ 64) × (v.incarnation < 2 ^ 64)
+  -- links and permits are at most as many as the pool size, and each client may wait
+  pub rooms : (database : ℕ) → HasRoom v.claims database (slice_get v.pools database)

@@ -1,0 +1,89 @@
+-- The links of a node's view (own; PgBouncer manual, `pool_size`).
+use Rattle.std.specs.Prelude.{ℕ, zero, suc, ◌==◌, ◌++◌, List, [], ◌∷◌, Option, Some, None, slice_get, slice_set, if◌then◌else◌}
+use Rattle.lease.specs.declared.link_place.LinkPlace.{LinkPlace}
+use Rattle.link_pool.specs.declared.place.Place.{Place}
+use Rattle.link_pool.specs.declared.place.Claim.{Claim}
+use Rattle.link_pool.specs.declared.place.Claim.TheVariants as claim
+
+-- The pool of one database: its places, as many as its pool size; the slots that wait, in order; how many
+-- may wait at once.
+pub record DatabasePool : Type 0 where
+  pub places : List Place
+  pub waiting : List ℕ
+  pub room : ℕ
+
+-- The pools of a node: its number and incarnation; the pool of each database; by slot what its client has;
+-- the numbers that are given next.
+pub record PoolView : Type 0 where
+  pub peer : ℕ
+  pub incarnation : ℕ
+  pub pools : List DatabasePool
+  pub claims : List Claim
+  pub next_link : ℕ
+  pub next_permit : ℕ
+  pub next_ticket : ℕ
+
+-- what stands at a place of a pool, where there is such a place
+abbrev pub place_in : Option DatabasePool → ℕ → Option Place
+place_in None index = None
+place_in (Some pool) index = slice_get pool.places index
+
+-- what stands at a place, where there is such a place
+abbrev pub place_at : PoolView → LinkPlace → Option Place
+place_at v at = place_in (slice_get v.pools at.database) at.index
+
+-- the slots that wait in a pool
+abbrev pub queue_in : Option DatabasePool → List ℕ
+queue_in None = []
+queue_in (Some pool) = pool.waiting
+
+-- the slots that wait for a database, in order
+abbrev pub queue_at : PoolView → ℕ → List ℕ
+queue_at v database = queue_in (slice_get v.pools database)
+
+-- the pools with the one of this database changed
+abbrev pub changed : List DatabasePool → ℕ → (DatabasePool → DatabasePool) → List DatabasePool
+changed [] database change = []
+changed (pool ∷ pools) zero change = change pool ∷ pools
+changed (pool ∷ pools) (suc database) change = pool ∷ changed pools database change
+
+-- the view with this at this place
+abbrev pub with_place : PoolView → LinkPlace → Place → PoolView
+with_place v at place = record v { pools = changed v.pools at.database (λ pool. record pool { places = slice_set pool.places at.index place }) }
+
+-- the view with this queue for the database
+abbrev pub with_queue : PoolView → ℕ → (List ℕ → List ℕ) → PoolView
+with_queue v database change = record v { pools = changed v.pools database (λ pool. record pool { waiting = change pool.waiting }) }
+
+-- the view with this for the client of the slot
+abbrev pub with_claim : PoolView → ℕ → Claim → PoolView
+with_claim v slot claim = record v { claims = slice_set v.claims slot claim }
+
+-- the others that wait, in order
+abbrev pub others : ℕ → List ℕ → List ℕ
+others slot [] = []
+others slot (first ∷ rest) = if first == slot then rest else first ∷ others slot rest
+
+-- the view with the slot out of the queue, by what its client has
+abbrev pub out_of_queue : Option Claim → PoolView → ℕ → PoolView
+out_of_queue None v slot = v
+out_of_queue (Some claim.Nothing) v slot = v
+out_of_queue (Some (claim.Waiting database)) v slot = with_claim (with_queue v database (others slot)) slot claim.Nothing
+out_of_queue (Some (claim.Open at)) v slot = v
+out_of_queue (Some (claim.Link at)) v slot = v
+
+-- the view with the slot out of the queue
+abbrev pub unqueued : PoolView → ℕ → PoolView
+unqueued v slot = out_of_queue (slice_get v.claims slot) v slot
+
+-- the view with the slot in the queue: last, or left in its place, by what its client has
+abbrev pub in_queue : Option Claim → PoolView → ℕ → ℕ → PoolView
+in_queue (Some (claim.Waiting already)) v slot database = v
+in_queue None v slot database = v
+in_queue (Some claim.Nothing) v slot database = with_claim (with_queue v database (λ waiting. waiting ++ slot ∷ [])) slot (claim.Waiting database)
+in_queue (Some (claim.Open at)) v slot database = v
+in_queue (Some (claim.Link at)) v slot database = v
+
+-- the view with the slot in the queue of the database
+abbrev pub queued : PoolView → ℕ → ℕ → PoolView
+queued v slot database = in_queue (slice_get v.claims slot) v slot database

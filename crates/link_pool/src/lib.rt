@@ -1,0 +1,21 @@
+//! The links of one pooler to its servers: who has which, who waits for one, and which cancel requests for
+//! them are still on their way.
+#![tactic(auto)]
+
+mod database_links;
+mod kept;
+mod next_number;
+mod place;
+mod pool;
+mod replies;
+
+pub use next_number::NextNumber;
+pub use place::{Claim, Link, LinkState, Place};
+pub use pool::Pool;
+pub use replies::{
+    AcquireReply, CloseReply, EndedReply, FailedReply, LeaveReply, ReleaseReply, RestartReply,
+    ServeReply, UpFailedReply, UpReply,
+};
+
+#[cfg(test)]
+mod tests;

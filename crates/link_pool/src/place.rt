@@ -1,0 +1,123 @@
+//! What stands in a place of a pool, and what a client has there.
+ghost use Rattle.std.specs.Prelude.{◌≡◌, ◌≢◌, ℕ, true, false, Some, IfSome, IfNone};
+ghost use Rattle.lease.specs.declared.link_place.LinkPlace.{LinkPlace as LinkPlaceOf};
+ghost use Rattle.link_pool.specs.declared.place.Claim.TheVariants as claim;
+ghost use Rattle.link_pool.specs.PoolStep.{is_holding};
+ghost use Rattle.link_pool.specs.declared.place.LinkState.TheVariants as state;
+
+use lease::{LinkPlace, LinkRecord, PermitRecord};
+use pg_ids::{DatabaseNo, ServerKey, SlotNo};
+use quarantine::Hold;
+
+/// Where a link is.
+#[derive(Clone, Copy, Debug, PartialEq, Eq)]
+pub enum LinkState {
+    /// Free for any client of its database.
+    Idle,
+    /// With the client of this slot.
+    Held(SlotNo),
+    /// Given back while a cancel request for it was on its way.
+    Quarantined,
+}
+
+/// An open link.
+#[derive(Clone, Copy, Debug, PartialEq, Eq)]
+pub struct Link {
+    /// What its lease says: node, incarnation, number and place.
+    pub details: LinkRecord,
+    /// The key by which its server cancels.
+    pub key: ServerKey,
+    /// Where it is.
+    pub state: LinkState,
+    /// How many of its tickets are open, and whether one failed.
+    pub hold: Hold,
+}
+
+impl Link {
+    /// The place of the link.
+    pub fn at(&self) -> LinkPlace
+        ensures { result ≡ self.now.details.at }
+    {
+        self.details.at
+    }
+
+    /// The slot of the client that has the link, if one has.
+    pub fn holder(&self) -> Option<SlotNo>
+        ensures held { IfSome result (λ slot. self.now.state ≡ state.Held slot) }
+        ensures not_held { IfNone result ((slot : ℕ) → self.now.state ≢ state.Held slot) }
+    {
+        match self.state {
+            LinkState::Held(slot) => Some(slot),
+            LinkState::Idle | LinkState::Quarantined => None,
+        }
+    }
+
+    /// Whether the link waits for cancel requests.
+    pub fn is_quarantined(&self) -> bool
+        ensures yes { result ≡ true → self.now.state ≡ state.Quarantined }
+        ensures no { result ≡ false → self.now.state ≢ state.Quarantined }
+    {
+        match self.state {
+            LinkState::Quarantined => true,
+            LinkState::Idle | LinkState::Held(_) => false,
+        }
+    }
+}
+
+/// A place of a pool.
+#[derive(Clone, Copy, Debug, PartialEq, Eq)]
+pub enum Place {
+    /// Nothing is there.
+    Free,
+    /// It is kept for the link that the client of this slot opens by this permit.
+    Open(PermitRecord, SlotNo),
+    /// A link is there.
+    Link(Link),
+}
+
+/// What the client of a slot has of the pools: one of these at most.
+#[derive(Clone, Copy, Debug, PartialEq, Eq)]
+pub enum Claim {
+    /// Nothing.
+    Nothing,
+    /// A place in the queue of this database.
+    Waiting(DatabaseNo),
+    /// A permit for the link of this place.
+    Open(LinkPlace),
+    /// The link of this place.
+    Link(LinkPlace),
+}
+
+impl Claim {
+    /// The database for which the client waits, if it does.
+    pub fn waiting(&self) -> Option<DatabaseNo>
+        ensures waiting { IfSome result (λ database. self.now ≡ claim.Waiting database) }
+        ensures not_waiting { IfNone result ((database : ℕ) → self.now ≢ claim.Waiting database) }
+    {
+        match self {
+            Claim::Waiting(database) => Some(*database),
+            Claim::Nothing | Claim::Open(_) | Claim::Link(_) => None,
+        }
+    }
+
+    /// Whether the client has a link or a permit.
+    pub fn is_holding(&self) -> bool
+        ensures { result ≡ is_holding (Some self.now) }
+    {
+        match self {
+            Claim::Open(_) | Claim::Link(_) => true,
+            Claim::Nothing | Claim::Waiting(_) => false,
+        }
+    }
+
+    /// The place of the link that the client has, if it has one.
+    pub fn link(&self) -> Option<LinkPlace>
+        ensures link { IfSome result (λ at. self.now ≡ claim.Link at) }
+        ensures no_link { IfNone result ((at : LinkPlaceOf) → self.now ≢ claim.Link at) }
+    {
+        match self {
+            Claim::Link(at) => Some(*at),
+            Claim::Nothing | Claim::Waiting(_) | Claim::Open(_) => None,
+        }
+    }
+}
