@@ -1,6 +1,7 @@
 //! The table: a secret for each live slot, and the free slots, of which the last is given next.
-ghost use Rattle.std.specs.Prelude.{◌≡◌, ◌≤◌, ◌↔◌, Option, None, Some, IsErr, IfOk, OnErr, replicate, if◌then◌else◌};
+ghost use Rattle.std.specs.Prelude.{◌≡◌, ◌≤◌, ◌↔◌, Option, None, Some, IsErr, IfOk, OnErr, [], length, replicate, vec_capacity, if◌then◌else◌};
 ghost use Rattle.key_table.specs.Slots.{Slots, names, IsNext, IsFree, IsLive, Issues, Frees};
+ghost use Rattle.key_table.specs.FreeList.{IsFreeList};
 
 use crate::refusal::Full;
 use pg_ids::{ClientKey, Hops, PeerNo, Secret, SlotNo};
@@ -38,9 +39,7 @@ impl KeyTable {
     {
         let secrets = vec![in alloc; None; limit as usize]?;
         let mut free = Vec::with_capacity(alloc, limit as usize)?;
-        for slot in (0..limit).rev() {
-            free.push_reserved(SlotNo(slot as u16));
-        }
+        list_all(&mut free, limit);
         Ok(KeyTable {
             peer,
             secrets,
@@ -94,5 +93,30 @@ impl KeyTable {
     {
         self.secrets[slot.get() as usize] = None;
         self.free.push_reserved(slot);
+    }
+
+    /// Each slot is free again, as in a new table. It takes no memory.
+    pub fn clear(&mut self)
+        ensures peer { self.new.peer ≡ self.old.peer }
+        ensures free { self.new.secrets ≡ replicate (length self.old.secrets) None }
+        ensures next { IsNext self.new.secrets self.new.next }
+    {
+        let limit = self.secrets.len() as u32;
+        self.secrets.fill(None);
+        self.free.clear();
+        list_all(&mut self.free, limit);
+    }
+}
+
+// Lists so many slots as free, the last one first.
+fn list_all(free: &mut Vec<SlotNo>, limit: u32)
+    requires none { free.old.items ≡ [] }
+    requires room { limit ≤ vec_capacity free.old }
+    requires within { limit ≤ 65536 }
+    ensures listed { IsFreeList (replicate limit None) free.new.items }
+    ensures capacity { vec_capacity free.new ≡ vec_capacity free.old }
+{
+    for slot in (0..limit).rev() {
+        free.push_reserved(SlotNo(slot as u16));
     }
 }

@@ -32,6 +32,21 @@ fn logins(rt: HostRuntime) -> Result<(), Fail> {
 }
 
 #[test]
+fn cleared(rt: HostRuntime) -> Result<(), Fail> {
+    let peer = PeerNo::new(2).ok_or("no peer 2")?;
+    let mut table = KeyTable::new(rt.alloc(), peer, 3)?;
+    let first = table.issue(Secret(1))?;
+    let second = table.issue(Secret(5))?;
+    table.clear();
+    assert_eq!(rt; table.find(&first), None);
+    assert_eq!(rt; table.find(&second), None);
+    assert_eq!(rt; table.issue(Secret(2))?.slot, SlotNo(0));
+    assert_eq!(rt; table.issue(Secret(3))?.slot, SlotNo(1));
+    assert_eq!(rt; table.next_slot(), Some(SlotNo(2)));
+    Ok(())
+}
+
+#[test]
 fn retired(rt: HostRuntime) -> Result<(), Fail> {
     let peer = PeerNo::new(0).ok_or("no peer 0")?;
     let mut table = KeyTable::new(rt.alloc(), peer, 1)?;

@@ -4,6 +4,7 @@ pub mod PoolStep
 pub mod DatabaseStep
 pub mod Stacks
 pub mod Parts
+pub mod Said
 pub mod PoolOf
 pub mod Streams
 pub mod Stored

@@ -104,6 +104,8 @@ AcquireStep old slot database acquire.Waiting new =
 AcquireStep old slot database acquire.Holding new = (is_holding (slice_get old.claims slot) ≡ true) × (new ≡ old)
 -- the step would need a number past the last
 AcquireStep old slot database acquire.Exhausted new = MayTake old slot database true × NoIdle old database × SomeFree old database × (old.next_permit ≡ 2 ^ 64) × (new ≡ old)
+-- its pass is judged by the node
+AcquireStep old slot database acquire.Stale new = ⊥
 
 -- the place that a permit names is kept for this very permit, and for the client of this slot
 abbrev pub IsOpen : PoolView → PermitRecord → ℕ → Type 0
@@ -126,11 +128,15 @@ abbrev pub UpStep : {S : Type 0} → PoolView → PermitRecord → List ℕ → 
 UpStep old permit key (up.Up lease) new = GoesUp old permit key lease new
 UpStep old permit key (up.Exhausted again stream) new = (again ≡ permit) × ((slot : ℕ) × IsOpen old permit slot) × (old.next_link ≡ 2 ^ 64) × (new ≡ old)
 UpStep old permit key (up.Stale stream) new = StalePermit old permit × (new ≡ old)
+-- the pools come to no end
+UpStep old permit key (up.AtEnd stream) new = ⊥
 
 -- a link couldn't be opened
 abbrev pub UpFailedStep : PoolView → PermitRecord → UpFailedReply → PoolView → Type 0
 UpFailedStep old permit failing.Freed new = (slot : ℕ) × IsOpen old permit slot × (new ≡ with_claim (with_place old permit.at place.Free) slot claim.Nothing)
 UpFailedStep old permit failing.Stale new = StalePermit old permit × (new ≡ old)
+-- no number is needed
+UpFailedStep old permit failing.Exhausted new = ⊥
 
 -- the link that a lease names is at its place, and with the client of this slot
 pub record IsHeld (v : PoolView) (lease : LinkRecord) (link : Link) (slot : ℕ) : Type 0 where
@@ -151,11 +157,15 @@ ReleaseStep old lease release.Quarantined new = (link : Link) × (slot : ℕ) ×
 ReleaseStep old lease (release.Closed stream) new = (link : Link) × (slot : ℕ) × IsHeld old lease link slot × (link.hold.condemned ≡ true)
     × (new ≡ with_claim (with_place old lease.at place.Free) slot claim.Nothing)
 ReleaseStep old lease (release.Stale stream) new = StaleLease old lease × (new ≡ old)
+-- no number is needed
+ReleaseStep old lease (release.Exhausted stream) new = ⊥
 
 -- a link is closed
 abbrev pub CloseStep : {S : Type 0} → PoolView → LinkRecord → CloseReply S → PoolView → Type 0
 CloseStep old lease (close.Closed stream) new = (link : Link) × (slot : ℕ) × IsHeld old lease link slot × (new ≡ with_claim (with_place old lease.at place.Free) slot claim.Nothing)
 CloseStep old lease (close.Stale stream) new = StaleLease old lease × (new ≡ old)
+-- no number is needed
+CloseStep old lease (close.Exhausted stream) new = ⊥
 
 -- the client of a slot leaves
 abbrev pub LeaveStep : PoolView → ℕ → LeaveReply → PoolView → Type 0
@@ -216,6 +226,8 @@ EndedStep old ticket ended.Freed new = (link : Link) × IsTicket old ticket link
 EndedStep old ticket ended.Counted new = (link : Link) × IsTicket old ticket link × ((link.state ≢ state.Quarantined) ⊎ (1 < link.hold.tickets))
     × (new ≡ with_place old ticket.at (place.Link (with_hold link (one_less link.hold))))
 EndedStep old ticket ended.Stale new = StaleTicket old ticket × (new ≡ old)
+-- no number is needed
+EndedStep old ticket ended.Exhausted new = ⊥
 
 -- a cancel request hasn't ended cleanly
 abbrev pub FailedStep : {S : Type 0} → PoolView → TicketRecord → FailedReply S → PoolView → Type 0
@@ -223,6 +235,8 @@ FailedStep old ticket failed.Condemned new = (link : Link) × (slot : ℕ) × Is
     × (new ≡ with_place old ticket.at (place.Link (with_hold link (one_failed link.hold))))
 FailedStep old ticket (failed.Closed stream) new = (link : Link) × IsTicket old ticket link × (link.state ≡ state.Quarantined) × (new ≡ with_place old ticket.at place.Free)
 FailedStep old ticket failed.Stale new = StaleTicket old ticket × (new ≡ old)
+-- no number is needed
+FailedStep old ticket failed.Exhausted new = ⊥
 
 -- pools in which nothing is, and for which nobody waits
 abbrev pub emptied : List DatabasePool → List DatabasePool

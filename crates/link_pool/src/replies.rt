@@ -1,4 +1,6 @@
-//! What each step answers. `L` is a lease, `P` a permit, `T` a ticket, or what these say; `S` is a stream.
+//! What each step answers. `L` is a lease, `P` a permit, `T` a ticket, or what these say; `S` is a stream, or `()`
+//! where only the answer is told. Of some answers each says that they are its node's, or those of who makes the
+//! call there: the pools alone don't give them.
 use pg_ids::{DatabaseNo, ServerKey};
 
 /// What asking for a link answers.
@@ -12,8 +14,10 @@ pub enum AcquireReply<L, P> {
     Waiting,
     /// The client has a link or a permit, so nothing changes.
     Holding,
-    /// No number is left for a permit, so nothing changes.
+    /// No number is left for a permit, or for a step (its node's), so nothing changes.
     Exhausted,
+    /// The client's pass is stale, so nothing changes (its node's).
+    Stale,
 }
 
 /// What the report that a link is open answers.
@@ -25,6 +29,8 @@ pub enum UpReply<L, P, S> {
     Exhausted(P, S),
     /// The permit is no longer open, so nothing changes.
     Stale(S),
+    /// No number is left for a step, so nothing changes, and the permit is spent (its node's).
+    AtEnd(S),
 }
 
 /// What the report that a link couldn't be opened answers.
@@ -34,6 +40,8 @@ pub enum UpFailedReply {
     Freed,
     /// The permit is no longer open, so nothing changes.
     Stale,
+    /// No number is left for a step, so nothing changes, and the permit is spent (its node's).
+    Exhausted,
 }
 
 /// What giving a link back answers.
@@ -47,6 +55,8 @@ pub enum ReleaseReply<S> {
     Closed(S),
     /// The lease is stale, so nothing changes.
     Stale(S),
+    /// No number is left for a step, so nothing changes, and the lease is spent (its node's).
+    Exhausted(S),
 }
 
 /// What closing a link answers.
@@ -56,6 +66,8 @@ pub enum CloseReply<S> {
     Closed(S),
     /// The lease is stale, so nothing changes.
     Stale(S),
+    /// No number is left for a step, so nothing changes, and the lease is spent (its node's).
+    Exhausted(S),
 }
 
 /// What leaving the queue answers.
@@ -89,6 +101,8 @@ pub enum EndedReply {
     Counted,
     /// The ticket is stale, so nothing changes.
     Stale,
+    /// No number is left for a step, so nothing changes, and the ticket is spent (its node's).
+    Exhausted,
 }
 
 /// What a cancel request that didn't end cleanly answers.
@@ -100,6 +114,8 @@ pub enum FailedReply<S> {
     Closed(S),
     /// The ticket is stale, so nothing changes.
     Stale,
+    /// No number is left for a step, so nothing changes, and the ticket is spent (its node's).
+    Exhausted,
 }
 
 /// What a new start of the pools answers.

@@ -52,9 +52,10 @@ fn opened(reply: Asked) -> Result<Permit, Fail> {
             let _stream = lease.close();
             Err("got a link".into())
         }
-        AcquireReply::Waiting | AcquireReply::Holding | AcquireReply::Exhausted => {
-            Err("no permit".into())
-        }
+        AcquireReply::Waiting
+        | AcquireReply::Holding
+        | AcquireReply::Exhausted
+        | AcquireReply::Stale => Err("no permit".into()),
     }
 }
 
@@ -65,9 +66,10 @@ fn got(reply: Asked) -> Result<Lease<Stream>, Fail> {
             let _details = permit.spend();
             Err("got a permit".into())
         }
-        AcquireReply::Waiting | AcquireReply::Holding | AcquireReply::Exhausted => {
-            Err("no link".into())
-        }
+        AcquireReply::Waiting
+        | AcquireReply::Holding
+        | AcquireReply::Exhausted
+        | AcquireReply::Stale => Err("no link".into()),
     }
 }
 
@@ -83,7 +85,7 @@ fn waits(reply: Asked) -> bool {
             let _details = permit.spend();
             false
         }
-        AcquireReply::Holding | AcquireReply::Exhausted => false,
+        AcquireReply::Holding | AcquireReply::Exhausted | AcquireReply::Stale => false,
     }
 }
 
@@ -94,7 +96,7 @@ fn up(pool: &mut Pool<Stream>, permit: Permit, stream: u8) -> Result<Lease<Strea
             let _details = permit.spend();
             Err("no number".into())
         }
-        UpReply::Stale(_stream) => Err("a stale permit".into()),
+        UpReply::Stale(_stream) | UpReply::AtEnd(_stream) => Err("a stale permit".into()),
     }
 }
 
@@ -265,7 +267,7 @@ fn stale_values(rt: HostRuntime) -> Result<(), Fail> {
     let shown = pool.place(FIRST);
     let again = pool.up_failed(numbered(&details, 0));
     let twice = match pool.up(numbered(&details, 0), Stream(8), KEY) {
-        UpReply::Stale(stream) => Some(stream),
+        UpReply::Stale(stream) | UpReply::AtEnd(stream) => Some(stream),
         UpReply::Up(lease) => Some(lease.close()),
         UpReply::Exhausted(permit, stream) => {
             let _details = permit.spend();
