@@ -4,6 +4,7 @@ use Rattle.pg_ids.specs.declared.client_key.ClientKey.{ClientKey}
 use Rattle.pg_ids.specs.Key.{key_bytes, lowered}
 use Rattle.key_table.specs.Slots.{Slots, names}
 use Rattle.startup.specs.Packet.{cancel_request}
+use Rattle.lease.specs.declared.ticket.TicketRecord.{TicketRecord}
 use Rattle.std.specs.List.{list_any}
 use Rattle.cancel_router.specs.declared.refusal.RouteRefusal.TheVariants.{Spent, Unknown, NoPeer}
 use Rattle.cancel_router.specs.declared.table_view.Standing.{Standing}
@@ -13,7 +14,7 @@ use Rattle.cancel_router.specs.declared.decision.Route.TheVariants as route_to
 use Rattle.cancel_router.specs.Route.{route, served, at_home, away}
 use Rattle.node_core.specs.View.{NodeView}
 use Rattle.node_core.specs.declared.exchange.Order.{Order}
-use Rattle.node_core.specs.declared.exchange.Order.TheVariants.{Forward, Refused}
+use Rattle.node_core.specs.declared.exchange.Order.TheVariants.{Serve, Forward, Refused}
 use Rattle.node_core.specs.declared.exchange.Exchange.TheVariants.{Cancel}
 use Rattle.node_core.specs.NodeStep.{NodeStep, Orders, standing_in}
 use Rattle.locked_node.specs.Forwards.{Forwards}
@@ -55,14 +56,16 @@ forward_is me peers slots standing key peer left e =
     sent_key : (peer : ℕ) (left : ClientKey) → route_to.Forward key.peer (lowered key) ≡ route_to.Forward peer left → left ≡ lowered key
     sent_key peer left on = cc
 
-ordered : (r : Route) (to : ℕ) (packet : List ℕ) → Orders r (Forward to packet) → (key : ClientKey) × (r ≡ route_to.Forward to key) × (packet ≡ cancel_request (key_bytes key))
-ordered (route_to.Forward peer key) to packet o = (key, ap (λ (p : ℕ). route_to.Forward p key) (sym o.0), o.1)
-ordered (route_to.Refused reason) to packet o = absurd o
-ordered (route_to.Send link) to packet o = absurd o
+ordered : (slot : ℕ) (r : Route) (to : ℕ) (packet : List ℕ) (old new : NodeView) → Orders slot r (Forward to packet) old new
+    → (key : ClientKey) × (r ≡ route_to.Forward to key) × (packet ≡ cancel_request (key_bytes key))
+ordered slot (route_to.Forward peer key) to packet old new o = (key, ap (λ (p : ℕ). route_to.Forward p key) (sym o.0), o.1)
+ordered slot (route_to.Refused reason) to packet old new o = absurd o
+ordered slot (route_to.Send link) to packet old new o = absurd o
 
-pub forwards : (old : NodeView) (bytes : List ℕ) (order : Order) (new : NodeView) → NodeStep old (Cancel bytes order) new → Forwards bytes order
+pub forwards : (old : NodeView) (bytes : List ℕ) (order : Order TicketRecord) (new : NodeView) → NodeStep old (Cancel bytes order) new → Forwards bytes order
+forwards old bytes (Serve ticket database key) new step = tt
 forwards old bytes (Refused refusal) new step = tt
 forwards old bytes (Forward to packet) new step =
-    let o = ordered _ to packet step.order_is in
+    let o = ordered step.key.slot _ to packet old new step.order_is in
     let f = forward_is old.me old.peers old.keys (standing_in old) step.key to o.0 o.1 in
     (step.key, step.spelled.0, step.spelled.1, f.0, o.2 ∙ ap (λ (k : ClientKey). cancel_request (key_bytes k)) f.1)

@@ -1,5 +1,5 @@
 -- The exchange that gives the lock back keeps its rule, where the journal made one call more.
-use Rattle.std.proofs.Common.{◌≡◌, ◌≢◌, ℕ, ◌+◌, ◌-◌, ◌<◌, ◌≤◌, List, [], ◌∷◌, ◌++◌, Ok, Err, length, drop, get_or, set, Some, None, refl, sym, ap, ◌∙◌, subst, inl, ⊎_elim, arith, length-set, get_or-set_same}
+use Rattle.std.proofs.Common.{◌≡◌, ◌≢◌, ℕ, ◌+◌, ◌-◌, ◌<◌, ◌≤◌, List, [], ◌∷◌, ◌++◌, length, drop, get_or, set, Some, None, refl, sym, ap, ◌∙◌, subst, inl, ⊎_elim, arith, length-set, get_or-set_same}
 use Rattle.std.specs.Prelude.{sum_by, if◌then◌else◌}
 use Rattle.std.proofs.lemmas.Bool.{cases_eq, cases_lt}
 use Rattle.std.proofs.lemmas.Option.{same_Some}
@@ -10,17 +10,13 @@ use mathlib.Core.Option.{some, some-injective}
 use lib.ListN.{get_elem?}
 use Rattle.atomic_table.specs.Table.{State, Me, Step, gives, stepped, Allows}
 use Rattle.atomic_table.proofs.Lists.{at_set}
-use Rattle.node_core.specs.View.{NodeView}
-use Rattle.node_core.specs.declared.refusal.JoinRefusal.TheVariants as join
-use Rattle.node_core.specs.declared.exchange.LeaveReply.TheVariants as leave
 use Rattle.node_core.specs.declared.exchange.Exchange.{Exchange}
-use Rattle.node_core.specs.declared.exchange.Exchange.TheVariants.{Join, Leave, Cancel}
-use Rattle.node_core.specs.NodeStep.{NodeStep}
 use Rattle.locked_node.specs.declared.share.Share.{Share}
 use Rattle.locked_node.specs.Totals.{SameSum, is_of, number_at, calls_in, sum_in, calls_at, sum_at, all_calls}
 use Rattle.locked_node.specs.Journal.{JournalView, LogView, JournalStep, Appends, TAIL_LIMIT, log_all, log_calls, log_sum}
 use Rattle.locked_node.specs.Lock.{Kept, IsShare, IsFree, IsTaken, IsLocked, given, giving, last_call}
 use Rattle.locked_node.proofs.Sums.{same_plus, same_equal}
+use Rattle.locked_node.proofs.Growing.{step_grows}
 use Rattle.locked_node.proofs.Replays.{replay_more}
 use Rattle.locked_node.proofs.Histories.{calls_push, sum_push}
 use Rattle.locked_node.proofs.Shares.{sum_change, sum_same, each_set}
@@ -62,17 +58,6 @@ log_more old call new a = ⊎_elim
     })
     (cases_lt (length old.tail) TAIL_LIMIT)
 
--- a step keeps the node's databases
-pub step_pools : (old : NodeView) (call : Exchange) (new : NodeView) → NodeStep old call new → new.pools ≡ old.pools
-step_pools old (Join database secret (Ok pass)) new step = ap (λ (v : NodeView). v.pools) step.after
-step_pools old (Join database secret (Err join.Full)) new step = ap (λ (v : NodeView). v.pools) step.1
-step_pools old (Join database secret (Err join.Exhausted)) new step = ap (λ (v : NodeView). v.pools) step.2
-step_pools old (Leave pass leave.Left) new step = ap (λ (v : NodeView). v.pools) step.1.after
-step_pools old (Leave pass (leave.Holding again)) new step = absurd step
-step_pools old (Leave pass leave.Stale) new step = ap (λ (v : NodeView). v.pools) step.1
-step_pools old (Leave pass leave.Exhausted) new step = absurd step
-step_pools old (Cancel key order) new step = ap (λ (v : NodeView). v.pools) step.same
-
 -- what the callers were told, with one call more
 kept_more : (start journal : JournalView) (vs : List Share) (id : ℕ) (v : Share) (call : Exchange) (new : JournalView) → get_elem? vs id ≡ some v
     → JournalStep journal call new → LogMore journal.log call new.log → Kept start vs journal → Kept start (set vs id (given v new)) new
@@ -86,7 +71,7 @@ kept_more start journal vs id v call new at step more k = let made : v.made ++ l
   counts = λ kind. let a = more.calls kind in let b = k.counts kind in let c = calls_push kind k.calls call in omega (arith, a, b, c);
   sums = λ kind p. more.sums kind p ∙ (same_plus _ _ (number_at kind p call) (k.sums kind p) ∙ same_equal _ _ (let c = sum_push kind p k.calls call in omega (arith, c)));
   all = let a = more.all in let b = k.all in let c = length-append k.calls (call ∷ []) in omega (arith, a, b, c);
-  pools = step_pools journal.view call new.view step.step ∙ k.pools;
+  pools = (step_grows journal.view call new.view step.step).pools ∙ k.pools;
 }
 
 -- the lock is given back

@@ -10,9 +10,10 @@ use Rattle.node_core.specs.NodeStep.{NodeStep}
 use Rattle.locked_node.specs.declared.tally.Tally.{Tally}
 use Rattle.locked_node.specs.Replay.{Replay}
 use Rattle.locked_node.specs.Totals.{Counts, IsEmpty, number_at, calls_in, sum_in, is_of}
-use Rattle.locked_node.specs.Journal.{JournalView, Appends, Moves, JournalStep, HasHistory, IsTallyOf, TAIL_LIMIT, log_calls}
+use Rattle.locked_node.specs.Journal.{JournalView, Appends, Moves, JournalStep, HasHistory, CountsWithin, IsTallyOf, TAIL_LIMIT, log_calls}
 use Rattle.locked_node.proofs.Sums.{same_plus, same_equal}
-use Rattle.locked_node.proofs.Replays.{replay_more, replay_numbers}
+use Rattle.locked_node.proofs.Growing.{one, step_grows}
+use Rattle.locked_node.proofs.Replays.{replay_more, replay_counts}
 
 -- how many calls of a kind, and what sums, with one more call at the end
 pub calls_push : (kind : ℕ) (calls : List Exchange) (call : Exchange) → calls_in kind (calls ++ call ∷ []) ≡ calls_in kind calls + (if is_of kind call then 1 else 0)
@@ -80,10 +81,21 @@ pub journal_step : (old : JournalView) (call : Exchange) (new : JournalView) →
     → NodeStep old.view call new.view → Appends old.log call new.log → JournalStep old call new
 journal_step old call new short step appends = record { step = step; appended = appends; base = base_moves old call new short step appends }
 
--- the passes numbered are at least those that joined
-pub history_numbers : (journal : JournalView) → HasHistory journal → log_calls journal.log 0 ≤ journal.view.next_pass
-history_numbers journal h =
-    let one = replay_numbers h.first h.past h.base h.before in
-    let other = replay_numbers h.base journal.log.tail journal.view h.after in
-    let counts = h.totals.counts 0 in
-    omega (arith, one, other, counts)
+-- where each call of a kind raises a number of the node, and no call lowers it, the journal has at most as many
+log_counts : (kind : ℕ) (number : NodeView → ℕ) → ((old : NodeView) (call : Exchange) (new : NodeView) → NodeStep old call new → one kind call + number old ≤ number new)
+    → (journal : JournalView) → HasHistory journal → log_calls journal.log kind ≤ number journal.view
+log_counts kind number grows journal h =
+    let before = replay_counts kind number grows h.first h.past h.base h.before in
+    let after = replay_counts kind number grows h.base journal.log.tail journal.view h.after in
+    let counts = h.totals.counts kind in
+    omega (arith, before, after, counts)
+
+-- the incarnation and the next numbers are at least the counts of what made them
+pub history_numbers : (journal : JournalView) → HasHistory journal → CountsWithin journal.log journal.view
+history_numbers journal h = record {
+  passes = log_counts 0 (λ v. v.next_pass) (λ o c n s. (step_grows o c n s).passes) journal h;
+  permits = log_counts 8 (λ v. v.links.next_permit) (λ o c n s. (step_grows o c n s).permits) journal h;
+  links = log_counts 13 (λ v. v.links.next_link) (λ o c n s. (step_grows o c n s).links) journal h;
+  tickets = log_counts 28 (λ v. v.links.next_ticket) (λ o c n s. (step_grows o c n s).tickets) journal h;
+  incarnations = log_counts 44 (λ v. v.links.incarnation) (λ o c n s. (step_grows o c n s).incarnations) journal h;
+}

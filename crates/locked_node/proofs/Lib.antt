@@ -1,5 +1,6 @@
 pub mod Sums
 pub mod Tallies
+pub mod Growing
 pub mod Replays
 pub mod Histories
 pub mod Shares

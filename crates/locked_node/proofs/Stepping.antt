@@ -2,13 +2,14 @@
 use Rattle.std.proofs.Common.{◌≡◌, ℕ, ◌-◌, ◌<◌, List, [], ◌∷◌, ◌++◌, Some, None, sym, ap, ◌∙◌, subst, arith}
 use Rattle.std.proofs.lemmas.List.{length-append}
 use Rattle.atomic_table.specs.Table.{Me}
+use Rattle.atomic_table.specs.Seated.{TableId}
 use Rattle.node_core.specs.declared.exchange.Exchange.{Exchange}
 use Rattle.locked_node.specs.declared.share.Share.{Share}
 use Rattle.locked_node.specs.declared.tally.Tally.{Tally}
 use Rattle.locked_node.specs.declared.caller.Caller.TheInside.{Inside}
 use Rattle.locked_node.specs.Totals.{Counts, number_at}
 use Rattle.locked_node.specs.Journal.{JournalView}
-use Rattle.locked_node.specs.Lock.{Took, Calls, Given, CallerStep, IsTotalOfShare, given}
+use Rattle.locked_node.specs.Lock.{Took, Calls, Given, CallerView, CallerStep, IsTotalOfShare, given}
 use Rattle.locked_node.specs.CallerOf.{caller_of, IsCaller}
 use Rattle.locked_node.proofs.Sums.{same_plus, same_equal}
 use Rattle.locked_node.proofs.Histories.{calls_push, sum_push}
@@ -34,27 +35,52 @@ total_more v call old new is more = record {
   all = let a = more.all in let b = is.all in let c = length-append v.made (call ∷ []) in omega (arith, a, b, c);
 }
 
+-- one call was made by a caller
+pub record Makes {S : Type 0} (old new : Inside S) (call : Exchange) : Type 0 where
+  pub may : 0 < old.allowance
+  pub own : new.seat.table_id ≡ old.seat.table_id
+  pub seat : new.seat.me ≡ (answered old.seat.me.0 call, [])
+  pub left : new.allowance ≡ old.allowance - 1
+  pub counts : Counts old.tally call new.tally
+
+-- the lock was taken, the call made, the lock given back, and the call counted
+pub makes : {S : Type 0} {took_at held_at : TableId} (took held : Me JournalView Share) (old new : Inside S) (call : Exchange) → 0 < old.allowance
+    → took_at ≡ old.seat.table_id → held_at ≡ took_at → new.seat.table_id ≡ held_at → Took old.seat.me took → Calls took call held → Given held new.seat.me
+    → new.allowance ≡ old.allowance - 1 → Counts old.tally call new.tally → Makes old new call
+makes took held old new call may at_take at_call at_give t c g left counts = record {
+  may = may;
+  own = at_give ∙ (at_call ∙ at_take);
+  seat = share_steps old.seat.me took held new.seat.me call t c g;
+  left = left;
+  counts = counts;
+}
+
 -- the caller keeps what is true of callers
-pub caller_more : (old new : Inside) (call : Exchange) → 0 < old.allowance → new.seat.me ≡ (answered old.seat.me.0 call, []) → new.allowance ≡ old.allowance - 1
-    → Counts old.tally call new.tally → IsCaller old → IsCaller new
-caller_more old new call may seat left counts is =
-    let view : new.seat.me.0 ≡ answered old.seat.me.0 call = ap (λ (m : Me JournalView Share). m.0) seat in record {
-      empty = ap (λ (m : Me JournalView Share). m.1) seat;
+pub caller_keeps : {S : Type 0} (old new : Inside S) (call : Exchange) → Makes old new call → IsCaller old → IsCaller new
+caller_keeps old new call m is =
+    let view : new.seat.me.0 ≡ answered old.seat.me.0 call = ap (λ (m : Me JournalView Share). m.0) m.seat in
+    let left = m.left in let may = m.may in let all = m.counts.all in record {
+      empty = ap (λ (m : Me JournalView Share). m.1) m.seat;
       idle = ap (λ (v : Share). v.found) view;
       allowance = ap (λ (v : Share). v.allowance) view ∙ (ap (λ (n : ℕ). n - 1) is.allowance ∙ sym left);
-      totals = subst (λ (v : Share). IsTotalOfShare v new.tally) (sym view) (total_more old.seat.me.0 call old.tally new.tally is.totals counts);
-      some = let a = counts.all in omega (arith, a);
-      within = let a = counts.all in let w = is.within in omega (arith, a, w, left, may);
+      totals = subst (λ (v : Share). IsTotalOfShare v new.tally) (sym view) (total_more old.seat.me.0 call old.tally new.tally is.totals m.counts);
+      some = omega (arith, all);
+      within = let w = is.within in omega (arith, all, w, left, may);
     }
 
 -- the caller made that step
-pub caller_steps : (old new : Inside) (call : Exchange) → 0 < old.allowance → new.seat.table_id ≡ old.seat.table_id → new.seat.me ≡ (answered old.seat.me.0 call, [])
-    → new.allowance ≡ old.allowance - 1 → Counts old.tally call new.tally → CallerStep (caller_of old) call (caller_of new)
-caller_steps old new call may own seat left counts =
-    let view : new.seat.me.0 ≡ answered old.seat.me.0 call = ap (λ (m : Me JournalView Share). m.0) seat in record {
-      lock = own;
+pub caller_counts : {S : Type 0} (old new : Inside S) (call : Exchange) (before : CallerView) → caller_of old ≡ before → Makes old new call → CallerStep before call (caller_of new)
+caller_counts old new call before is m = subst (λ (o : CallerView). CallerStep o call (caller_of new)) is (
+    let view : new.seat.me.0 ≡ answered old.seat.me.0 call = ap (λ (m : Me JournalView Share). m.0) m.seat in
+    let left = m.left in let may = m.may in record {
+      lock = m.own;
       start = ap (λ (v : Share). v.start) view;
       allowance = omega (arith, left, may);
       made = ap (λ (v : Share). v.made) view;
-      tally = counts;
-    }
+      tally = m.counts;
+    })
+
+-- it is the caller of that lock still
+pub caller_same : {S : Type 0} (old new : Inside S) (call : Exchange) (before : CallerView) → caller_of old ≡ before → Makes old new call
+    → ((caller_of new).lock ≡ before.lock) × ((caller_of new).start ≡ before.start)
+caller_same old new call before is m = let step = caller_counts old new call before is m in (step.lock, step.start)

@@ -1,16 +1,14 @@
 -- Rows of a tally are changed.
 use Rattle.std.proofs.Common.{◌≡◌, ◌≢◌, ℕ, zero, suc, ◌+◌, ◌%◌, ◌^◌, ◌<◌, ◌≤◌, Bool, true, false, cond, eqb, List, [], ◌∷◌, ◌++◌, length, get_or, take, replicate, set, refl, sym, ap, ◌∙◌, subst, ⊎_elim, arith, eq-eqb, ne_eqb, get_or-set_same, get_or-set_other}
 use Rattle.std.proofs.lemmas.Bool.{cases_eq, cases_lt}
-use Rattle.std.proofs.lemmas.List.Sums.{sum_by-set, sum_by_more, get_or-le-sum_by}
+use Rattle.std.proofs.lemmas.List.Sums.{sum_by-cons, sum_by-set, sum_by_more, get_or-le-sum_by}
 use Rattle.std.proofs.lemmas.List.{take_all, get_or_past}
 use Rattle.std.proofs.Math.ListN.{length-set}
 use Rattle.std.specs.Prelude.{sum_by}
 use Rattle.node_core.specs.declared.exchange.Exchange.{Exchange}
 use Rattle.locked_node.specs.declared.tally.Row.{Row}
-use Rattle.locked_node.specs.declared.kind.Kind.{Kind}
-use Rattle.locked_node.specs.declared.kind.Kind.TheVariants.{Joined, JoinFull, JoinExhausted, Left, Holding, LeaveStale, LeaveExhausted, Forwarded, CancelSpent, CancelUnknown, CancelNoPeer, CancelNoLink, CancelExhausted}
-use Rattle.locked_node.specs.CallNumbers.{kind_of, index_of, numbers_of, width_of}
-use Rattle.locked_node.specs.Totals.{Counts, AddsUp, SameSum}
+use Rattle.locked_node.specs.CallNumbers.{kind_of, index_of, numbers_of}
+use Rattle.locked_node.specs.Totals.{Counts, AddsUp, IsEmpty, SameSum}
 use Rattle.locked_node.proofs.Sums.{same_reduced, same_equal}
 
 -- a row that counts nothing
@@ -30,21 +28,32 @@ get_padded (x ∷ xs) zero m p short = absurd (omega arith)
 get_padded (x ∷ xs) (suc n) m zero short = refl
 get_padded (x ∷ xs) (suc n) m (suc p) short = get_padded xs n m p (omega arith)
 
--- no kind has more than eight numbers
-pub width_le : (kind : Kind) → width_of kind ≤ 8
-width_le Joined = omega arith
-width_le JoinFull = omega arith
-width_le JoinExhausted = omega arith
-width_le Left = omega arith
-width_le Holding = omega arith
-width_le LeaveStale = omega arith
-width_le LeaveExhausted = omega arith
-width_le Forwarded = omega arith
-width_le CancelSpent = omega arith
-width_le CancelUnknown = omega arith
-width_le CancelNoPeer = omega arith
-width_le CancelNoLink = omega arith
-width_le CancelExhausted = omega arith
+-- a row of no call
+abbrev pub nothing : ℕ → Row
+nothing m = record { calls = 0; sums = replicate m 0 }
+
+zero_at : (m p : ℕ) → get_or (replicate {A = ℕ} m 0) p 0 ≡ 0
+zero_at zero p = refl
+zero_at (suc m) zero = refl
+zero_at (suc m) (suc p) = zero_at m p
+
+nothing_at : (n m kind : ℕ) → (get_or (replicate n (nothing m)) kind no_row).calls ≡ 0
+nothing_at zero m kind = refl
+nothing_at (suc n) m zero = refl
+nothing_at (suc n) m (suc kind) = nothing_at n m kind
+
+nothing_sums : (n m kind p : ℕ) → get_or (get_or (replicate n (nothing m)) kind no_row).sums p 0 ≡ 0
+nothing_sums zero m kind p = refl
+nothing_sums (suc n) m zero p = zero_at m p
+nothing_sums (suc n) m (suc kind) p = nothing_sums n m kind p
+
+nothing_all : (n m : ℕ) → sum_by (λ (r : Row). r.calls) (replicate n (nothing m)) ≡ 0
+nothing_all zero m = refl
+nothing_all (suc n) m = let c = sum_by-cons (λ (r : Row). r.calls) (nothing m) (replicate n (nothing m)) in let r = nothing_all n m in omega (arith, c, r)
+
+-- rows of no call
+pub empty_rows : (n m : ℕ) → IsEmpty (record { rows = replicate n (nothing m) })
+empty_rows n m = record { calls = nothing_at n m; sums = nothing_sums n m; all = nothing_all n m }
 
 -- the row of the call's kind counts one more, and no other row changes
 pub counts_row : (rows : List Row) (kind : ℕ) (row : Row) (call : Exchange) → kind < length rows → kind ≡ index_of (kind_of call)

@@ -6,11 +6,11 @@ use Rattle.locked_node.specs.Lock.{CallerView, IsTotalOfShare}
 use Rattle.locked_node.specs.declared.caller.Caller.TheInside.{Inside}
 
 -- a caller by its fields
-abbrev pub caller_of : Inside → CallerView
+abbrev pub caller_of : {S : Type 0} → Inside S → CallerView
 caller_of c = record { lock = c.seat.table_id; start = c.seat.me.0.start; allowance = c.allowance; made = c.seat.me.0.made; tally = c.tally }
 
 -- its seat holds no journal, and says what it says
-pub record IsCaller (c : Inside) : Type 0 where
+pub record IsCaller {S : Type 0} (c : Inside S) : Type 0 where
   pub empty : c.seat.me.1 ≡ []
   pub idle : c.seat.me.0.found ≡ None
   pub allowance : c.seat.me.0.allowance ≡ c.allowance

@@ -4,6 +4,8 @@ use Rattle.node_core.specs.View.{NodeView}
 use Rattle.node_core.specs.declared.exchange.Exchange.{Exchange}
 use Rattle.node_core.specs.NodeStep.{NodeStep}
 use Rattle.locked_node.specs.declared.tally.Tally.{Tally}
+use Rattle.locked_node.specs.declared.kind.Kind.TheVariants.{Joined, AcquireOpen, WentUp, Served, Restarted}
+use Rattle.locked_node.specs.CallNumbers.{index_of}
 use Rattle.locked_node.specs.Replay.{Replay}
 use Rattle.locked_node.specs.Totals.{calls_in, sum_in, calls_at, sum_at, all_calls, SameSum, Counts}
 
@@ -77,3 +79,11 @@ pub record HasHistory (journal : JournalView) : Type 0 where
   pub before : Replay first past base
   pub after : Replay base journal.log.tail journal.view
   pub totals : IsTallyOf past journal.log.trimmed
+
+-- the view's incarnation and its next numbers are at least the counts of the calls that made them
+pub record CountsWithin (log : LogView) (view : NodeView) : Type 0 where
+  pub passes : log_calls log (index_of Joined) ≤ view.next_pass
+  pub permits : log_calls log (index_of AcquireOpen) ≤ view.links.next_permit
+  pub links : log_calls log (index_of WentUp) ≤ view.links.next_link
+  pub tickets : log_calls log (index_of Served) ≤ view.links.next_ticket
+  pub incarnations : log_calls log (index_of Restarted) ≤ view.links.incarnation

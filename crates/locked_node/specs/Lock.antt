@@ -80,7 +80,15 @@ joined v w = record v { allowance = v.allowance + w.allowance; begun = v.begun +
 -- a journal of nothing
 abbrev pub no_journal : JournalView
 no_journal = record {
-  view = record { me = 0; peers = []; pools = []; incarnation = 0; keys = record { peer = 0; secrets = []; next = None }; clients = []; next_pass = 0 };
+  view = record {
+    me = 0;
+    peers = [];
+    pools = [];
+    keys = record { peer = 0; secrets = []; next = None };
+    clients = [];
+    next_pass = 0;
+    links = record { peer = 0; incarnation = 0; pools = []; claims = []; next_link = 0; next_permit = 0; next_ticket = 0 };
+  };
   log = record { tail = []; trimmed = record { rows = [] } };
 }
 

@@ -12,13 +12,13 @@ const PART: u128 = 1 << 64;
 
 /// Who makes calls at a node behind its lock: how many it may still make, and the totals of those that it made.
 #[derive(Drop)]
-pub struct Caller {
-    pub(crate) seat: Place,
+pub struct Caller<S> {
+    pub(crate) seat: Place<S>,
     pub(crate) allowance: u128,
     pub(crate) tally: Tally,
 }
 
-impl Model for Caller {
+impl<S> Model for Caller<S> {
     ghost use Rattle.locked_node.specs.Lock.{CallerView};
 
     ghost Value = { CallerView };
@@ -30,7 +30,7 @@ impl Model for Caller {
     ghost invariant = { IsCaller };
 }
 
-impl Caller {
+impl<S: Drop> Caller<S> {
     ghost use Rattle.locked_node.specs.CallNumbers.{index_of};
     ghost use Rattle.locked_node.specs.Totals.{calls_at};
     ghost use Rattle.locked_node.specs.Lock.{HANDED, Splits, JoinsUp};
@@ -58,7 +58,7 @@ impl Caller {
 
     /// Hands 2^64 of the allowance to a new caller without calls. None, where no more than that is left. The lock
     /// is this caller's own.
-    pub fn split(&mut self, lock: &Shared) -> Option<Caller>
+    pub fn split(&mut self, lock: &Shared<S>) -> Option<Caller<S>>
         requires own { self.old.lock ≡ lock.now }
         ensures none { IfNone result ((self.old.allowance ≤ HANDED) × (self.new ≡ self.old)) }
         ensures some { IfSome result (λ part. (HANDED < self.old.allowance) × Splits self.old self.new part) }
@@ -76,7 +76,7 @@ impl Caller {
     }
 
     /// Takes in the allowance and the totals of another caller of this lock.
-    pub fn join(&mut self, lock: &Shared, other: Caller)
+    pub fn join(&mut self, lock: &Shared<S>, other: Caller<S>)
         requires own { self.old.lock ≡ lock.now }
         requires same { other.lock ≡ lock.now }
         ensures { JoinsUp self.old other self.new }

@@ -1,31 +1,42 @@
 //! A node beside the calls that led to its state.
 ghost use Rattle.std.specs.Prelude.{◌≡◌, ◌+◌, ◌^◌, ◌<◌, ◌≤◌, [], length, IfOk, Err};
+ghost use Rattle.link_pool.specs.Said.{acquire_said, up_said, release_said, close_said, failed_said, closed_stream, FromLease, UpStream};
+ghost use Rattle.link_pool.specs.declared.replies.AcquireReply.TheVariants as acquire;
+ghost use Rattle.link_pool.specs.declared.replies.UpReply.TheVariants as up;
+ghost use Rattle.link_pool.specs.declared.replies.UpFailedReply.TheVariants as failing;
+ghost use Rattle.link_pool.specs.declared.replies.ReleaseReply.TheVariants as release;
+ghost use Rattle.link_pool.specs.declared.replies.CloseReply.TheVariants as close;
+ghost use Rattle.link_pool.specs.declared.replies.EndedReply.TheVariants as ended;
+ghost use Rattle.link_pool.specs.declared.replies.FailedReply.TheVariants as failed;
+ghost use Rattle.link_pool.specs.declared.replies.RestartReply.TheVariants as restart;
 ghost use Rattle.node_core.specs.View.{NodeView, IsView};
 ghost use Rattle.node_core.specs.declared.exchange.Exchange.{Exchange};
 ghost use Rattle.node_core.specs.declared.exchange.LeaveReply.TheVariants as leave;
+ghost use Rattle.node_core.specs.declared.exchange.Order.TheVariants as order;
 ghost use Rattle.node_core.specs.declared.refusal.JoinRefusal.TheVariants as join;
 ghost use Rattle.node_core.specs.declared.refusal.CancelRefusal.TheVariants as cancel;
-ghost use Rattle.node_core.specs.declared.exchange.Order.TheVariants as order;
 
 use crate::log::Log;
+use crate::said::{acquired, closed, failed, left, ordered, released, told, went_up};
 use crate::tally::Tally;
 use node_core::{
-    CancelRefusal, DatabaseNo, Exchange, JoinRefusal, LeaveReply, NodeCore, Order, Pass,
-    PassRecord, View,
+    AcquireReply, CancelRefusal, CloseReply, DatabaseNo, EndedReply, Exchange, FailedReply,
+    JoinRefusal, Lease, LeaveReply, NodeCore, Order, Pass, Permit, ReleaseReply, RestartReply,
+    Ticket, UpFailedReply, UpReply, View,
 };
-use pg_ids::Secret;
+use pg_ids::{Secret, ServerKey};
 use std::alloc::{AllocError, Global};
 use std::marker::Model;
 
 /// A node with the last 4,096 of its calls, each with the reply that it got, and the totals of the calls
-/// before them. The calls led to the node's state: that is true of every journal.
-#[derive(Debug, Drop)]
-pub struct Journal {
-    core: NodeCore,
+/// before them. The calls led to the node's state: that is true of every journal. `S` is the stream of a link.
+#[derive(Drop)]
+pub struct Journal<S> {
+    core: NodeCore<S>,
     log: Log,
 }
 
-impl Model for Journal {
+impl<S> Model for Journal<S> {
     ghost use Rattle.locked_node.specs.Journal.{JournalView, HasHistory};
 
     ghost Value = { JournalView };
@@ -35,14 +46,14 @@ impl Model for Journal {
     ghost invariant = { λ j. HasHistory (record { view = j.core; log = j.log }) };
 }
 
-impl Journal {
-    ghost use Rattle.locked_node.specs.Journal.{JournalView, JournalStep, HasHistory, log_all, log_calls, CALL_LIMIT, TAIL_LIMIT};
+impl<S: Drop> Journal<S> {
+    ghost use Rattle.locked_node.specs.Journal.{JournalView, JournalStep, HasHistory, CountsWithin, log_all, CALL_LIMIT, TAIL_LIMIT};
     ghost use Rattle.locked_node.specs.Replay.{Replay};
     ghost use Rattle.locked_node.specs.Totals.{IsEmpty};
     ghost use Rattle.locked_node.specs.Lock.{IsTotalOf};
 
     /// The journal of a node that begins with its state. It takes all the memory that it needs.
-    pub fn new(alloc: Global, core: NodeCore) -> Result<Journal, AllocError>
+    pub fn new(alloc: Global, core: NodeCore<S>) -> Result<Journal<S>, AllocError>
         ensures view { IfOk result (λ journal. journal.view ≡ core) }
         ensures tail { IfOk result (λ journal. journal.log.tail ≡ []) }
         ensures trimmed { IfOk result (λ journal. IsEmpty journal.log.trimmed) }
@@ -52,12 +63,12 @@ impl Journal {
     }
 
     /// The node's state. The calls led to it.
-    pub fn view(&self) -> &View
+    pub fn view(&self) -> &View<S>
         ensures view { result.now ≡ self.now.view }
         ensures whole { IsView self.now.view }
         ensures history { HasHistory self.now }
-        // As many passes were numbered as clients joined, at least.
-        ensures numbers { log_calls self.now.log 0 ≤ self.now.view.next_pass }
+        // As many numbers and incarnations were given as the calls say, at least.
+        ensures numbers { CountsWithin self.now.log self.now.view }
     {
         self.core.view()
     }
@@ -124,8 +135,90 @@ impl Journal {
         reply
     }
 
+    /// The client of a pass asks for a link, as at a node. After 2^127 calls it gets none.
+    pub fn acquire(&mut self, pass: &Pass) -> AcquireReply<Lease<S>, Permit>
+        ensures step { log_all self.old.log < CALL_LIMIT → JournalStep self.old (Exchange.Acquire pass.now (acquire_said result)) self.new }
+        ensures full { log_all self.old.log ≡ CALL_LIMIT → result ≡ acquire.Exhausted }
+        ensures unchanged { log_all self.old.log ≡ CALL_LIMIT → self.new ≡ self.old }
+    {
+        if self.log.is_full() {
+            return AcquireReply::Exhausted;
+        }
+        let reply = self.core.acquire(pass);
+        self.log
+            .append(&Exchange::Acquire(pass.details(), acquired(&reply)));
+        reply
+    }
+
+    /// A link is open, as at a node. After 2^127 calls the permit is spent, and the stream is handed back.
+    pub fn up(&mut self, permit: Permit, stream: S, key: ServerKey) -> UpReply<Lease<S>, Permit, S>
+        ensures step { log_all self.old.log < CALL_LIMIT → JournalStep self.old (Exchange.Up permit key (up_said result)) self.new }
+        ensures full { log_all self.old.log ≡ CALL_LIMIT → result ≡ up.AtEnd stream }
+        ensures unchanged { log_all self.old.log ≡ CALL_LIMIT → self.new ≡ self.old }
+        ensures stream { UpStream stream result }
+    {
+        if self.log.is_full() {
+            permit.forfeit();
+            return UpReply::AtEnd(stream);
+        }
+        let details = permit.details();
+        let reply = self.core.up(permit, stream, key);
+        self.log
+            .append(&Exchange::Up(details, key, went_up(&reply)));
+        reply
+    }
+
+    /// A link couldn't be opened, as at a node. After 2^127 calls its permit is spent, and nothing else happens.
+    pub fn up_failed(&mut self, permit: Permit) -> UpFailedReply
+        ensures step { log_all self.old.log < CALL_LIMIT → JournalStep self.old (Exchange.UpFailed permit result) self.new }
+        ensures full { log_all self.old.log ≡ CALL_LIMIT → result ≡ failing.Exhausted }
+        ensures unchanged { log_all self.old.log ≡ CALL_LIMIT → self.new ≡ self.old }
+    {
+        if self.log.is_full() {
+            permit.forfeit();
+            return UpFailedReply::Exhausted;
+        }
+        let details = permit.details();
+        let reply = self.core.up_failed(permit);
+        self.log.append(&Exchange::UpFailed(details, reply));
+        reply
+    }
+
+    /// A client gives its link back, as at a node. After 2^127 calls its lease is spent, and the stream handed back.
+    pub fn release(&mut self, lease: Lease<S>) -> ReleaseReply<S>
+        ensures step { log_all self.old.log < CALL_LIMIT → JournalStep self.old (Exchange.Release lease.details (release_said result)) self.new }
+        ensures full { log_all self.old.log ≡ CALL_LIMIT → result ≡ release.Exhausted lease.stream }
+        ensures unchanged { log_all self.old.log ≡ CALL_LIMIT → self.new ≡ self.old }
+        ensures stream { FromLease lease.stream result }
+    {
+        if self.log.is_full() {
+            return ReleaseReply::Exhausted(lease.forfeit());
+        }
+        let details = lease.details();
+        let reply = self.core.release(lease);
+        self.log
+            .append(&Exchange::Release(details, released(&reply)));
+        reply
+    }
+
+    /// A link leaves the pool, as at a node. After 2^127 calls its lease is spent, and the stream handed back.
+    pub fn close(&mut self, lease: Lease<S>) -> CloseReply<S>
+        ensures step { log_all self.old.log < CALL_LIMIT → JournalStep self.old (Exchange.Close lease.details (close_said result)) self.new }
+        ensures full { log_all self.old.log ≡ CALL_LIMIT → result ≡ close.Exhausted lease.stream }
+        ensures unchanged { log_all self.old.log ≡ CALL_LIMIT → self.new ≡ self.old }
+        ensures stream { closed_stream result ≡ lease.stream }
+    {
+        if self.log.is_full() {
+            return CloseReply::Exhausted(lease.forfeit());
+        }
+        let details = lease.details();
+        let reply = self.core.close(lease);
+        self.log.append(&Exchange::Close(details, closed(&reply)));
+        reply
+    }
+
     /// A cancel request with these eight key bytes comes, as at a node. After 2^127 calls it is refused.
-    pub fn cancel(&mut self, key: &[u8; 8]) -> Order
+    pub fn cancel(&mut self, key: &[u8; 8]) -> Order<Ticket>
         ensures step { log_all self.old.log < CALL_LIMIT → JournalStep self.old (Exchange.Cancel key.now result) self.new }
         ensures full { log_all self.old.log ≡ CALL_LIMIT → result ≡ order.Refused cancel.Exhausted }
         ensures unchanged { log_all self.old.log ≡ CALL_LIMIT → self.new ≡ self.old }
@@ -134,36 +227,54 @@ impl Journal {
             return Order::Refused(CancelRefusal::Exhausted);
         }
         let order = self.core.cancel(key);
-        self.log.append(&asked(key, &order));
+        self.log.append(&Exchange::Cancel(*key, ordered(&order)));
         order
     }
-}
 
-// What a login was told.
-pub(crate) fn told(reply: &Result<Pass, JoinRefusal>) -> Result<PassRecord, JoinRefusal>
-    ensures { result ≡ reply.now }
-{
-    match reply {
-        Ok(pass) => Ok(pass.details()),
-        Err(refusal) => Err(*refusal),
+    /// A cancel request has ended cleanly, as at a node. After 2^127 calls its ticket is spent, and nothing else happens.
+    pub fn ended(&mut self, ticket: Ticket) -> EndedReply
+        ensures step { log_all self.old.log < CALL_LIMIT → JournalStep self.old (Exchange.Ended ticket result) self.new }
+        ensures full { log_all self.old.log ≡ CALL_LIMIT → result ≡ ended.Exhausted }
+        ensures unchanged { log_all self.old.log ≡ CALL_LIMIT → self.new ≡ self.old }
+    {
+        if self.log.is_full() {
+            ticket.forfeit();
+            return EndedReply::Exhausted;
+        }
+        let details = ticket.details();
+        let reply = self.core.ended(ticket);
+        self.log.append(&Exchange::Ended(details, reply));
+        reply
     }
-}
 
-// What a client that leaves was told.
-pub(crate) fn left(reply: &LeaveReply<Pass>) -> LeaveReply<PassRecord>
-    ensures { result ≡ reply.now }
-{
-    match reply {
-        LeaveReply::Left => LeaveReply::Left,
-        LeaveReply::Holding(pass) => LeaveReply::Holding(pass.details()),
-        LeaveReply::Stale => LeaveReply::Stale,
-        LeaveReply::Exhausted => LeaveReply::Exhausted,
+    /// A cancel request hasn't ended cleanly, as at a node. After 2^127 calls its ticket is spent, and nothing else
+    /// happens.
+    pub fn failed(&mut self, ticket: Ticket) -> FailedReply<S>
+        ensures step { log_all self.old.log < CALL_LIMIT → JournalStep self.old (Exchange.Failed ticket (failed_said result)) self.new }
+        ensures full { log_all self.old.log ≡ CALL_LIMIT → result ≡ failed.Exhausted }
+        ensures unchanged { log_all self.old.log ≡ CALL_LIMIT → self.new ≡ self.old }
+    {
+        if self.log.is_full() {
+            ticket.forfeit();
+            return FailedReply::Exhausted;
+        }
+        let details = ticket.details();
+        let reply = self.core.failed(ticket);
+        self.log.append(&Exchange::Failed(details, failed(&reply)));
+        reply
     }
-}
 
-// A cancel request with its order.
-pub(crate) fn asked(key: &[u8; 8], order: &Order) -> Exchange
-    ensures { result ≡ Exchange.Cancel key.now order.now }
-{
-    Exchange::Cancel(*key, *order)
+    /// A new start, as at a node. After 2^127 calls there is none.
+    pub fn restart(&mut self) -> RestartReply
+        ensures step { log_all self.old.log < CALL_LIMIT → JournalStep self.old (Exchange.Restart result) self.new }
+        ensures full { log_all self.old.log ≡ CALL_LIMIT → result ≡ restart.Exhausted }
+        ensures unchanged { log_all self.old.log ≡ CALL_LIMIT → self.new ≡ self.old }
+    {
+        if self.log.is_full() {
+            return RestartReply::Exhausted;
+        }
+        let reply = self.core.restart();
+        self.log.append(&Exchange::Restart(reply));
+        reply
+    }
 }

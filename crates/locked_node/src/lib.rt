@@ -2,9 +2,13 @@
 #![tactic(auto)]
 
 mod caller;
+mod calls;
+mod held;
 mod journal;
 mod kind;
 mod log;
+mod numbers;
+mod said;
 mod share;
 mod shared;
 mod tally;

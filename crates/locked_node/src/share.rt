@@ -6,21 +6,22 @@ use std::collections::LinkedList;
 use std::snapshot::Snapshot;
 
 /// What a caller knows: how many calls it may still make, the journal with which it began, if it is the first
-/// caller, the calls that it made, the journal that it found, and the journal with which the lock began.
+/// caller, the calls that it made, the journal that it found, and the journal with which the lock began. What
+/// clauses see of a journal has no streams, so a journal without any stands here for each.
 pub struct Share {
     pub allowance: u128,
-    pub begun: LinkedList<Journal>,
+    pub begun: LinkedList<Journal<()>>,
     pub made: LinkedList<Kept>,
-    pub found: Option<Journal>,
-    pub start: Journal,
+    pub found: Option<Journal<()>>,
+    pub start: Journal<()>,
 }
 
 /// A caller's place at the lock. It has no bytes.
-pub type Place = Seat<Journal, Share>;
+pub type Place<S> = Seat<Journal<S>, Share>;
 
 pub struct Rule;
 
-impl TableRule<Journal, Share, Snapshot<Journal>> for Rule {
+impl<S> TableRule<Journal<S>, Share, Snapshot<Journal<S>>> for Rule {
     ghost use Rattle.locked_node.specs.Lock.{IsLocked, first_share};
 
     ghost holds = { λ start. IsLocked start.value };
@@ -30,7 +31,7 @@ impl TableRule<Journal, Share, Snapshot<Journal>> for Rule {
 
 pub struct Take;
 
-impl Play<Journal, Share> for Take {
+impl<S> Play<Journal<S>, Share> for Take {
     ghost use Rattle.locked_node.specs.Lock.{taking};
 
     ghost then = { taking };
@@ -38,7 +39,7 @@ impl Play<Journal, Share> for Take {
 
 pub struct Give;
 
-impl Play<Journal, Share> for Give {
+impl<S> Play<Journal<S>, Share> for Give {
     ghost use Rattle.locked_node.specs.Lock.{giving};
 
     ghost then = { giving };
@@ -46,7 +47,7 @@ impl Play<Journal, Share> for Give {
 
 pub struct Look;
 
-impl Play<Journal, Share> for Look {
+impl<S> Play<Journal<S>, Share> for Look {
     ghost use Rattle.locked_node.specs.Lock.{looking};
 
     ghost then = { looking };

@@ -1,14 +1,11 @@
 //! A node behind its lock, which any number of callers share.
 ghost use Rattle.std.specs.Prelude.{◌≡◌, ◌<◌, [], length, None};
-ghost use Rattle.locked_node.specs.Lock.{Took, Holds, Calls, Called, Given};
-ghost use Rattle.node_core.specs.declared.exchange.Exchange.{Exchange};
+ghost use Rattle.locked_node.specs.Lock.{Took, Holds, Called, Given};
 
 use crate::caller::Caller;
-use crate::journal::{Journal, asked, left, told};
+use crate::journal::Journal;
 use crate::share::{Both, Give, Hand, Look, Place, Rule, Share, Take};
 use atomic_table::Table;
-use node_core::{CancelRefusal, DatabaseNo, Exchange, JoinRefusal, LeaveReply, Order, Pass};
-use pg_ids::Secret;
 use std::alloc::{AllocError, Global};
 use std::marker::Model;
 use std::snapshot::Snapshot;
@@ -23,11 +20,11 @@ const AWAITED: u64 = 2;
 
 /// A node with its journal, behind a lock.
 #[derive(Drop)]
-pub struct Shared {
-    table: Table<Journal, Share, Snapshot<Journal>, Rule, Global>,
+pub struct Shared<S> {
+    pub(crate) table: Table<Journal<S>, Share, Snapshot<Journal<S>>, Rule, Global>,
 }
 
-impl Model for Shared {
+impl<S> Model for Shared<S> {
     ghost use Rattle.std.specs.Prelude.{◌≡◌};
     ghost use Rattle.atomic_table.specs.Seated.{TableId, table_id_coded};
 
@@ -40,20 +37,15 @@ impl Model for Shared {
     ghost invariant = { λ s. (s.table.shared.table_id.words ≡ 1) × (s.table.shared.table_id.slots ≡ 1) };
 }
 
-impl Shared {
-    ghost use Rattle.std.specs.Prelude.{◌≤◌, ◌+◌, ◌-◌, ◌^◌, IfOk, MatchOption, Err};
-    ghost use Rattle.node_core.specs.declared.exchange.LeaveReply.TheVariants as leave;
-    ghost use Rattle.node_core.specs.declared.refusal.JoinRefusal.TheVariants as join;
-    ghost use Rattle.node_core.specs.declared.refusal.CancelRefusal.TheVariants as cancel;
-    ghost use Rattle.node_core.specs.declared.exchange.Order.TheVariants as order;
-    ghost use Rattle.locked_node.specs.Forwards.{Forwards};
+impl<S: Drop> Shared<S> {
+    ghost use Rattle.std.specs.Prelude.{◌≤◌, ◌+◌, IfOk};
     ghost use Rattle.locked_node.specs.Totals.{all_calls};
     ghost use Rattle.locked_node.specs.Journal.{log_all, CALL_LIMIT};
-    ghost use Rattle.locked_node.specs.Lock.{CallerStep, IsTotalOf, IsWhole, IsWithin, HANDED, handing, handed, joined};
+    ghost use Rattle.locked_node.specs.Lock.{IsTotalOf, IsWhole, IsWithin, HANDED, handing, handed, joined};
 
     /// A lock with this journal, and its first caller, which has the journal's totals and may make all calls
     /// that are left.
-    pub fn new(alloc: Global, journal: Journal) -> Result<(Shared, Caller), AllocError>
+    pub fn new(alloc: Global, journal: Journal<S>) -> Result<(Shared<S>, Caller<S>), AllocError>
         ensures lock { IfOk result (λ made. made.1.lock ≡ made.0) }
         ensures start { IfOk result (λ made. made.1.start ≡ journal) }
         ensures allowance { IfOk result (λ made. made.1.allowance + log_all journal.log ≡ CALL_LIMIT) }
@@ -76,78 +68,9 @@ impl Shared {
         Ok((Shared { table }, first))
     }
 
-    /// A client of this database logs in. A caller that may make no call gets no slot.
-    pub fn join<R: Wait>(
-        &self,
-        rt: &R,
-        caller: &mut Caller,
-        database: DatabaseNo,
-        secret: Secret,
-    ) -> Result<Pass, JoinRefusal>
-        requires own { caller.old.lock ≡ self.now }
-        requires database { database < length caller.old.start.view.pools }
-        ensures counted { 0 < caller.old.allowance → CallerStep caller.old (Exchange.Join database secret result) caller.new }
-        ensures same { (caller.new.lock ≡ caller.old.lock) × (caller.new.start ≡ caller.old.start) }
-        ensures spent { caller.old.allowance ≡ 0 → result ≡ Err join.Exhausted }
-        ensures unchanged { caller.old.allowance ≡ 0 → caller.new ≡ caller.old }
-    {
-        if caller.allowance == 0 {
-            return Err(JoinRefusal::Exhausted);
-        }
-        self.take(rt, &mut caller.seat);
-        let reply = self.held_join(&mut caller.seat, database, secret);
-        self.give(&mut caller.seat);
-        caller.allowance -= 1;
-        caller
-            .tally
-            .count(&Exchange::Join(database, secret, told(&reply)));
-        reply
-    }
-
-    /// The client of a pass leaves. A caller that may make no call spends the pass, and nothing else happens.
-    pub fn leave<R: Wait>(&self, rt: &R, caller: &mut Caller, pass: Pass) -> LeaveReply<Pass>
-        requires own { caller.old.lock ≡ self.now }
-        ensures counted { 0 < caller.old.allowance → CallerStep caller.old (Exchange.Leave pass result) caller.new }
-        ensures same { (caller.new.lock ≡ caller.old.lock) × (caller.new.start ≡ caller.old.start) }
-        ensures spent { caller.old.allowance ≡ 0 → result ≡ leave.Exhausted }
-        ensures unchanged { caller.old.allowance ≡ 0 → caller.new ≡ caller.old }
-    {
-        if caller.allowance == 0 {
-            pass.forfeit();
-            return LeaveReply::Exhausted;
-        }
-        let details = pass.details();
-        self.take(rt, &mut caller.seat);
-        let reply = self.held_leave(&mut caller.seat, pass);
-        self.give(&mut caller.seat);
-        caller.allowance -= 1;
-        caller.tally.count(&Exchange::Leave(details, left(&reply)));
-        reply
-    }
-
-    /// A cancel request with these eight key bytes comes. A caller that may make no call refuses it.
-    pub fn cancel<R: Wait>(&self, rt: &R, caller: &mut Caller, key: &[u8; 8]) -> Order
-        requires own { caller.old.lock ≡ self.now }
-        ensures counted { 0 < caller.old.allowance → CallerStep caller.old (Exchange.Cancel key.now result) caller.new }
-        ensures same { (caller.new.lock ≡ caller.old.lock) × (caller.new.start ≡ caller.old.start) }
-        ensures spent { caller.old.allowance ≡ 0 → result ≡ order.Refused cancel.Exhausted }
-        ensures forward { Forwards key.now result }
-        ensures unchanged { caller.old.allowance ≡ 0 → caller.new ≡ caller.old }
-    {
-        if caller.allowance == 0 {
-            return Order::Refused(CancelRefusal::Exhausted);
-        }
-        self.take(rt, &mut caller.seat);
-        let order = self.held_cancel(&mut caller.seat, key);
-        self.give(&mut caller.seat);
-        caller.allowance -= 1;
-        caller.tally.count(&asked(key, &order));
-        order
-    }
-
     /// The journal, at the end. Where all callers were joined to this one, its totals are the journal's, and the
     /// calls that they made led to the node's state.
-    pub fn into_journal(self, caller: Caller) -> Journal
+    pub fn into_journal(self, caller: Caller<S>) -> Journal<S>
         requires own { caller.lock ≡ self }
         ensures whole { caller.allowance + all_calls caller.tally ≡ CALL_LIMIT → IsWhole caller result }
     {
@@ -164,7 +87,7 @@ impl Shared {
     }
 
     /// How many calls were made at all, those of the journal before the lock among them.
-    pub fn total_calls(self, caller: Caller) -> u128
+    pub fn total_calls(self, caller: Caller<S>) -> u128
         requires own { caller.lock ≡ self }
         ensures whole { caller.allowance + all_calls caller.tally ≡ CALL_LIMIT → result ≡ all_calls caller.tally }
         ensures within { result ≤ CALL_LIMIT }
@@ -173,7 +96,7 @@ impl Shared {
     }
 
     // Takes the lock. Who finds it taken sleeps till it is given back.
-    fn take<R: Wait>(&self, rt: &R, seat: &mut Place)
+    pub(crate) fn take<R: Wait>(&self, rt: &R, seat: &mut Place<S>)
         requires own { seat.old.table_id ≡ self.now }
         requires idle { seat.old.me.0.found ≡ None }
         requires may { 0 < seat.old.me.0.allowance }
@@ -196,7 +119,7 @@ impl Shared {
     }
 
     // A caller's seat without calls, for 2^64 of the allowance of another.
-    pub(crate) fn hand(&self, seat: &mut Place) -> Place
+    pub(crate) fn hand(&self, seat: &mut Place<S>) -> Place<S>
         requires own { seat.old.table_id ≡ self.now }
         requires idle { seat.old.me.0.found ≡ None }
         requires more { HANDED < seat.old.me.0.allowance }
@@ -208,7 +131,7 @@ impl Shared {
     }
 
     // Two callers' seats are one.
-    pub(crate) fn unite(&self, seat: &mut Place, other: Place)
+    pub(crate) fn unite(&self, seat: &mut Place<S>, other: Place<S>)
         requires own { (seat.old.table_id ≡ self.now) × (other.table_id ≡ self.now) }
         requires idle { (seat.old.me.0.found ≡ None) × (other.me.0.found ≡ None) }
         requires empty { (seat.old.me.1 ≡ []) × (other.me.1 ≡ []) }
@@ -223,7 +146,7 @@ impl Shared {
     }
 
     // Gives the lock back, with one call more in the journal.
-    fn give(&self, seat: &mut Place)
+    pub(crate) fn give(&self, seat: &mut Place<S>)
         requires own { seat.old.table_id ≡ self.now }
         requires called { Called seat.old.me }
         ensures own { seat.new.table_id ≡ seat.old.table_id }
@@ -233,44 +156,5 @@ impl Shared {
         if shared.swap::<Give>(seat, 0, FREE) == AWAITED {
             shared.wake_one(0);
         }
-    }
-
-    // The call of `join` on the journal that the seat holds.
-    fn held_join(
-        &self,
-        seat: &mut Place,
-        database: DatabaseNo,
-        secret: Secret,
-    ) -> Result<Pass, JoinRefusal>
-        requires own { seat.old.table_id ≡ self.now }
-        requires holds { Holds seat.old.me }
-        requires database { database < length seat.old.me.0.start.view.pools }
-        ensures own { seat.new.table_id ≡ seat.old.table_id }
-        ensures calls { Calls seat.old.me (Exchange.Join database secret result) seat.new.me }
-    {
-        let journal = seat.slot_mut(&self.table.shared, 0);
-        journal.join(database, secret)
-    }
-
-    // The call of `leave` on it.
-    fn held_leave(&self, seat: &mut Place, pass: Pass) -> LeaveReply<Pass>
-        requires own { seat.old.table_id ≡ self.now }
-        requires holds { Holds seat.old.me }
-        ensures own { seat.new.table_id ≡ seat.old.table_id }
-        ensures calls { Calls seat.old.me (Exchange.Leave pass result) seat.new.me }
-    {
-        let journal = seat.slot_mut(&self.table.shared, 0);
-        journal.leave(pass)
-    }
-
-    // The call of `cancel` on it.
-    fn held_cancel(&self, seat: &mut Place, key: &[u8; 8]) -> Order
-        requires own { seat.old.table_id ≡ self.now }
-        requires holds { Holds seat.old.me }
-        ensures own { seat.new.table_id ≡ seat.old.table_id }
-        ensures calls { Calls seat.old.me (Exchange.Cancel key.now result) seat.new.me }
-    {
-        let journal = seat.slot_mut(&self.table.shared, 0);
-        journal.cancel(key)
     }
 }

@@ -1,7 +1,8 @@
 //! Calls counted by their kind, with the sums of their numbers.
 ghost use Rattle.std.specs.Prelude.{◌≡◌, ◌+◌, ◌%◌, ◌^◌, ◌<◌, ℕ, slice_index, length};
 
-use crate::kind::{KINDS, Kind, WIDEST, call_numbers};
+use crate::kind::{KINDS, Kind};
+use crate::numbers::{WIDEST, call_numbers};
 use node_core::Exchange;
 
 /// The calls of one kind.

@@ -1,6 +1,7 @@
 -- The numbers of what a node refuses (own).
 use Rattle.std.specs.Prelude.{ℕ}
 use Rattle.key_table.specs.Refusals.{FULL}
+use Rattle.quarantine.specs.Refusals.{BUSY}
 use Rattle.cancel_router.specs.Refusals.{number_of}
 use Rattle.node_core.specs.declared.refusal.JoinRefusal.{JoinRefusal}
 use Rattle.node_core.specs.declared.refusal.JoinRefusal.TheVariants as join
@@ -19,4 +20,5 @@ join_number join.Exhausted = EXHAUSTED
 -- the number of a refused cancel request
 abbrev pub cancel_number : CancelRefusal → ℕ
 cancel_number (cancel.Route refusal) = number_of refusal
+cancel_number cancel.Busy = BUSY
 cancel_number cancel.Exhausted = EXHAUSTED

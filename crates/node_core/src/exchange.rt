@@ -1,7 +1,11 @@
 //! A call of a node with the reply that it got, as a journal keeps it.
-use crate::pass::PassRecord;
 use crate::refusal::{CancelRefusal, JoinRefusal};
-use pg_ids::{DatabaseNo, PeerNo, Secret};
+use lease::{LinkRecord, PassRecord, PermitRecord, TicketRecord};
+use link_pool::{
+    AcquireReply, CloseReply, EndedReply, FailedReply, ReleaseReply, RestartReply, UpFailedReply,
+    UpReply,
+};
+use pg_ids::{DatabaseNo, PeerNo, Secret, ServerKey};
 
 /// What leaving answers. `P` is the pass that is handed back: a `Pass`, or what it says.
 #[derive(Clone, Copy, Debug, PartialEq, Eq)]
@@ -12,26 +16,44 @@ pub enum LeaveReply<P> {
     Holding(P),
     /// The pass is of another incarnation or another node, so nothing changes.
     Stale,
-    /// The node can't make another step, so nothing changes.
+    /// No number is left for a step, so nothing changes, and the pass is spent.
     Exhausted,
 }
 
-/// What a cancel request makes a node do.
+/// What a cancel request makes a node do. `T` is a `Ticket`, or what it says.
 #[derive(Clone, Copy, Debug, PartialEq, Eq)]
-pub enum Order {
+pub enum Order<T> {
+    /// Carry a CancelRequest with this key to the server of this database, and tell its end by the ticket.
+    Serve(T, DatabaseNo, ServerKey),
     /// Carry this CancelRequest to this peer.
     Forward(PeerNo, [u8; 16]),
     /// Nothing.
     Refused(CancelRefusal),
 }
 
-/// A call of a node, with the reply that it got.
+/// A call of a node, with the reply that it got. Of what was handed in or out it has what that says.
 #[derive(Clone, Copy, Debug, PartialEq, Eq)]
 pub enum Exchange {
     /// A client of this database asked for a slot with this secret.
     Join(DatabaseNo, Secret, Result<PassRecord, JoinRefusal>),
     /// The client of this pass left.
     Leave(PassRecord, LeaveReply<PassRecord>),
+    /// The client of this pass asked for a link of its database.
+    Acquire(PassRecord, AcquireReply<LinkRecord, PermitRecord>),
+    /// A link was opened for this permit, and its server cancels by this key.
+    Up(PermitRecord, ServerKey, UpReply<LinkRecord, PermitRecord, ()>),
+    /// No link could be opened for this permit.
+    UpFailed(PermitRecord, UpFailedReply),
+    /// A client gave this link back.
+    Release(LinkRecord, ReleaseReply<()>),
+    /// A client closed this link.
+    Close(LinkRecord, CloseReply<()>),
     /// A cancel request came with these eight key bytes.
-    Cancel([u8; 8], Order),
+    Cancel([u8; 8], Order<TicketRecord>),
+    /// The cancel request of this ticket ended cleanly.
+    Ended(TicketRecord, EndedReply),
+    /// The cancel request of this ticket didn't end cleanly.
+    Failed(TicketRecord, FailedReply<()>),
+    /// The node was started anew.
+    Restart(RestartReply),
 }

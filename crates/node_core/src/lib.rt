@@ -1,19 +1,22 @@
-//! The state of one pooler and its steps, each of which is made whole: joining and leaving clients,
-//! and the orders that cancel requests give.
+//! The state of one pooler and its eleven steps, each of which is made whole: joining and leaving clients, the
+//! links that they hold or wait for, the orders that cancel requests give, and new starts.
 #![tactic(auto)]
 
 mod exchange;
-mod next_number;
 mod node;
 mod node_view;
-mod pass;
 mod refusal;
 
 pub use exchange::{Exchange, LeaveReply, Order};
-pub use next_number::NextNumber;
+pub use lease::{
+    Lease, LinkPlace, LinkRecord, Pass, PassRecord, Permit, PermitRecord, Ticket, TicketRecord,
+};
+pub use link_pool::{
+    AcquireReply, CloseReply, EndedReply, FailedReply, ReleaseReply, RestartReply, UpFailedReply,
+    UpReply,
+};
 pub use node::NodeCore;
 pub use node_view::{Client, View};
-pub use pass::{Pass, PassRecord};
 pub use pg_ids::DatabaseNo;
 pub use refusal::{CancelRefusal, JoinRefusal};
 

@@ -34,6 +34,9 @@ pub enum CancelRefusal {
     /// It goes nowhere from here.
     #[error("{0}")]
     Route(RouteRefusal),
+    /// The link has as many open tickets as it may have.
+    #[error("31 Busy")]
+    Busy,
     /// No number is left to give.
     #[error("33 Exhausted")]
     Exhausted,
@@ -46,6 +49,7 @@ impl CancelRefusal {
     {
         match self {
             CancelRefusal::Route(refusal) => refusal.number(),
+            CancelRefusal::Busy => 31,
             CancelRefusal::Exhausted => 33,
         }
     }

@@ -1,28 +1,41 @@
-//! Steps of small nodes, by the worked keys.
+//! Tests by subject, by the worked keys and rows, and what they share: small nodes, and what their answers say.
 ghost use Rattle.std.specs.Prelude.{◌≡◌, ◌<◌, ◌≤◌, IfOk, All, length};
 
 use crate::{
-    CancelRefusal, DatabaseNo, JoinRefusal, LeaveReply, NextNumber, NodeCore, Order, Pass,
-    PassRecord,
+    AcquireReply, CancelRefusal, DatabaseNo, LeaveReply, LinkRecord, NodeCore, Order, Pass,
+    PassRecord, Permit, PermitRecord, Ticket, TicketRecord, UpReply,
 };
 use cancel_router::RouteRefusal;
-use ini_config::{Settings, read_settings};
-use pg_ids::{PeerNo, Secret, SlotNo};
+use ini_config::Settings;
+use lease::Lease;
+use pg_ids::{PeerNo, Secret, ServerKey};
 use std::alloc::Global;
 use std::test::Fail;
 
+mod links;
+mod requests;
+mod restarts;
+mod settings;
+mod tickets;
+
 const SHOP: DatabaseNo = DatabaseNo(0);
 
-const TWO_DATABASES: &str =
-    "[pgbouncer]\npool_mode = transaction\nauth_type = trust\nlisten_addr = 127.0.0.1\npeer_id = 1\n[databases]\nshop = host=127.0.0.1 port=7100 user=app pool_size=2\nnews = host=127.0.0.1 port=7101 user=app\n[peers]\n3 = host=127.0.0.1 port=7003\n2 = host=127.0.0.1 port=7002\n";
+const KEY: ServerKey = ServerKey([0, 0, 0, 1, 0, 0, 0, 2]);
 
-fn node(alloc: Global, me: u16, peer: Option<u16>, clients: u32) -> Result<NodeCore, Fail>
+// The key bytes of the client that node 2 gave slot 0 and the secret 1.
+const FIRST_CLIENT: [u8; 8] = [0, 8, 0, 0, 0, 0, 0, 7];
+
+// A node whose streams are numbers.
+type Node = NodeCore<u32>;
+
+fn node(alloc: Global, me: u16, peer: Option<u16>, pool: u16, clients: u32) -> Result<Node, Fail>
+    requires place { 1 ≤ pool }
     requires some { 1 ≤ clients }
     requires within { clients ≤ 65536 }
     ensures { IfOk result (λ core. length core.pools ≡ 1) }
 {
     let me = PeerNo::new(me).ok_or("no such peer")?;
-    let settings = Settings::plain(alloc, me, listed(alloc, peer)?, 5, clients)?;
+    let settings = Settings::plain(alloc, me, listed(alloc, peer)?, pool, clients)?;
     Ok(NodeCore::new(alloc, &settings)?)
 }
 
@@ -41,100 +54,105 @@ fn listed(alloc: Global, peer: Option<u16>) -> Result<Vec<PeerNo>, Fail>
     Ok(vec![in alloc; peer]?)
 }
 
-fn refused(refusal: RouteRefusal) -> Order {
-    Order::Refused(CancelRefusal::Route(refusal))
-}
-
-#[test]
-fn a_request_for_another_pooler(rt: HostRuntime) -> Result<(), Fail> {
-    let mut core = node(rt.alloc(), 1, Some(2), 1)?;
-    let two = PeerNo::new(2).ok_or("no peer 2")?;
-    let lowered = [0, 0, 0, 16, 4, 0xd2, 0x16, 0x2e, 0, 8, 0, 0, 0, 0, 0, 6];
-    assert_eq!(rt;
-        core.cancel(&[0, 8, 0, 0, 0, 0, 0, 7]),
-        Order::Forward(two, lowered)
-    );
-    assert_eq!(rt;
-        core.cancel(&[0, 8, 0, 0, 0, 0, 0, 5]),
-        refused(RouteRefusal::Spent)
-    );
-    let mut alone = node(rt.alloc(), 1, None, 1)?;
-    assert_eq!(rt;
-        alone.cancel(&[0, 8, 0, 0, 0, 0, 0, 7]),
-        refused(RouteRefusal::NoPeer)
-    );
-    Ok(())
-}
-
-#[test]
-fn requests_for_clients_of_the_node(rt: HostRuntime) -> Result<(), Fail> {
-    let mut core = node(rt.alloc(), 2, None, 2)?;
-    let first = core.join(SHOP, Secret(1)).expect(&rt, "a slot is free");
-    let second = core.join(SHOP, Secret(5)).expect(&rt, "a slot is free");
-    assert_eq!(rt; first.key().to_bytes(), [0, 8, 0, 0, 0, 0, 0, 7]);
-    assert_eq!(rt; second.key().to_bytes(), [0, 8, 0, 4, 0, 0, 0, 0x17]);
-    assert_eq!(rt;
-        core.join(SHOP, Secret(9)).map(|pass| pass.forfeit()),
-        Err(JoinRefusal::Full)
-    );
-    for (last, refusal) in [
-        (4, RouteRefusal::Spent),
-        (7, RouteRefusal::NoLink),
-        (0x0b, RouteRefusal::Unknown),
-    ] {
-        assert_eq!(rt; core.cancel(&[0, 8, 0, 0, 0, 0, 0, last]), refused(refusal));
+// A client of the shop, where the node has one.
+fn join(core: &mut Node, secret: u32) -> Option<Pass> {
+    if core.view().pool_sizes().is_empty() {
+        return None;
     }
-    let client = core
-        .view()
-        .client(SlotNo(1))
-        .expect(&rt, "a client in slot 1");
-    assert_eq!(rt; (client.database, client.pass), (SHOP, 1));
-    assert_eq!(rt; told(core.leave(first)), LeaveReply::Left);
-    assert_eq!(rt;
-        core.cancel(&[0, 8, 0, 0, 0, 0, 0, 7]),
-        refused(RouteRefusal::Unknown)
-    );
-    assert_eq!(rt; core.view().next_slot(), Some(SlotNo(0)));
-    assert_eq!(rt; told(core.leave(second)), LeaveReply::Left);
-    Ok(())
+    core.join(SHOP, Secret(secret)).ok()
 }
 
-#[test]
-fn passes_of_other_nodes(rt: HostRuntime) -> Result<(), Fail> {
-    let mut one = node(rt.alloc(), 1, Some(2), 1)?;
-    let mut two = node(rt.alloc(), 2, Some(1), 1)?;
-    let pass = one.join(SHOP, Secret(1)).expect(&rt, "a slot is free");
-    let own = two.join(SHOP, Secret(1)).expect(&rt, "a slot is free");
-    assert_eq!(rt; told(two.leave(pass)), LeaveReply::Stale);
-    assert_eq!(rt; told(two.leave(own)), LeaveReply::Left);
-    Ok(())
+// The permit that a client got.
+fn opened(core: &mut Node, pass: &Pass) -> Option<Permit> {
+    match core.acquire(pass) {
+        AcquireReply::Open(permit) => Some(permit),
+        AcquireReply::Got(lease) => {
+            let _stream = lease.forfeit();
+            None
+        }
+        AcquireReply::Waiting
+        | AcquireReply::Holding
+        | AcquireReply::Exhausted
+        | AcquireReply::Stale => None,
+    }
 }
 
-#[test]
-fn what_a_node_was_told(rt: HostRuntime) -> Result<(), Fail> {
-    let Ok(settings) = read_settings(rt.alloc(), TWO_DATABASES) else {
-        return Err(Fail::from("settings that are in order"));
-    };
-    let core = NodeCore::new(rt.alloc(), &settings)?;
-    let view = core.view();
-    assert_eq!(rt; view.me().get(), 1);
-    let three = PeerNo::new(3).ok_or("no peer 3")?;
-    let two = PeerNo::new(2).ok_or("no peer 2")?;
-    assert_eq!(rt; view.peers(), [three, two].as_slice());
-    assert_eq!(rt; view.pool_sizes(), [2, 20].as_slice());
-    assert_eq!(rt; view.incarnation(), 0);
-    assert_eq!(rt; view.next_slot(), Some(SlotNo(0)));
-    Ok(())
+// The idle link that a client got.
+fn got(core: &mut Node, pass: &Pass) -> Option<Lease<u32>> {
+    match core.acquire(pass) {
+        AcquireReply::Got(lease) => Some(lease),
+        AcquireReply::Open(permit) => {
+            let _details = permit.forfeit();
+            None
+        }
+        AcquireReply::Waiting
+        | AcquireReply::Holding
+        | AcquireReply::Exhausted
+        | AcquireReply::Stale => None,
+    }
 }
 
-#[test]
-fn numbers(rt: HostRuntime) {
-    assert_eq!(rt; JoinRefusal::Full.number(), 30);
-    assert_eq!(rt; JoinRefusal::Exhausted.number(), 33);
-    assert_eq!(rt; CancelRefusal::Route(RouteRefusal::Unknown).number(), 61);
-    assert_eq!(rt; CancelRefusal::Exhausted.number(), 33);
-    let mut next = NextNumber::new();
-    assert_eq!(rt; (next.give(), next.give()), (Some(0), Some(1)));
+// What asking for a link answered, its values spent.
+fn asked(core: &mut Node, pass: &Pass) -> AcquireReply<LinkRecord, PermitRecord> {
+    match core.acquire(pass) {
+        AcquireReply::Got(lease) => {
+            let details = lease.details();
+            let _stream = lease.forfeit();
+            AcquireReply::Got(details)
+        }
+        AcquireReply::Open(permit) => AcquireReply::Open(permit.forfeit()),
+        AcquireReply::Waiting => AcquireReply::Waiting,
+        AcquireReply::Holding => AcquireReply::Holding,
+        AcquireReply::Exhausted => AcquireReply::Exhausted,
+        AcquireReply::Stale => AcquireReply::Stale,
+    }
+}
+
+// The link that a permit's client has now.
+fn up(core: &mut Node, permit: Permit, stream: u32, key: ServerKey) -> Option<Lease<u32>> {
+    match core.up(permit, stream, key) {
+        UpReply::Up(lease) => Some(lease),
+        UpReply::Exhausted(permit, _stream) => {
+            let _details = permit.forfeit();
+            None
+        }
+        UpReply::Stale(_stream) | UpReply::AtEnd(_stream) => None,
+    }
+}
+
+// A new link of a client that may open one.
+fn held(core: &mut Node, pass: &Pass, stream: u32, key: ServerKey) -> Option<Lease<u32>> {
+    let permit = opened(core, pass)?;
+    up(core, permit, stream, key)
+}
+
+// The ticket of a cancel request that goes to a server.
+fn served(core: &mut Node, key: &[u8; 8]) -> Option<Ticket> {
+    match core.cancel(key) {
+        Order::Serve(ticket, _database, _key) => Some(ticket),
+        Order::Forward(..) | Order::Refused(_) => None,
+    }
+}
+
+// What a cancel request was ordered, its ticket spent.
+fn ordered(core: &mut Node, key: &[u8; 8]) -> Order<TicketRecord> {
+    match core.cancel(key) {
+        Order::Serve(ticket, database, key) => Order::Serve(ticket.forfeit(), database, key),
+        Order::Forward(peer, packet) => Order::Forward(peer, packet),
+        Order::Refused(refusal) => Order::Refused(refusal),
+    }
+}
+
+// The number of a cancel request's ticket, its database and its server's key.
+fn sent(core: &mut Node, key: &[u8; 8]) -> Option<(u64, DatabaseNo, ServerKey)> {
+    match ordered(core, key) {
+        Order::Serve(ticket, database, key) => Some((ticket.number, database, key)),
+        Order::Forward(..) | Order::Refused(_) => None,
+    }
+}
+
+fn refused(refusal: RouteRefusal) -> Order<TicketRecord> {
+    Order::Refused(CancelRefusal::Route(refusal))
 }
 
 // What a reply says, its pass spent.

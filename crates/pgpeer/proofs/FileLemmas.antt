@@ -1,7 +1,6 @@
 -- One file more is read, or the first that is refused.
 use Rattle.std.proofs.Common.{◌≡◌, ℕ, suc, ◌+◌, ◌<◌, List, [], ◌∷◌, ◌++◌, ◌⊎◌, length, get_or, map, take, drop, Bor, Result, Ok, Err, inl, inr, refl, sym, ◌∙◌, ap, subst}
-use Rattle.std.proofs.lemmas.List.{take_more, map_push, take-append-drop, map-append}
-use Rattle.std.proofs.lemmas.Slice.Zip.{all_zipped_more}
+use Rattle.std.proofs.lemmas.List.{take-append-drop, map-append}
 use Rattle.std.proofs.Math.Seq.{drop-cons}
 use Rattle.ini_config.specs.declared.fault.IniError.{IniError}
 use Rattle.ini_config.specs.Node.{NodeSettings}
@@ -10,6 +9,7 @@ use Rattle.ini_config.specs.declared.fault.GroupError.{GroupError}
 use Rattle.ini_config.specs.declared.fault.GroupError.TheVariants.{SamePeer, MissingPeer, NoPeering, Memory}
 use Rattle.pgpeer.specs.declared.fault.Fault.{Fault}
 use Rattle.pgpeer.specs.declared.fault.Fault.TheVariants as told
+use Rattle.pgpeer.proofs.WordList.{AllZip-next}
 use Rattle.pgpeer.specs.Files.{Folder, Says, SayInOrder, HasFault, IsFirstFault, MakeNoGroup, IsFileFault, IsFault}
 use Rattle.std.specs.Result.{IfErr, IsErrAnd}
 
@@ -21,10 +21,7 @@ passed_on (Ok x) e P never holds = absurd never
 module _ (folder : Folder) (files : List (Bor (List ℕ))) (i : ℕ) (d : Bor (List ℕ)) (nodes : List NodeSettings) where
   -- the file at a place says what one node more is
   pub SayInOrder-next : (node : NodeSettings) → i < length files → SayInOrder folder (map (λ w. w.now) (take i files)) nodes → Says (folder (get_or files i d).now) node → SayInOrder folder (map (λ w. w.now) (take (i + 1) files)) (nodes ++ node ∷ [])
-  SayInOrder-next node within said says =
-      let more : map (λ (w : Bor (List ℕ)). w.now) (take (i + 1) files) ≡ map (λ (w : Bor (List ℕ)). w.now) (take i files) ++ (get_or files i d).now ∷ [] =
-      ap (map (λ (w : Bor (List ℕ)). w.now)) (take_more files i d within) ∙ map_push (λ (w : Bor (List ℕ)). w.now) (take i files) (get_or files i d) in
-      subst (λ ws. SayInOrder folder ws (nodes ++ node ∷ [])) (sym more) (all_zipped_more (λ file n. Says (folder file) n) (map (λ w. w.now) (take i files)) nodes (get_or files i d).now node said says)
+  SayInOrder-next node within said says = AllZip-next (λ file n. Says (folder file) n) files i nodes d node within said says
 
   -- the file at a place is the first with a fault
   pub IsFirstFault-at : (error : IniError) → i < length files → SayInOrder folder (map (λ w. w.now) (take i files)) nodes → HasFault (folder (get_or files i d).now) error → IsFirstFault folder (map (λ w. w.now) files) (get_or files i d).now error
@@ -48,6 +45,7 @@ module _ (folder : Folder) (files : List (Bor (List ℕ))) (i : ℕ) (d : Bor (L
   IsFault-at (told.Packet number) within said never = absurd never
   IsFault-at told.NotACancel within said never = absurd never
   IsFault-at (told.Unexpected number) within said never = absurd never
+  IsFault-at (told.UnexpectedReply reply) within said never = absurd never
 
 -- nodes that are no group are told of
 pub MakeNoGroup-of : (folder : Folder) (files : List (List ℕ)) (nodes : List NodeSettings) (error : GroupError) → SayInOrder folder files nodes → (error ≡ NoPeering → ¬ AllPeer nodes) → (error ≡ SamePeer → AllPeer nodes × ¬ PeersDiffer nodes) → (error ≡ MissingPeer → AllPeer nodes × PeersDiffer nodes × ¬ AllListed nodes) → (error ≡ Memory) ⊎ MakeNoGroup folder files error

@@ -1,5 +1,5 @@
+pub mod CallLemmas
 pub mod FileLemmas
-pub mod JoinLemmas
-pub mod NumberLemmas
 pub mod PacketLemmas
 pub mod WordLemmas
+pub mod WordList

@@ -5,7 +5,7 @@ use Rattle.ini_config.specs.declared.fault.IniCode.TheVariants as ini
 use Rattle.ini_config.specs.declared.fault.GroupError.{GroupError}
 use Rattle.ini_config.specs.declared.fault.GroupError.TheVariants as group
 use Rattle.pgpeer.specs.declared.fault.Fault.{Fault}
-use Rattle.pgpeer.specs.declared.fault.Fault.TheVariants.{Usage, InFile, OfGroup, File, Packet, NotACancel, Unexpected, Memory}
+use Rattle.pgpeer.specs.declared.fault.Fault.TheVariants.{Usage, InFile, OfGroup, File, Packet, NotACancel, Unexpected, UnexpectedReply, Memory}
 
 -- want of memory is a fault in running, what is refused in a file isn't
 abbrev pub file_status : IniCode → ℕ
@@ -26,4 +26,5 @@ status_of (File text) = 1
 status_of (Packet number) = 1
 status_of NotACancel = 1
 status_of (Unexpected number) = 1
+status_of (UnexpectedReply reply) = 1
 status_of Memory = 1

@@ -1,8 +1,11 @@
 //! The program's answer to its words.
-ghost use Rattle.std.specs.Prelude.{◌≡◌, ◌⊎◌, ℕ, List, [], ◌∷◌, codes, map, MatchResult, IfSome, IsSomeAnd, string_bytes, Some};
+ghost use Rattle.std.specs.Prelude.{◌≡◌, ◌⊎◌, ℕ, List, [], ◌∷◌, codes, map, MatchResult, IfOk, IfSome, IsSomeAnd, string_bytes, Some};
 ghost use Rattle.std.specs.Io.KnownBytes.{Appends, Keeps};
 ghost use Rattle.pg_ids.specs.declared.client_key.ClientKey.{ClientKey};
-ghost use Rattle.pgpeer.specs.Calls.{IsKeyCall};
+ghost use Rattle.pgpeer.specs.Calls.{IsKeyCall, TellsGroup, TellsOrder};
+ghost use Rattle.pgpeer.specs.declared.fault.Fault.{Fault as FaultOf};
+ghost use Rattle.pgpeer.specs.Files.{IsFault};
+ghost use Rattle.pgpeer.specs.PlainWords.{DecideTexts, IsCheckCall, IsDecideCall};
 ghost use Rattle.pgpeer.specs.Statuses.{status_of};
 ghost use Rattle.pgpeer.specs.Texts.{key_text};
 
@@ -11,6 +14,7 @@ use crate::decide::decide_line;
 use crate::fault::Fault;
 use crate::key::key_line;
 use crate::opener::Opener;
+use crate::plain::{check_asked, decide_asked};
 use crate::words::{Request, requested};
 use hex::FromHex;
 use pg_ids::ClientKey;
@@ -31,6 +35,14 @@ pub fn answer<R: Wait, O: Opener, W: Write, E: Write>(
     // `key` with 16 hexadecimal digits tells the key's parts, unless memory or the writer fails.
     ensures key { (hex : List ℕ) (key : ClientKey) → IsKeyCall (map (λ word. word.now) words.now) hex key
         → ((result ≡ 0) × Appends (W.contents out.old) (W.contents out.new) (key_text key)) ⊎ (result ≡ 1) }
+    // What `decide` writes, where its words stand in their plain order, tells the order that the node gives.
+    ensures decide { (asked : DecideTexts) → IsDecideCall (map (λ word. word.now) words.now) asked → result ≡ 0
+        → (line : List ℕ) × TellsOrder asked line × Appends (W.contents out.old) (W.contents out.new) line }
+    // What `check` writes tells the group that the files make, and it refuses what is refused by the definition.
+    ensures check { (files : List (List ℕ)) → IsCheckCall (map (λ word. word.now) words.now) files → result ≡ 0
+        → (line : List ℕ) × TellsGroup (O.text opener.now) files line × Appends (W.contents out.old) (W.contents out.new) line }
+    ensures refused { (files : List (List ℕ)) → IsCheckCall (map (λ word. word.now) words.now) files → result ≡ 2
+        → (fault : FaultOf) × IsFault (O.text opener.now) files fault × (status_of fault ≡ 2) }
     // Words that ask for nothing get nothing on `out`.
     ensures silent { result ≡ 2 → Keeps (W.contents out.old) (W.contents out.new) }
     // An answer leaves nothing on `err`.
@@ -48,11 +60,21 @@ fn reply<R: Wait, O: Opener>(
     words: &[&str],
     opener: &O,
 ) -> Result<String, Fault>
-    ensures { (hex : List ℕ) (key : ClientKey) → IsKeyCall (map (λ word. word.now) words.now) hex key
+    ensures key { (hex : List ℕ) (key : ClientKey) → IsKeyCall (map (λ word. word.now) words.now) hex key
         → MatchResult result (λ text. string_bytes text ≡ key_text key) (λ fault. fault ≡ Fault.Memory) }
+    ensures decide { (asked : DecideTexts) → IsDecideCall (map (λ word. word.now) words.now) asked
+        → IfOk result (λ text. TellsOrder asked (string_bytes text)) }
+    ensures check { (files : List (List ℕ)) → IsCheckCall (map (λ word. word.now) words.now) files
+        → MatchResult result (λ text. TellsGroup (O.text opener.now) files (string_bytes text)) (λ fault. IsFault (O.text opener.now) files fault) }
 {
     if let Some(key) = key_asked(words) {
         return key_line(alloc, key).map_err(|_| Fault::Memory);
+    }
+    if let Some(asked) = decide_asked(words) {
+        return decide_line(rt, alloc, &asked);
+    }
+    if let Some(files) = check_asked(words) {
+        return check_line(alloc, opener, files);
     }
     match requested(alloc, words)? {
         Request::Show(text) => Ok(text),

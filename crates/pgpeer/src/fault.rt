@@ -35,6 +35,9 @@ pub enum Fault {
     /// The node answered what can't come.
     #[error("unexpected answer {0}")]
     Unexpected(u8),
+    /// The node answered what can't come, and that has no number.
+    #[error("unexpected answer: {0}")]
+    UnexpectedReply(&'static str),
     /// Memory ran out.
     #[error("out of memory")]
     Memory,

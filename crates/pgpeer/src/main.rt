@@ -4,10 +4,15 @@
 mod answer;
 mod check;
 mod decide;
+mod decision;
 mod fault;
+mod hand_back;
+mod held;
 mod key;
+mod live_client;
 mod number;
 mod opener;
+mod plain;
 #[cfg(test)]
 mod tests;
 mod words;

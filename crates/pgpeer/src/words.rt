@@ -110,8 +110,10 @@ fn decide_command<'a>(alloc: Global) -> Result<Command<'a>, AllocError> {
         .help("The numbers of its peers, at most 64, each 1 to 16383 and none twice");
     let live = Arg::new(alloc, "live")
         .long("live")
-        .value_name("SECRET,SECRET..")
-        .help("The secrets of its logged-in clients, at most 65535, in the order of their slots");
+        .value_name("C,C..")
+        .help(
+            "Its clients, at most 65535, in the order in which they log in; each C is SECRET, or SECRET:KEYHEX where the client holds a link, with its server's key in 16 hexadecimal digits",
+        );
     let packet = Arg::new(alloc, "HEX")
         .required(true)
         .help("The first packet of a connection, in hexadecimal digits");

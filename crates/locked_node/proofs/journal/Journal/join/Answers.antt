@@ -5,17 +5,17 @@ use Rattle.locked_node.proofs.Histories.{history_more, journal_step}
 use Rattle.locked_node.proofs.journal.Journal.join.Goals as goal
 
 pub append-requires : goal.append-requires
-append-requires c = c.if-is_full.ensures.full
+append-requires g c = c.if-is_full.ensures.full
 
 -- the history has one call more
 pub invariant_of-self : goal.invariant_of-self
-invariant_of-self c =
+invariant_of-self g c =
     history_more _ (Join c.args.database c.args.secret c.join-reply.result) _ c.is_full.ensures.tail c.join-reply.ensures
-    (subst (λ r. Appends c.self.inside.log (Join c.args.database c.args.secret r) c.append.new.self) c.told.ensures c.append.ensures)
+    (subst (λ x. Appends c.self.inside.log (Join c.args.database c.args.secret x) c.append.new.self) c.told.ensures c.append.ensures)
     c.self.invariant
 
 pub returns-clause-step : goal.returns-clause-step
-returns-clause-step c = λ _.
+returns-clause-step g c = λ _.
     subst (λ (j : JournalView). JournalStep j (Join c.args.database c.args.secret c.join-reply.result) (record { view = c.join-reply.new.self; log = c.append.new.self })) c.self.view_is
     (journal_step _ (Join c.args.database c.args.secret c.join-reply.result) _ c.is_full.ensures.tail c.join-reply.ensures
-    (subst (λ r. Appends c.self.inside.log (Join c.args.database c.args.secret r) c.append.new.self) c.told.ensures c.append.ensures))
+    (subst (λ x. Appends c.self.inside.log (Join c.args.database c.args.secret x) c.append.new.self) c.told.ensures c.append.ensures))

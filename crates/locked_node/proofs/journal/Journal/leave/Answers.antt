@@ -5,17 +5,17 @@ use Rattle.locked_node.proofs.Histories.{history_more, journal_step}
 use Rattle.locked_node.proofs.journal.Journal.leave.Goals as goal
 
 pub append-requires : goal.append-requires
-append-requires c = c.if-is_full.ensures.full
+append-requires g c = c.if-is_full.ensures.full
 
 -- the history has one call more
 pub invariant_of-self : goal.invariant_of-self
-invariant_of-self c =
+invariant_of-self g c =
     history_more _ (Leave c.args.pass c.leave-reply.result) _ c.is_full.ensures.tail c.leave-reply.ensures
-    (subst (λ p. Appends c.self.inside.log (Leave p c.leave-reply.result) c.append.new.self) c.details-details.ensures (subst (λ r. Appends c.self.inside.log (Leave c.details-details.result r) c.append.new.self) c.left.ensures c.append.ensures))
+    (subst (λ x. Appends c.self.inside.log (Leave x c.leave-reply.result) c.append.new.self) c.details-details.ensures (subst (λ x. Appends c.self.inside.log (Leave c.details-details.result x) c.append.new.self) c.left.ensures c.append.ensures))
     c.self.invariant
 
 pub returns-clause-step : goal.returns-clause-step
-returns-clause-step c = λ _.
+returns-clause-step g c = λ _.
     subst (λ (j : JournalView). JournalStep j (Leave c.args.pass c.leave-reply.result) (record { view = c.leave-reply.new.self; log = c.append.new.self })) c.self.view_is
     (journal_step _ (Leave c.args.pass c.leave-reply.result) _ c.is_full.ensures.tail c.leave-reply.ensures
-    (subst (λ p. Appends c.self.inside.log (Leave p c.leave-reply.result) c.append.new.self) c.details-details.ensures (subst (λ r. Appends c.self.inside.log (Leave c.details-details.result r) c.append.new.self) c.left.ensures c.append.ensures)))
+    (subst (λ x. Appends c.self.inside.log (Leave x c.leave-reply.result) c.append.new.self) c.details-details.ensures (subst (λ x. Appends c.self.inside.log (Leave c.details-details.result x) c.append.new.self) c.left.ensures c.append.ensures)))

@@ -4,7 +4,7 @@ use Rattle.locked_node.proofs.Histories.{tally_none}
 use Rattle.locked_node.proofs.journal.Journal.new.Goals as goal
 
 pub invariant_of-result : goal.invariant_of-result
-invariant_of-result c = record {
+invariant_of-result g c = record {
   past = [];
   first = c.args.core;
   base = c.args.core;

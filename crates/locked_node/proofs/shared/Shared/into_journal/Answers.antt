@@ -8,7 +8,7 @@ use Rattle.locked_node.proofs.Wholes.{share_some, home_free, whole_is}
 use Rattle.locked_node.proofs.shared.Shared.into_journal.Goals as goal
 
 pub returns : goal.returns
-returns c = record {
+returns g c = record {
   whole = λ whole. subst (λ (o : CallerView). o.allowance + all_calls o.tally ≡ CALL_LIMIT → IsWhole o c.take-journal.result) c.caller.view_is (λ all.
       let inv = c.caller.invariant in
       let final = c.close_with-closed.ensures.values.2 in

@@ -1,36 +1,24 @@
-use Rattle.std.proofs.Common.{◌-◌, refl, ◌∙◌, subst, ap, arith}
+use Rattle.std.proofs.Common.{refl, subst, arith}
 use Rattle.node_core.specs.declared.exchange.Exchange.TheVariants.{Join}
 use Rattle.locked_node.specs.Totals.{Counts}
-use Rattle.locked_node.specs.Lock.{CallerView, CallerStep}
-use Rattle.locked_node.specs.CallerOf.{caller_of}
-use Rattle.locked_node.proofs.Stepping.{share_steps, caller_more, caller_steps}
+use Rattle.locked_node.proofs.Stepping.{makes, caller_keeps, caller_counts, caller_same}
 use Rattle.locked_node.proofs.shared.Shared.join.Goals as goal
 
 pub invariant_of-caller : goal.invariant_of-caller
-invariant_of-caller g c =
-    caller_more c.caller.inside (record { seat = c.give.new.seat; allowance = c.caller.inside.allowance - 1; tally = c.count.new.self }) (Join c.args.database c.args.secret c.held_join-reply.result)
-    (omega arith)
-    (share_steps _ _ _ _ (Join c.args.database c.args.secret c.held_join-reply.result) c.take.ensures.took c.held_join-reply.ensures.calls c.give.ensures.given)
-    refl
-    (subst (λ r. Counts c.caller.inside.tally (Join c.args.database c.args.secret r) c.count.new.self) c.told.ensures c.count.ensures)
+invariant_of-caller g c = caller_keeps _ _ _
+    (makes _ _ _ _ (Join c.args.database c.args.secret c.held_join-reply.result) (omega arith) c.take.ensures.own c.held_join-reply.ensures.own c.give.ensures.own
+    c.take.ensures.took c.held_join-reply.ensures.calls c.give.ensures.given refl
+    (subst (λ x. Counts c.caller.inside.tally (Join c.args.database c.args.secret x) c.count.new.self) c.told.ensures c.count.ensures))
     c.caller.invariant
 
 pub returns-clause-counted : goal.returns-clause-counted
-returns-clause-counted g c = λ _.
-    subst (λ (o : CallerView). CallerStep o (Join c.args.database c.args.secret c.held_join-reply.result) (caller_of (record { seat = c.give.new.seat; allowance = c.caller.inside.allowance - 1; tally = c.count.new.self }))) c.caller.view_is
-    (caller_steps c.caller.inside (record { seat = c.give.new.seat; allowance = c.caller.inside.allowance - 1; tally = c.count.new.self }) (Join c.args.database c.args.secret c.held_join-reply.result)
-    (omega arith)
-    (c.give.ensures.own ∙ (c.held_join-reply.ensures.own ∙ c.take.ensures.own))
-    (share_steps _ _ _ _ (Join c.args.database c.args.secret c.held_join-reply.result) c.take.ensures.took c.held_join-reply.ensures.calls c.give.ensures.given)
-    refl
-    (subst (λ r. Counts c.caller.inside.tally (Join c.args.database c.args.secret r) c.count.new.self) c.told.ensures c.count.ensures))
+returns-clause-counted g c = λ _. caller_counts c.caller.inside (record { seat = c.give.new.seat; allowance = _; tally = _ }) _ _ c.caller.view_is
+    (makes _ _ _ _ (Join c.args.database c.args.secret c.held_join-reply.result) (omega arith) c.take.ensures.own c.held_join-reply.ensures.own c.give.ensures.own
+    c.take.ensures.took c.held_join-reply.ensures.calls c.give.ensures.given refl
+    (subst (λ x. Counts c.caller.inside.tally (Join c.args.database c.args.secret x) c.count.new.self) c.told.ensures c.count.ensures))
 
 pub returns-clause-same : goal.returns-clause-same
-returns-clause-same g c =
-    let step = (caller_steps c.caller.inside (record { seat = c.give.new.seat; allowance = c.caller.inside.allowance - 1; tally = c.count.new.self }) (Join c.args.database c.args.secret c.held_join-reply.result)
-    (omega arith)
-    (c.give.ensures.own ∙ (c.held_join-reply.ensures.own ∙ c.take.ensures.own))
-    (share_steps _ _ _ _ (Join c.args.database c.args.secret c.held_join-reply.result) c.take.ensures.took c.held_join-reply.ensures.calls c.give.ensures.given)
-    refl
-    (subst (λ r. Counts c.caller.inside.tally (Join c.args.database c.args.secret r) c.count.new.self) c.told.ensures c.count.ensures)) in
-    (step.lock ∙ ap (λ (o : CallerView). o.lock) c.caller.view_is, step.start ∙ ap (λ (o : CallerView). o.start) c.caller.view_is)
+returns-clause-same g c = caller_same c.caller.inside (record { seat = c.give.new.seat; allowance = _; tally = _ }) _ _ c.caller.view_is
+    (makes _ _ _ _ (Join c.args.database c.args.secret c.held_join-reply.result) (omega arith) c.take.ensures.own c.held_join-reply.ensures.own c.give.ensures.own
+    c.take.ensures.took c.held_join-reply.ensures.calls c.give.ensures.given refl
+    (subst (λ x. Counts c.caller.inside.tally (Join c.args.database c.args.secret x) c.count.new.self) c.told.ensures c.count.ensures))

@@ -8,7 +8,7 @@ use Rattle.locked_node.proofs.Locking.{lock_joins, lock_looks}
 use Rattle.locked_node.proofs.shared.Shared.unite.Goals as goal
 
 pub join_seat-requires : goal.join_seat-requires
-join_seat-requires c = (
+join_seat-requires g c = (
   c.requires.own.0 ∙ sym c.self.view_is,
   c.requires.own.1 ∙ sym c.self.view_is,
   c.requires.empty.1,
@@ -17,7 +17,7 @@ join_seat-requires c = (
 )
 
 pub load-requires : goal.load-requires
-load-requires c = (
+load-requires g c = (
   c.join_seat.ensures.0 ∙ (c.requires.own.0 ∙ sym c.self.view_is),
   (let w = c.self.invariant.0 in omega (arith, w)),
   lock_looks _ _ _ c.join_seat.new.seat.me (step c.self.inside.table.shared.table_id.slots 0 0 0 none)

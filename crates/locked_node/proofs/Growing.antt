@@ -1,0 +1,212 @@
+-- A step keeps the databases, and the incarnation and the next numbers grow by what it makes.
+use Rattle.std.proofs.Common.{◌≡◌, ℕ, ◌+◌, ◌≤◌, List, Option, Some, None, Ok, Err, refl, sym, ap, ◌∙◌, subst, arith}
+use Rattle.std.specs.Prelude.{if◌then◌else◌, slice_get}
+use Rattle.lease.specs.declared.ticket.TicketRecord.{TicketRecord}
+use Rattle.link_pool.specs.declared.place.Claim.{Claim}
+use Rattle.link_pool.specs.declared.place.Claim.TheVariants as claim
+use Rattle.link_pool.specs.declared.replies.AcquireReply.TheVariants as acquire
+use Rattle.link_pool.specs.declared.replies.UpReply.TheVariants as up
+use Rattle.link_pool.specs.declared.replies.UpFailedReply.TheVariants as failing
+use Rattle.link_pool.specs.declared.replies.ReleaseReply.TheVariants as release
+use Rattle.link_pool.specs.declared.replies.CloseReply.TheVariants as close
+use Rattle.link_pool.specs.declared.replies.EndedReply.TheVariants as ended
+use Rattle.link_pool.specs.declared.replies.FailedReply.TheVariants as failed
+use Rattle.link_pool.specs.declared.replies.RestartReply.TheVariants as restart
+use Rattle.link_pool.specs.Pool.{PoolView, out_of_queue, unqueued, in_queue, queued}
+use Rattle.cancel_router.specs.declared.refusal.RouteRefusal.TheVariants as route
+use Rattle.cancel_router.specs.declared.decision.Route.{Route}
+use Rattle.cancel_router.specs.declared.decision.Route.TheVariants as route_to
+use Rattle.node_core.specs.View.{NodeView}
+use Rattle.node_core.specs.declared.refusal.JoinRefusal.TheVariants as join
+use Rattle.node_core.specs.declared.refusal.CancelRefusal.{CancelRefusal}
+use Rattle.node_core.specs.declared.refusal.CancelRefusal.TheVariants as cancel
+use Rattle.node_core.specs.declared.exchange.LeaveReply.TheVariants as leave
+use Rattle.node_core.specs.declared.exchange.Order.TheVariants as order
+use Rattle.node_core.specs.declared.exchange.Exchange.{Exchange}
+use Rattle.node_core.specs.declared.exchange.Exchange.TheVariants.{Join, Leave, Acquire, Up, UpFailed, Release, Close, Cancel, Ended, Failed, Restart}
+use Rattle.node_core.specs.NodeStep.{NodeStep, Orders}
+use Rattle.locked_node.specs.Totals.{is_of}
+
+-- 1 for a call of this kind, and 0 for another
+abbrev pub one : ℕ → Exchange → ℕ
+one kind call = if is_of kind call then 1 else 0
+
+-- the numbers of a node's links
+record Numbers : Type 0 where
+  permit : ℕ
+  link : ℕ
+  ticket : ℕ
+  incarnation : ℕ
+
+abbrev numbers : PoolView → Numbers
+numbers v = record { permit = v.next_permit; link = v.next_link; ticket = v.next_ticket; incarnation = v.incarnation }
+
+-- so many permits, links, tickets and incarnations were made, at most
+record LinksGrow (permit link ticket incarnation : ℕ) (old new : PoolView) : Type 0 where
+  permits : permit + old.next_permit ≤ new.next_permit
+  links : link + old.next_link ≤ new.next_link
+  tickets : ticket + old.next_ticket ≤ new.next_ticket
+  incarnations : incarnation + old.incarnation ≤ new.incarnation
+
+-- besides so many passes, and the databases stay
+pub record Grows (pass permit link ticket incarnation : ℕ) (old new : NodeView) : Type 0 where
+  pub pools : new.pools ≡ old.pools
+  pub passes : pass + old.next_pass ≤ new.next_pass
+  pub permits : permit + old.links.next_permit ≤ new.links.next_permit
+  pub links : link + old.links.next_link ≤ new.links.next_link
+  pub tickets : ticket + old.links.next_ticket ≤ new.links.next_ticket
+  pub incarnations : incarnation + old.links.incarnation ≤ new.links.incarnation
+
+-- the queues have no numbers
+left_out : (has : Option Claim) (v : PoolView) (slot : ℕ) → numbers (out_of_queue has v slot) ≡ numbers v
+left_out None v slot = refl
+left_out (Some claim.Nothing) v slot = refl
+left_out (Some (claim.Waiting database)) v slot = refl
+left_out (Some (claim.Open at)) v slot = refl
+left_out (Some (claim.Link at)) v slot = refl
+
+put_in : (has : Option Claim) (v : PoolView) (slot database : ℕ) → numbers (in_queue has v slot database) ≡ numbers v
+put_in None v slot database = refl
+put_in (Some claim.Nothing) v slot database = refl
+put_in (Some (claim.Waiting already)) v slot database = refl
+put_in (Some (claim.Open at)) v slot database = refl
+put_in (Some (claim.Link at)) v slot database = refl
+
+without : (v : PoolView) (slot : ℕ) → numbers (unqueued v slot) ≡ numbers v
+without v slot = left_out (slice_get v.claims slot) v slot
+
+within : (v : PoolView) (slot database : ℕ) → numbers (queued v slot database) ≡ numbers v
+within v slot database = put_in (slice_get v.claims slot) v slot database
+
+-- nothing was made
+none_made : (old new : PoolView) → numbers new ≡ numbers old → LinksGrow 0 0 0 0 old new
+none_made old new e = record {
+  permits = let n = ap (λ (x : Numbers). x.permit) e in omega (arith, n);
+  links = let n = ap (λ (x : Numbers). x.link) e in omega (arith, n);
+  tickets = let n = ap (λ (x : Numbers). x.ticket) e in omega (arith, n);
+  incarnations = let n = ap (λ (x : Numbers). x.incarnation) e in omega (arith, n);
+}
+
+-- these numbers were given
+given : (permit link ticket incarnation : ℕ) (old now new : PoolView) → new ≡ now → permit + old.next_permit ≤ now.next_permit → link + old.next_link ≤ now.next_link
+    → ticket + old.next_ticket ≤ now.next_ticket → incarnation + old.incarnation ≤ now.incarnation → LinksGrow permit link ticket incarnation old new
+given permit link ticket incarnation old now new e a b c d = subst (LinksGrow permit link ticket incarnation old) (sym e) record { permits = a; links = b; tickets = c; incarnations = d }
+
+-- a step of the links alone
+by_links : {permit link ticket incarnation : ℕ} (old new : NodeView) → LinksGrow permit link ticket incarnation old.links new.links → new ≡ record old { links = new.links }
+    → Grows 0 permit link ticket incarnation old new
+by_links old new grow e = record {
+  pools = ap (λ (v : NodeView). v.pools) e;
+  passes = let n = ap (λ (v : NodeView). v.next_pass) e in omega (arith, n);
+  permits = grow.permits;
+  links = grow.links;
+  tickets = grow.tickets;
+  incarnations = grow.incarnations;
+}
+
+-- a step that makes no number
+unmoved : (old new : NodeView) → new.pools ≡ old.pools → new.next_pass ≡ old.next_pass → numbers new.links ≡ numbers old.links → Grows 0 0 0 0 0 old new
+unmoved old new pools pass links = let grow = none_made old.links new.links links in record {
+  pools = pools;
+  passes = omega (arith, pass);
+  permits = grow.permits;
+  links = grow.links;
+  tickets = grow.tickets;
+  incarnations = grow.incarnations;
+}
+
+-- a step that changes nothing
+still : (old new : NodeView) → new ≡ old → Grows 0 0 0 0 0 old new
+still old new e = unmoved old new (ap (λ (v : NodeView). v.pools) e) (ap (λ (v : NodeView). v.next_pass) e) (ap (λ (v : NodeView). numbers v.links) e)
+
+-- a step of the links that makes no number
+linked : (old new : NodeView) (links : PoolView) → numbers links ≡ numbers old.links → new.links ≡ links → new ≡ record old { links = new.links } → Grows 0 0 0 0 0 old new
+linked old new links same e after = by_links old new (none_made old.links new.links (ap numbers e ∙ same)) after
+
+-- a cancel request that isn't sent to a server
+forwarded : (slot : ℕ) (r : Route) (to : ℕ) (packet : List ℕ) (old new : NodeView) → Orders slot r (order.Forward to packet) old new → Grows 0 0 0 0 0 old new
+forwarded slot (route_to.Forward peer key) to packet old new o = still old new o.2
+forwarded slot (route_to.Refused reason) to packet old new o = absurd o
+forwarded slot (route_to.Send link) to packet old new o = absurd o
+
+refused : (slot : ℕ) (r : Route) (refusal : CancelRefusal) (old new : NodeView) → Orders slot r (order.Refused refusal) old new → Grows 0 0 0 0 0 old new
+refused slot (route_to.Forward peer key) refusal old new o = absurd o
+refused slot (route_to.Refused reason) refusal old new o = still old new o.1
+refused slot (route_to.Send link) cancel.Busy old new o = linked old new old.links refl o.0.1 o.1
+refused slot (route_to.Send link) cancel.Exhausted old new o = linked old new old.links refl o.0.2 o.1
+refused slot (route_to.Send link) (cancel.Route reason) old new o = absurd o
+
+served : (slot : ℕ) (r : Route) (ticket : TicketRecord) (database : ℕ) (key : List ℕ) (old new : NodeView) → Orders slot r (order.Serve ticket database key) old new
+    → Grows 0 0 0 1 0 old new
+served slot (route_to.Forward peer link) ticket database key old new o = absurd o
+served slot (route_to.Refused reason) ticket database key old new o = absurd o
+served slot (route_to.Send link) ticket database key old new o =
+    by_links old new (given 0 0 1 0 old.links _ new.links o.1.0.after (omega arith) (omega arith) (omega arith) (omega arith)) o.1.1
+
+-- what a step makes
+pub step_grows : (old : NodeView) (call : Exchange) (new : NodeView) → NodeStep old call new → Grows (one 0 call) (one 8 call) (one 13 call) (one 28 call) (one 44 call) old new
+step_grows old (Join database secret (Ok pass)) new step = let e = step.after in record {
+  pools = ap (λ (v : NodeView). v.pools) e;
+  passes = let n = ap (λ (v : NodeView). v.next_pass) e in omega (arith, n);
+  permits = let n = ap (λ (v : NodeView). v.links.next_permit) e in omega (arith, n);
+  links = let n = ap (λ (v : NodeView). v.links.next_link) e in omega (arith, n);
+  tickets = let n = ap (λ (v : NodeView). v.links.next_ticket) e in omega (arith, n);
+  incarnations = let n = ap (λ (v : NodeView). v.links.incarnation) e in omega (arith, n);
+}
+step_grows old (Join database secret (Err join.Full)) new step = still old new step.1
+step_grows old (Join database secret (Err join.Exhausted)) new step = still old new step.2
+step_grows old (Leave pass leave.Left) new step = let e = step.2.after in unmoved old new (ap (λ (v : NodeView). v.pools) e) (ap (λ (v : NodeView). v.next_pass) e) (ap (λ (v : NodeView). numbers v.links) e ∙ without old.links pass.key.slot)
+step_grows old (Leave pass (leave.Holding again)) new step = still old new step.3
+step_grows old (Leave pass leave.Stale) new step = still old new step.1
+step_grows old (Leave pass leave.Exhausted) new step = absurd step
+step_grows old (Acquire pass (acquire.Got lease)) new step = linked old new _ (without old.links pass.key.slot) step.step.0.1.after step.step.1
+step_grows old (Acquire pass (acquire.Open permit)) new step =
+    let u = without old.links pass.key.slot in
+    let link = ap (λ (x : Numbers). x.link) u in
+    let ticket = ap (λ (x : Numbers). x.ticket) u in
+    let incarnation = ap (λ (x : Numbers). x.incarnation) u in
+    by_links old new (given 1 0 0 0 old.links _ new.links step.step.0.2.after (omega arith) (omega (arith, link)) (omega (arith, ticket)) (omega (arith, incarnation))) step.step.1
+step_grows old (Acquire pass acquire.Waiting) new step = linked old new _ (within old.links pass.key.slot step.client.database) step.step.0.2 step.step.1
+step_grows old (Acquire pass acquire.Holding) new step = linked old new _ refl step.step.0.1 step.step.1
+step_grows old (Acquire pass acquire.Exhausted) new step = linked old new _ refl step.step.0.4 step.step.1
+step_grows old (Acquire pass acquire.Stale) new step = still old new step.1
+step_grows old (Up permit key (up.Up lease)) new step = by_links old new (given 0 1 0 0 old.links _ new.links step.0.after (omega arith) (omega arith) (omega arith) (omega arith)) step.1
+step_grows old (Up permit key (up.Exhausted again stream)) new step = linked old new _ refl step.0.3 step.1
+step_grows old (Up permit key (up.Stale stream)) new step = linked old new _ refl step.0.1 step.1
+step_grows old (Up permit key (up.AtEnd stream)) new step = absurd step.0
+step_grows old (UpFailed permit failing.Freed) new step = linked old new _ refl step.0.2 step.1
+step_grows old (UpFailed permit failing.Stale) new step = linked old new _ refl step.0.1 step.1
+step_grows old (UpFailed permit failing.Exhausted) new step = absurd step.0
+step_grows old (Release lease release.Idle) new step = linked old new _ refl step.0.5 step.1
+step_grows old (Release lease release.Quarantined) new step = linked old new _ refl step.0.5 step.1
+step_grows old (Release lease (release.Closed stream)) new step = linked old new _ refl step.0.4 step.1
+step_grows old (Release lease (release.Stale stream)) new step = linked old new _ refl step.0.1 step.1
+step_grows old (Release lease (release.Exhausted stream)) new step = absurd step.0
+step_grows old (Close lease (close.Closed stream)) new step = linked old new _ refl step.0.3 step.1
+step_grows old (Close lease (close.Stale stream)) new step = linked old new _ refl step.0.1 step.1
+step_grows old (Close lease (close.Exhausted stream)) new step = absurd step.0
+step_grows old (Cancel key (order.Serve ticket database server)) new step = served _ _ ticket database server old new step.order_is
+step_grows old (Cancel key (order.Forward to packet)) new step = forwarded _ _ to packet old new step.order_is
+step_grows old (Cancel key (order.Refused (cancel.Route route.Spent))) new step = refused _ _ (cancel.Route route.Spent) old new step.order_is
+step_grows old (Cancel key (order.Refused (cancel.Route route.Unknown))) new step = refused _ _ (cancel.Route route.Unknown) old new step.order_is
+step_grows old (Cancel key (order.Refused (cancel.Route route.NoPeer))) new step = refused _ _ (cancel.Route route.NoPeer) old new step.order_is
+step_grows old (Cancel key (order.Refused (cancel.Route route.NoLink))) new step = refused _ _ (cancel.Route route.NoLink) old new step.order_is
+step_grows old (Cancel key (order.Refused cancel.Busy)) new step = refused _ _ cancel.Busy old new step.order_is
+step_grows old (Cancel key (order.Refused cancel.Exhausted)) new step = refused _ _ cancel.Exhausted old new step.order_is
+step_grows old (Ended ticket ended.Freed) new step = linked old new _ refl step.0.4 step.1
+step_grows old (Ended ticket ended.Counted) new step = linked old new _ refl step.0.3 step.1
+step_grows old (Ended ticket ended.Stale) new step = linked old new _ refl step.0.1 step.1
+step_grows old (Ended ticket ended.Exhausted) new step = absurd step.0
+step_grows old (Failed ticket failed.Condemned) new step = linked old new _ refl step.0.4 step.1
+step_grows old (Failed ticket (failed.Closed stream)) new step = linked old new _ refl step.0.3 step.1
+step_grows old (Failed ticket failed.Stale) new step = linked old new _ refl step.0.1 step.1
+step_grows old (Failed ticket failed.Exhausted) new step = absurd step.0
+step_grows old (Restart restart.Restarted) new step = let e = step.after in let grow = given 0 0 0 1 old.links _ new.links step.links.0 (omega arith) (omega arith) (omega arith) (omega arith) in record {
+  pools = ap (λ (v : NodeView). v.pools) e;
+  passes = let n = ap (λ (v : NodeView). v.next_pass) e in omega (arith, n);
+  permits = grow.permits;
+  links = grow.links;
+  tickets = grow.tickets;
+  incarnations = grow.incarnations;
+}
+step_grows old (Restart restart.Exhausted) new step = still old new step.1

@@ -1,0 +1,21 @@
+use Rattle.std.proofs.Common.{subst}
+use Rattle.node_core.specs.declared.exchange.Exchange.TheVariants.{UpFailed}
+use Rattle.locked_node.specs.Journal.{JournalView, JournalStep, Appends}
+use Rattle.locked_node.proofs.Histories.{history_more, journal_step}
+use Rattle.locked_node.proofs.journal.Journal.up_failed.Goals as goal
+
+pub append-requires : goal.append-requires
+append-requires g c = c.if-is_full.ensures.full
+
+-- the history has one call more
+pub invariant_of-self : goal.invariant_of-self
+invariant_of-self g c =
+    history_more _ (UpFailed c.args.permit c.up_failed-reply.result) _ c.is_full.ensures.tail c.up_failed-reply.ensures
+    (subst (λ x. Appends c.self.inside.log (UpFailed x c.up_failed-reply.result) c.append.new.self) c.details-details.ensures c.append.ensures)
+    c.self.invariant
+
+pub returns-clause-step : goal.returns-clause-step
+returns-clause-step g c = λ _.
+    subst (λ (j : JournalView). JournalStep j (UpFailed c.args.permit c.up_failed-reply.result) (record { view = c.up_failed-reply.new.self; log = c.append.new.self })) c.self.view_is
+    (journal_step _ (UpFailed c.args.permit c.up_failed-reply.result) _ c.is_full.ensures.tail c.up_failed-reply.ensures
+    (subst (λ x. Appends c.self.inside.log (UpFailed x c.up_failed-reply.result) c.append.new.self) c.details-details.ensures c.append.ensures))

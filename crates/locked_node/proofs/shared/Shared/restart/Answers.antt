@@ -1,0 +1,23 @@
+use Rattle.std.proofs.Common.{refl, arith}
+use Rattle.node_core.specs.declared.exchange.Exchange.TheVariants.{Restart}
+use Rattle.locked_node.proofs.Stepping.{makes, caller_keeps, caller_counts, caller_same}
+use Rattle.locked_node.proofs.shared.Shared.restart.Goals as goal
+
+pub invariant_of-caller : goal.invariant_of-caller
+invariant_of-caller g c = caller_keeps _ _ _
+    (makes _ _ _ _ (Restart c.held_restart-reply.result) (omega arith) c.take.ensures.own c.held_restart-reply.ensures.own c.give.ensures.own
+    c.take.ensures.took c.held_restart-reply.ensures.calls c.give.ensures.given refl
+    c.count.ensures)
+    c.caller.invariant
+
+pub returns-clause-counted : goal.returns-clause-counted
+returns-clause-counted g c = λ _. caller_counts c.caller.inside (record { seat = c.give.new.seat; allowance = _; tally = _ }) _ _ c.caller.view_is
+    (makes _ _ _ _ (Restart c.held_restart-reply.result) (omega arith) c.take.ensures.own c.held_restart-reply.ensures.own c.give.ensures.own
+    c.take.ensures.took c.held_restart-reply.ensures.calls c.give.ensures.given refl
+    c.count.ensures)
+
+pub returns-clause-same : goal.returns-clause-same
+returns-clause-same g c = caller_same c.caller.inside (record { seat = c.give.new.seat; allowance = _; tally = _ }) _ _ c.caller.view_is
+    (makes _ _ _ _ (Restart c.held_restart-reply.result) (omega arith) c.take.ensures.own c.held_restart-reply.ensures.own c.give.ensures.own
+    c.take.ensures.took c.held_restart-reply.ensures.calls c.give.ensures.given refl
+    c.count.ensures)

@@ -1,0 +1,77 @@
+//! As many peers and clients as there may be, and more.
+use super::{ONE, expect_answer};
+use std::alloc::Global;
+use std::process::Abort;
+use std::sync::Wait;
+use std::test::Fail;
+
+#[test]
+fn peers(rt: HostRuntime) -> Result<(), Fail> {
+    let alloc = rt.alloc();
+    let mut peers = String::from_str(alloc, "1")?;
+    for number in 2..65 {
+        peers.push_str(format!(in alloc; ",{number}")?.as_str())?;
+    }
+    let forward = "forward 2 0000001004d2162e0008000000000006\n";
+    expect_among_peers(&rt, peers.as_str(), 0, forward, "");
+    peers.push_str(",65")?;
+    let many = "--peers 65: there are at most 64 peers\n";
+    expect_among_peers(&rt, peers.as_str(), 2, "", many);
+    Ok(())
+}
+
+#[track_caller]
+fn expect_among_peers(
+    rt: &(impl Abort + Wait + Alloc<A = Global>),
+    peers: &str,
+    status: u8,
+    out: &str,
+    err: &str,
+) {
+    let words = ["decide", "--me", "1", "--peers", peers, ONE];
+    expect_answer(rt, &words, status, out, err);
+}
+
+// Requests for slots 59,999 and 60,000 of pooler 2, with secret 7 and hops 3.
+const LAST: &str = "0000001004d2162e000ba97c0000001f";
+
+const PAST: &str = "0000001004d2162e000ba9800000001f";
+
+#[test]
+fn sixty_thousand_clients(rt: HostRuntime) -> Result<(), Fail> {
+    let live = repeated(rt.alloc(), "7", 60000)?;
+    expect_among_clients(&rt, live.as_str(), LAST, 0, "refused 63\n", "");
+    expect_among_clients(&rt, live.as_str(), PAST, 0, "refused 61\n", "");
+    Ok(())
+}
+
+#[test]
+fn too_many_clients(rt: HostRuntime) -> Result<(), Fail> {
+    let live = repeated(rt.alloc(), "7", 65536)?;
+    let many = "--live 7: there are at most 65535 clients\n";
+    expect_among_clients(&rt, live.as_str(), ONE, 2, "", many);
+    Ok(())
+}
+
+// The word so many times, with commas between.
+fn repeated(alloc: Global, word: &str, count: u32) -> Result<String, Fail> {
+    let mut text = String::from_str(alloc, word)?;
+    for _ in 1..count {
+        text.push_str(",")?;
+        text.push_str(word)?;
+    }
+    Ok(text)
+}
+
+#[track_caller]
+fn expect_among_clients(
+    rt: &(impl Abort + Wait + Alloc<A = Global>),
+    live: &str,
+    packet: &str,
+    status: u8,
+    out: &str,
+    err: &str,
+) {
+    let words = ["decide", "--me", "2", "--live", live, packet];
+    expect_answer(rt, &words, status, out, err);
+}
