@@ -108,7 +108,7 @@ cut_by (suc most) bytes fits small =
 pub cut_of : (bytes : List ℕ) → IsBytes bytes → (frames : List Frame) × (rest : List ℕ) × Cuts bytes frames rest
 cut_of bytes small = cut_by (length bytes) bytes (omega arith) small
 
-fault_at_nothing : fault_at [] ≡ None
+pub fault_at_nothing : fault_at [] ≡ None
 unfolding fault_at
 fault_at_nothing = refl
 

@@ -1,9 +1,9 @@
--- The numbers of the refusals (own).
+-- The numbers of the errors (own).
 use Rattle.std.specs.Prelude.{ℕ}
 use Rattle.pg_frames.specs.declared.error.FrameError.{FrameError}
 use Rattle.pg_frames.specs.declared.error.FrameError.TheVariants.{BadLength, TooLong, BadType, Memory}
 
--- the number of a refusal
+-- the number of an error
 abbrev pub number_of : FrameError → ℕ
 number_of BadLength = 10
 number_of TooLong = 11

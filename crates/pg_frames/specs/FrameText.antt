@@ -35,7 +35,8 @@ pub record Cuts (stream : List ℕ) (frames : List Frame) (rest : List ℕ) : Ty
   pub each : AllByRecursion IsFrame frames
   pub longest : BeginsNoFrame rest
 
--- the fault at the front of a rest, if one stands there: the type is judged first, the length as soon as it is whole
+-- the fault at the front of a rest, if there is one: the type is judged first, the length as soon as
+-- it is whole
 unfoldable pub fault_at : List ℕ → Option FrameError
 fault_at [] = None
 fault_at (kind ∷ more) =
@@ -52,7 +53,7 @@ pub record HasFault (stream : List ℕ) (fault : Option FrameError) : Type 0 whe
   pub cuts : Cuts stream frames rest
   pub stands : fault_at rest ≡ fault
 
--- an answer tells the fault, or that there is none; want of memory tells nothing
+-- a result is the fault, or says that there is none; out of memory says nothing
 abbrev pub Tells : Result (Unit {0}) FrameError → Option FrameError → Type 0
 Tells (Ok _) fault = fault ≡ None
 Tells (Err BadLength) fault = fault ≡ Some BadLength
@@ -60,6 +61,6 @@ Tells (Err TooLong) fault = fault ≡ Some TooLong
 Tells (Err BadType) fault = fault ≡ Some BadType
 Tells (Err Memory) fault = Unit {0}
 
--- the answer to a stream so far tells the fault in its rest
+-- the result for a stream so far is the fault in its rest
 abbrev pub IsJudged : List ℕ → Result (Unit {0}) FrameError → Type 0
 IsJudged stream answer = (fault : Option FrameError) × HasFault stream fault × Tells answer fault

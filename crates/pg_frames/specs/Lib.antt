@@ -2,3 +2,6 @@ pub mod FrameError
 pub mod FrameText
 pub mod Header
 pub mod Ready
+pub mod Buffer
+pub mod Passage
+pub mod Parts

@@ -1,10 +1,11 @@
 //! A stream of frames that comes in any pieces.
 ghost use Rattle.std.specs.Prelude.{◌≡◌, ◌≢◌, ◌+◌, ◌-◌, ◌<◌, ◌≤◌, ℕ, ◌++◌, [], length, take, drop, slice_index, Ok, Err, Some, None, MatchOption, IfOk, IfSome, OnOk, OnErr, IsOkUnless};
 ghost use Rattle.byteorder.specs.Endian.{big_number};
-ghost use Rattle.pg_frames.specs.FrameText.{text, fault_at, IsFrame, BeginsNoFrame, IsJudged, HasFault};
-ghost use Rattle.pg_frames.specs.Ready.{BeginsFrame, IsReady};
+ghost use Rattle.pg_frames.specs.FrameText.{text, IsFrame, BeginsNoFrame, IsJudged, HasFault};
+ghost use Rattle.pg_frames.specs.Ready.{IsReady};
 
-use crate::header::{HEADER_LEN, header_at};
+use crate::header::HEADER_LEN;
+use crate::scan::{fault_after, whole_len};
 use crate::{Body, Frame, FrameError};
 use byteorder::{BigEndian, ByteOrder};
 use bytes::BytesMut;
@@ -32,7 +33,7 @@ impl Model for Cutter {
 }
 
 impl Cutter {
-    /// A cutter of a stream that is at its start. It takes no memory.
+    /// A cutter of a stream that is at its start. It allocates nothing.
     pub fn new(alloc: Global) -> Cutter
         ensures { result ≡ [] }
     {
@@ -43,10 +44,10 @@ impl Cutter {
         }
     }
 
-    /// Takes the next piece of the stream. Frames that stand before a fault are handed out all the same, and once a
-    /// fault was answered, it is answered from then on, with nothing more taken.
+    /// Takes the next piece of the stream. Frames before a fault are handed out all the same. Once a fault was
+    /// returned, it is returned from then on, and nothing more is taken.
     pub fn feed(&mut self, piece: &[u8]) -> Result<(), FrameError>
-        // The answer tells the fault that stands in the rest of what was fed, memory aside.
+        // The fault is the one at the front of the rest of what was fed, unless memory runs out.
         ensures judged { IsJudged (self.old ++ piece.now) result }
         ensures ok { OnOk result (self.new ≡ self.old ++ piece.now) }
         ensures memory { result ≡ Err FrameError.Memory → self.new ≡ self.old }
@@ -70,7 +71,7 @@ impl Cutter {
         }
     }
 
-    // The fault that stands in the rest.
+    // The fault at the front of the rest.
     fn fault(&self) -> Option<FrameError>
         ensures stands { HasFault self.now result }
         ensures bytes { (i : ℕ) → slice_index self.now i < 256 }
@@ -78,7 +79,7 @@ impl Cutter {
         fault_after(self.bytes.as_slice(), self.ready)
     }
 
-    /// Hands out the next frame, if it is whole. The one error is want of memory.
+    /// Hands out the next frame, if it is whole. The only error is `Memory`.
     pub fn next(&mut self) -> Result<Option<Frame>, FrameError>
         ensures frame { IfOk result (λ found. IfSome found
             (λ frame. IsFrame frame × (self.old ≡ text frame ++ self.new))) }
@@ -102,41 +103,6 @@ impl Cutter {
     {
         self.bytes.as_slice()
     }
-}
-
-// The fault at the front of what follows the whole frames.
-fn fault_after(bytes: &[u8], ready: usize) -> Option<FrameError>
-    requires { ready ≤ length bytes.now }
-    ensures stands { result ≡ fault_at (drop ready bytes.now) }
-    ensures bytes { (i : ℕ) → slice_index bytes.now i < 256 }
-{
-    let (_, rest) = bytes.split_at(ready);
-    header_at(rest).err()
-}
-
-// How many bytes the text at the front takes, none where no frame's text begins the bytes.
-fn frame_len(bytes: &[u8]) -> Option<usize>
-    ensures { MatchOption result (BeginsNoFrame bytes.now) (BeginsFrame bytes.now) }
-{
-    match header_at(bytes) {
-        Err(_) => None,
-        Ok(None) => None,
-        Ok(Some(header)) => {
-            let len = 1 + header.length;
-            if bytes.len() < len { None } else { Some(len) }
-        }
-    }
-}
-
-// How many bytes the whole frames at the front take.
-fn whole_len(bytes: &[u8]) -> usize
-    ensures { IsReady bytes.now result }
-{
-    let mut at = 0;
-    while let Some(len) = frame_len(bytes.split_at(at).1) {
-        at += len;
-    }
-    at
 }
 
 // The frame at the front, whose text is whole.

@@ -1,10 +1,10 @@
-//! Why a stream is no list of frames, or a frame isn't written.
+//! Why a stream isn't a list of frames, or why a frame can't be written.
 ghost use Rattle.std.specs.Prelude.{◌≡◌};
 ghost use Rattle.pg_frames.specs.FrameError.{number_of};
 
 use thiserror::Error;
 
-/// A refusal of this crate.
+/// An error of this crate.
 #[derive(Clone, Copy, Debug, PartialEq, Eq, Error)]
 pub enum FrameError {
     /// A length field below 4: it counts itself.
@@ -16,13 +16,13 @@ pub enum FrameError {
     /// A type byte that is no ASCII letter or digit. It is judged before the length.
     #[error("a type byte that is no letter or digit")]
     BadType,
-    /// Want of memory.
+    /// Out of memory.
     #[error("out of memory")]
     Memory,
 }
 
 impl FrameError {
-    /// The number that the refusal is known by.
+    /// The number of the error.
     pub const fn number(self) -> u8
         ensures { result ≡ number_of self }
     {

@@ -1,4 +1,4 @@
-//! The front of a frame: its type byte and its length field, judged as soon as they stand.
+//! The front of a frame: its type byte and its length field, judged as soon as they have come.
 ghost use Rattle.std.specs.Prelude.{◌≡◌, ◌<◌, IfErr, IfOk, IfNone, IfSome, OnOk, None, Some, length};
 ghost use Rattle.pg_frames.specs.FrameText.{fault_at};
 ghost use Rattle.pg_frames.specs.Header.{IsHeader};
@@ -24,7 +24,7 @@ pub struct Header {
     pub length: usize,
 }
 
-/// The header at the front of the bytes, none where too few have come, or the fault that stands there.
+/// The header at the front of the bytes, none where too few have come, or the fault there.
 #[tactic(auto, unfolding(crate::specs::FrameText::fault_at))]
 pub fn header_at(bytes: &[u8]) -> Result<Option<Header>, FrameError>
     ensures fault { IfErr result (λ fault. fault_at bytes.now ≡ Some fault) }

@@ -1,16 +1,20 @@
 //! Writing a frame.
-ghost use Rattle.std.specs.Prelude.{◌≡◌, ◌≢◌, ◌↔◌, ◌+◌, ◌<◌, ◌++◌, length, IsTrue, OnOk, OnErr, Err, IsOkUnless};
-ghost use Rattle.pg_frames.specs.FrameText.{text, is_type, IsFrame};
+ghost use Rattle.std.specs.Prelude.{◌≡◌, ◌≢◌, ◌↔◌, ◌+◌, ◌<◌, ◌++◌, ◌∷◌, ℕ, List, length, IsTrue, OnOk, OnErr, Err, IsOkUnless};
+ghost use Rattle.pg_frames.specs.declared.frame.Frame.{Frame};
+ghost use Rattle.pg_frames.specs.FrameText.{text, is_type, IsFrame, Cuts};
 
 use crate::header::{FIELD_LEN, HEADER_LEN, MAX_LENGTH};
 use crate::{Frame, FrameError};
 use byteorder::{BigEndian, ByteOrder};
 
-/// Appends the frame's text. A frame that isn't of the format is refused, its type first; a refusal leaves the
-/// vector as it was.
+/// Appends the frame's text. A frame that isn't of the format is refused, its type first; an error leaves the vector
+/// as it was.
 pub fn put_frame(frame: &Frame, out: &mut Vec<u8>) -> Result<(), FrameError>
     ensures ok { OnOk result (out.new.items ≡ out.old.items ++ text frame.now) }
     ensures of_format { OnOk result (IsFrame frame.now) }
+    // It is read again, whatever follows.
+    ensures again { OnOk result ((more : List ℕ) (frames : List Frame) (rest : List ℕ)
+        → Cuts more frames rest → Cuts (text frame.now ++ more) (frame.now ∷ frames) rest) }
     ensures bad_type { (result ≡ Err FrameError.BadType) ↔ (IsTrue (is_type frame.now.kind) → ⊥) }
     ensures too_long { (result ≡ Err FrameError.TooLong)
         ↔ (IsTrue (is_type frame.now.kind) × (1048576 < 4 + length frame.now.body)) }
@@ -27,7 +31,7 @@ pub fn put_frame(frame: &Frame, out: &mut Vec<u8>) -> Result<(), FrameError>
     append(frame, field as u32, out)
 }
 
-// Makes the room first, so that want of memory leaves the vector as it was.
+// Makes the room first, so that running out of memory leaves the vector as it was.
 #[tactic(auto, unfolding(crate::specs::FrameText::text))]
 fn append(frame: &Frame, field: u32, out: &mut Vec<u8>) -> Result<(), FrameError>
     requires { field ≡ 4 + length frame.now.body }

@@ -1,4 +1,4 @@
-//! A whole stream, and the laws of its cutting.
+//! A whole stream, cut into frames.
 ghost use Rattle.std.specs.Prelude.{◌≡◌, ◌<◌, ◌++◌, ◌∷◌, ℕ, List, IfOk, OnOk, None, slice_index};
 ghost use Rattle.std.specs.List.{flat_map};
 ghost use Rattle.pg_frames.specs.declared.frame.Frame.{Frame};
@@ -12,16 +12,16 @@ use std::alloc::{AllocError, Global};
 pub struct Cutting {
     /// The frames, in their order.
     pub frames: Vec<Frame>,
-    /// The fault, if one stands in the rest. It is never want of memory.
+    /// The fault at the front of what follows the frames, if there is one. It is never `Memory`.
     pub fault: Option<FrameError>,
 }
 
-/// What the stream is cut into that comes in these pieces.
+/// Cuts a stream, which comes in these pieces, into frames.
 pub fn cut(alloc: Global, pieces: &[&[u8]]) -> Result<Cutting, AllocError>
     ensures cut { IfOk result (λ c. (rest : List ℕ)
         × Cuts (flat_map (λ piece. piece.now) pieces.now) c.frames.items rest
         × (c.fault ≡ fault_at rest)) }
-    // No other frames are, and no other fault, so it doesn't matter how the stream was cut into pieces.
+    // The stream has no other frames and no other fault, however it was cut into pieces.
     ensures only { IfOk result (λ c. (frames : List Frame) (rest : List ℕ)
         → Cuts (flat_map (λ piece. piece.now) pieces.now) frames rest
         → (frames ≡ c.frames.items) × (fault_at rest ≡ c.fault)) }
@@ -73,16 +73,3 @@ fn hand_out(cutter: &mut Cutter, frames: &mut Vec<Frame>) -> Result<(), AllocErr
         }
     }
 }
-
-/// The laws of the cutting, for any stream of bytes.
-pub fn one_cutting()
-    // There is one.
-    ensures found { (stream : List ℕ) → ((i : ℕ) → slice_index stream i < 256)
-        → (frames : List Frame) × (rest : List ℕ) × Cuts stream frames rest }
-    // There is no other.
-    ensures only { (stream : List ℕ) (frames others : List Frame) (rest left : List ℕ)
-        → Cuts stream frames rest → Cuts stream others left → (frames ≡ others) × (rest ≡ left) }
-    // The text of a frame is read again, whatever follows.
-    ensures again { (frame : Frame) (more : List ℕ) (frames : List Frame) (rest : List ℕ)
-        → IsFrame frame → Cuts more frames rest → Cuts (text frame ++ more) (frame ∷ frames) rest }
-{}

@@ -1,8 +1,10 @@
-//! Streams cut at every place, the refusals at their smallest text, and each call with memory enough.
+//! Streams cut at every place, the errors at their smallest text, and each call with ample memory.
 use super::*;
 use std::alloc::{AllocError, Global};
 use std::process::Abort;
 use std::test::Fail;
+
+mod flow;
 
 // Four frames of 5, 9, 17 and 9 bytes: a Sync, a Query, a CommandComplete and a Query.
 const STREAM: [u8; 40] = [

@@ -1,6 +1,6 @@
 use Rattle.std.proofs.Common.{◌-◌, length}
 use Rattle.pg_frames.proofs.CutLemmas.{StandsFirst}
-use Rattle.pg_frames.proofs.cutter.whole_len.Given as goal
+use Rattle.pg_frames.proofs.scan.whole_len.Given as goal
 
 -- whole frames take the bytes so far
 abbrev pub invariant-loop-len : goal.invariant-loop-len

@@ -1,7 +1,7 @@
 use Rattle.std.proofs.Common.{List, ℕ, subst, arith}
 use Rattle.pg_frames.specs.Ready.{BeginsFrame}
 use Rattle.pg_frames.proofs.CutLemmas.{TakesFirst-fits, StandsFirst-more}
-use Rattle.pg_frames.proofs.cutter.whole_len.Goals as goal
+use Rattle.pg_frames.proofs.scan.whole_len.Goals as goal
 
 pub loop-len-smaller : goal.loop-len-smaller
 loop-len-smaller c =

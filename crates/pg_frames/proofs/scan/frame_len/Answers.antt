@@ -2,7 +2,7 @@ use Rattle.std.proofs.Common.{ℕ, IsTrue, subst, arith}
 use Rattle.pg_frames.specs.FrameText.{is_type}
 use Rattle.pg_frames.proofs.TextLemmas.{no_frame-short, no_frame-part, no_frame-fault}
 use Rattle.pg_frames.proofs.CutLemmas.{begins_frame}
-use Rattle.pg_frames.proofs.cutter.frame_len.Goals as goal
+use Rattle.pg_frames.proofs.scan.frame_len.Goals as goal
 
 pub returns-in-Err : goal.returns-in-Err
 returns-in-Err c = no_frame-fault c.args.bytes.now _ c.in-Err.ensures.fault

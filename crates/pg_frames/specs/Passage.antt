@@ -1,0 +1,64 @@
+-- Frames that are handed out in pieces (own; the frames are those of PostgreSQL manual, "Message Formats").
+use Rattle.std.specs.Prelude.{ℕ, ◌≡◌, ◌+◌, ◌-◌, ◌<◌, ◌≤◌, List, [], ◌∷◌, ◌++◌, length, drop, IsTrue, Option, Some, None, Result, Ok, Err, unwrap_or}
+use Rattle.byteorder.specs.Endian.{big_bytes}
+use Rattle.pg_frames.specs.declared.error.FrameError.{FrameError}
+use Rattle.pg_frames.specs.declared.header.Header.{Header}
+use Rattle.pg_frames.specs.declared.piece.Piece.{Piece}
+use Rattle.pg_frames.specs.declared.piece.Piece.TheVariants.{Head, Part, Tail}
+use Rattle.pg_frames.specs.FrameText.{is_type}
+
+-- What of a stream was fed and not handed out, and how many bytes more belong to the body whose
+-- head was handed out, if the tail wasn't.
+pub record Passage : Type 0 where
+  pub left : Option ℕ
+  pub bytes : List ℕ
+
+-- of a stream that is at its start
+abbrev pub start : Passage
+start = record { left = None; bytes = [] }
+
+-- with a piece of the stream more
+abbrev pub fed : Passage → List ℕ → Passage
+fed passage piece = record { left = passage.left; bytes = passage.bytes ++ piece }
+
+-- what follows the frame whose head was handed out
+abbrev pub after : Passage → List ℕ
+after passage = drop (unwrap_or passage.left 0) passage.bytes
+
+-- what is returned for a fault
+abbrev pub answer_of : Option FrameError → Result (Unit {0}) FrameError
+answer_of None = Ok tt
+answer_of (Some fault) = Err fault
+
+-- a type byte and a length field of the format
+pub record IsHead (kind size : ℕ) : Type 0 where
+  pub type_byte : IsTrue (is_type kind)
+  pub low : 4 ≤ size
+  pub high : size ≤ 1048576
+
+-- their text
+abbrev pub head_text : ℕ → ℕ → List ℕ
+head_text kind size = kind ∷ big_bytes 4 size
+
+-- no head of the format begins this
+abbrev pub BeginsNoHead : List ℕ → Type 0
+BeginsNoHead bytes = (kind size : ℕ) (more : List ℕ) → IsHead kind size → bytes ≡ head_text kind size ++ more → ⊥
+
+-- nothing is there to be handed out
+abbrev pub HasNoNext : Option ℕ → List ℕ → Type 0
+HasNoNext None bytes = BeginsNoHead bytes
+HasNoNext (Some left) bytes = (0 < left) × (bytes ≡ [])
+
+-- this head of the format begins the bytes
+pub record BeginsWith (bytes : List ℕ) (header : Header) : Type 0 where
+  pub head : IsHead header.kind header.length
+  pub whole : bytes ≡ head_text header.kind header.length ++ drop 5 bytes
+
+-- what may be handed out next
+abbrev pub Hands : Passage → Option Piece → Passage → Type 0
+Hands old None new = (new ≡ old) × HasNoNext old.left old.bytes
+Hands old (Some (Head kind size)) new =
+    (old.left ≡ None) × IsHead kind size × (old.bytes ≡ head_text kind size ++ new.bytes) × (new.left ≡ Some (size - 4))
+Hands old (Some (Part part)) new = (more : ℕ) × (0 < length part.now) × (old.left ≡ Some (length part.now + more))
+    × (old.bytes ≡ part.now ++ new.bytes) × (new.left ≡ Some more)
+Hands old (Some Tail) new = (old.left ≡ Some 0) × (new.left ≡ None) × (new.bytes ≡ old.bytes)

@@ -1,0 +1,132 @@
+//! A stream of frames that comes in any pieces, and is passed on in pieces.
+ghost use Rattle.std.specs.Prelude.{◌≡◌, ◌+◌, ◌<◌, ◌≤◌, [], ℕ, None, Some, length, slice_index, IfOk, IsOkUnless, MatchOption};
+ghost use Rattle.std.specs.Borrow.{sem};
+ghost use Rattle.std.specs.Io.BufRead.{Rests};
+ghost use Rattle.pg_frames.specs.contracts.flow.Flow.{the_row};
+ghost use Rattle.pg_frames.specs.declared.error.FrameError.{FrameError};
+ghost use Rattle.pg_frames.specs.FrameText.{HasFault};
+ghost use Rattle.pg_frames.specs.Passage.{start, fed, after, answer_of, BeginsNoHead, BeginsWith, HasNoNext, Hands};
+
+use crate::buffer::{Buffer, CAPACITY};
+use crate::header::{FIELD_LEN, HEADER_LEN, Header, header_at};
+use crate::scan::fault_in;
+use crate::{FrameError, Piece};
+use std::alloc::Global;
+use std::marker::Model;
+
+/// What was fed of a stream and isn't handed out yet. In contracts it is a `Passage`: these bytes, and how many more
+/// belong to the body whose head was handed out.
+#[derive(Drop)]
+pub struct Flow {
+    buffer: Buffer,
+    left: Option<usize>,
+}
+
+impl Model for Flow {
+    ghost use Rattle.pg_frames.specs.Passage.{Passage};
+
+    ghost Value = { Passage };
+
+    ghost use Rattle.pg_frames.specs.Buffer.{unread};
+
+    ghost view = { λ flow. record { left = flow.left; bytes = unread flow.buffer } };
+}
+
+impl Flow {
+    /// A flow of a stream that is at its start. It has room for 16,384 bytes, and takes no more memory from then on.
+    pub fn new(alloc: Global) -> Result<Flow, FrameError>
+        ensures ok { IfOk result (λ flow. flow ≡ start) }
+        ensures only_memory { IsOkUnless result FrameError.Memory }
+    {
+        let Ok(buffer) = Buffer::new(alloc) else {
+            return Err(FrameError::Memory);
+        };
+        Ok(Flow { buffer, left: None })
+    }
+
+    /// How many bytes may be fed now.
+    pub fn room(&self) -> usize
+        ensures room { result + length self.now.bytes ≡ 16384 }
+        // Where all was handed out and there is no fault, at most four bytes are kept.
+        ensures drained { HasNoNext self.now.left self.now.bytes
+            → HasFault (after self.now) None → 16380 ≤ result }
+    {
+        room_beside(self.buffer.as_slice())
+    }
+
+    /// Takes the next piece of the stream, for which there has to be room. Frames before a fault are handed out all the
+    /// same. Once a fault was returned, it is returned from then on, and nothing more is taken.
+    pub fn feed(&mut self, piece: &[u8]) -> Result<(), FrameError>
+        requires { length self.old.bytes + length piece.now ≤ 16384 }
+        // The fault is the one at the front of the rest of what was fed.
+        ensures judged { (fault : _) × HasFault (after (fed self.old piece.now)) fault
+            × (result ≡ answer_of fault) }
+        // A first fault is taken with its piece, and stays.
+        ensures taken { HasFault (after self.old) None → self.new ≡ fed self.old piece.now }
+        ensures ever { (fault : FrameError) → HasFault (after self.old) (Some fault)
+            → self.new ≡ self.old }
+    {
+        if let Some(fault) = self.fault() {
+            return Err(fault);
+        }
+        self.buffer.append(piece);
+        match self.fault() {
+            Some(fault) => Err(fault),
+            None => Ok(()),
+        }
+    }
+
+    // The fault at the front of the rest.
+    fn fault(&self) -> Option<FrameError>
+        ensures { HasFault (after self.now) result }
+    {
+        let bytes = self.buffer.as_slice();
+        let body = self.left.unwrap_or(0).min(bytes.len());
+        fault_in(bytes.split_at(body).1)
+    }
+
+    /// Hands out the next piece, if one is there. A body is handed out as far as it was fed.
+    pub fn next(&mut self) -> Option<Piece<'_>>
+        ensures* after_borrow { sem 𝓛 (Rests the_row self.entry (Hands self.old result)) }
+    {
+        let Some(left) = self.left else {
+            let header = head_in(self.buffer.as_slice())?;
+            self.buffer.advance(HEADER_LEN);
+            self.left = Some(header.length - FIELD_LEN);
+            return Some(Piece::Head {
+                kind: header.kind,
+                length: header.length,
+            });
+        };
+        if left == 0 {
+            self.left = None;
+            return Some(Piece::Tail);
+        }
+        let count = left.min(self.buffer.as_slice().len());
+        if count == 0 {
+            return None;
+        }
+        self.buffer.advance(count);
+        self.left = Some(left - count);
+        Some(Piece::Part(self.buffer.taken(count)))
+    }
+}
+
+// The room beside the bytes of a buffer.
+fn room_beside(bytes: &[u8]) -> usize
+    requires { length bytes.now ≤ 16384 }
+    ensures room { result + length bytes.now ≡ 16384 }
+    ensures bytes { (i : ℕ) → slice_index bytes.now i < 256 }
+{
+    CAPACITY - bytes.len()
+}
+
+// The head at the front of the bytes.
+fn head_in(bytes: &[u8]) -> Option<Header>
+    ensures { MatchOption result (BeginsNoHead bytes.now) (BeginsWith bytes.now) }
+{
+    match header_at(bytes) {
+        Ok(found) => found,
+        Err(_) => None,
+    }
+}

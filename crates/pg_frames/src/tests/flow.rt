@@ -1,0 +1,142 @@
+//! Streams passed on in pieces.
+use super::{STREAM, TEXTS, padded};
+use crate::*;
+use std::alloc::{AllocError, Global};
+use std::process::Abort;
+use std::test::Fail;
+
+// What was handed out: the types of the whole frames, their bodies one after another, and how many bytes in all.
+#[derive(Drop)]
+struct Seen {
+    kinds: Vec<u8>,
+    bodies: Vec<u8>,
+    bytes: usize,
+}
+
+fn seen_in(alloc: Global, parts: &Parts) -> Result<Seen, AllocError> {
+    let mut seen = Seen {
+        kinds: Vec::new(alloc),
+        bodies: Vec::new(alloc),
+        bytes: 0,
+    };
+    let mut last = 0;
+    for piece in parts.pieces.iter() {
+        match piece {
+            OwnedPiece::Head { kind, length: _ } => {
+                last = *kind;
+                seen.bytes = seen.bytes.saturating_add(5);
+            }
+            OwnedPiece::Part(body) => {
+                seen.bodies.extend_from_slice(body.as_slice())?;
+                seen.bytes = seen.bytes.saturating_add(body.len());
+            }
+            OwnedPiece::Tail => seen.kinds.push(last)?,
+        }
+    }
+    Ok(seen)
+}
+
+fn assert_seen(
+    rt: &(impl Abort + AllocGlobal),
+    parts: &Parts,
+    kinds: &[u8],
+    bodies: &[u8],
+    fault: Option<FrameError>,
+) -> Result<(), AllocError> {
+    let seen = seen_in(rt.alloc(), parts)?;
+    assert_eq!(rt; seen.kinds.as_slice(), kinds);
+    assert_eq!(rt; seen.bodies.as_slice(), bodies);
+    assert_eq!(rt; parts.fault, fault);
+    Ok(())
+}
+
+// The four frames of the stream, cut after every byte and into single bytes.
+#[test]
+fn four_frames(rt: HostRuntime) -> Result<(), Fail> {
+    let bodies = b"abc\0CREATE TABL\0xyz\0".as_slice();
+    for at in 0..=STREAM.len() {
+        let parts = cut_in_parts(rt.alloc(), &[&STREAM[..at], &STREAM[at..]])?;
+        assert_seen(&rt, &parts, b"SQCQ", bodies, None)?;
+    }
+    let mut single = Vec::new(rt.alloc());
+    for piece in STREAM.chunks(1) {
+        single.push(piece)?;
+    }
+    let parts = cut_in_parts(rt.alloc(), single.as_slice())?;
+    assert_seen(&rt, &parts, b"SQCQ", bodies, None)?;
+    Ok(())
+}
+
+// The small texts, whole.
+#[test]
+fn faults(rt: HostRuntime) -> Result<(), Fail> {
+    for (text, kinds, bodies, fault) in TEXTS {
+        let parts = cut_in_parts(rt.alloc(), &[text])?;
+        assert_seen(&rt, &parts, kinds, bodies, fault)?;
+    }
+    Ok(())
+}
+
+// Takes what can be handed out, which are the bytes of the text from here on, and returns where they end.
+fn assert_handed(rt: &impl Abort, flow: &mut Flow, text: &[u8], start: usize) -> usize {
+    let mut at = start;
+    for _ in 0..u64::MAX {
+        match flow.next() {
+            None => return at,
+            Some(Piece::Head { kind, length }) => {
+                let field = (length as u64).to_be_bytes();
+                assert_eq!(rt; text.get(at).copied(), Some(kind));
+                let end = at.saturating_add(5);
+                assert_eq!(rt; text.get(at.saturating_add(1)..end), Some(&field[4..]));
+                at = end;
+            }
+            Some(Piece::Part(part)) => {
+                let end = at.saturating_add(part.len());
+                assert!(rt; !part.is_empty());
+                assert!(rt; text.get(at..end) == Some(part));
+                at = end;
+            }
+            Some(Piece::Tail) => assert!(rt; at == text.len(), "a tail at {at}"),
+        }
+    }
+    at
+}
+
+// Passes on a text in pieces of this size.
+fn assert_passed(rt: &(impl Abort + AllocGlobal), text: &[u8], size: usize) -> Result<(), Fail> {
+    let mut flow = Flow::new(rt.alloc())?;
+    let mut at = 0;
+    for piece in text.chunks(size.max(1)) {
+        if piece.len() > flow.room() {
+            return Err(Fail::from("no room"));
+        }
+        assert_eq!(rt; flow.feed(piece), Ok(()));
+        at = assert_handed(rt, &mut flow, text, at);
+    }
+    assert_eq!(rt; at, text.len());
+    Ok(())
+}
+
+// The greatest DataRow, whose body has a byte of its own at each place.
+fn greatest_row(alloc: Global) -> Result<Vec<u8>, AllocError> {
+    let mut text = padded(alloc, b"D\0\x10\0\0", 1_048_577)?;
+    let mut next = 0u8;
+    for byte in text.as_mut_slice().iter_mut().skip(5) {
+        *byte = next;
+        next = if next == 250 {
+            0
+        } else {
+            next.saturating_add(1)
+        };
+    }
+    Ok(text)
+}
+
+#[test]
+fn greatest_frame(rt: HostRuntime) -> Result<(), Fail> {
+    let text = greatest_row(rt.alloc())?;
+    for size in [1, 4_096, 16_384] {
+        assert_passed(&rt, text.as_slice(), size)?;
+    }
+    Ok(())
+}
