@@ -2,10 +2,10 @@
 ghost use Rattle.std.specs.Prelude.{◌≡◌, ◌↔◌, ◌+◌, ◌<◌, ◌^◌, IsNone, IfSome};
 ghost use Rattle.pg_ids.specs.Key.{number_of, key_bytes, identity_of, lowered, IsKey};
 
-use crate::hop_count::Hops;
+use crate::hops::Hops;
 use crate::peer_no::PeerNo;
+use crate::secret::Secret;
 use crate::slot_no::SlotNo;
-use crate::slot_secret::Secret;
 use byteorder::{BigEndian, ByteOrder};
 
 // What one of a peer, of a slot and of a secret adds to the key's number.

@@ -3,21 +3,21 @@
 
 mod client_key;
 mod database_no;
-mod hop_count;
+mod hops;
 mod link_no;
 mod peer_no;
+mod secret;
 mod server_key;
 mod slot_no;
-mod slot_secret;
 
 pub use client_key::ClientKey;
 pub use database_no::DatabaseNo;
-pub use hop_count::Hops;
+pub use hops::Hops;
 pub use link_no::LinkNo;
 pub use peer_no::PeerNo;
+pub use secret::Secret;
 pub use server_key::ServerKey;
 pub use slot_no::SlotNo;
-pub use slot_secret::Secret;
 
 #[cfg(test)]
 mod tests;

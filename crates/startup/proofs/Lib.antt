@@ -5,3 +5,4 @@ pub mod AnswerLemmas
 pub mod ParameterLemmas
 pub mod SessionLemmas
 pub mod RequestLemmas
+pub mod NameLemmas

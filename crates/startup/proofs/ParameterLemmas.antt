@@ -5,8 +5,7 @@ use Rattle.std.proofs.Math.Seq.{take-append_seam}
 use Rattle.std.proofs.lemmas.Bool.{cases_eq, eq-eqb, ne_eqb, eqb-true}
 use Rattle.std.proofs.lemmas.List.{append-nil, take_rest, drop-drop, drop_at}
 use Rattle.startup.specs.StartupMessage.{Parameter, IsText, IsParameter, parameter}
-use Rattle.startup.specs.Parameter.{Fronts}
-use Rattle.startup.proofs.BodyLemmas.{one_text, parameter-append, one_parameter}
+use Rattle.startup.proofs.BodyLemmas.{one_text, parameter-append}
 
 -- the bytes before the first zero byte, and those after it
 pub record Split (bytes : List ℕ) (end : ℕ) : Type 0 where
@@ -103,20 +102,3 @@ AllByRecursion-last P (y ∷ ys) x all = AllByRecursion-last P ys x all.1
 pub flat_map-snoc : (ps : List Parameter) (p : Parameter) (after : List ℕ) → flat_map parameter (ps ++ p ∷ []) ++ after ≡ flat_map parameter ps ++ (parameter p ++ after)
 flat_map-snoc [] p after = ap (λ (front : List ℕ). front ++ after) (append-nil (parameter p))
 flat_map-snoc (q ∷ qs) p after = append_assoc (parameter q) (flat_map parameter (qs ++ p ∷ [])) after ∙ ap (λ (rest : List ℕ). parameter q ++ rest) (flat_map-snoc qs p after) ∙ sym (append_assoc (parameter q) (flat_map parameter qs) (parameter p ++ after))
-
--- parameters at the front, and one more
-pub Fronts-snoc : (bytes : List ℕ) (ps : List Parameter) (p : Parameter) (after : List ℕ) → AllByRecursion IsParameter ps → IsParameter p → bytes ≡ flat_map parameter ps ++ (parameter p ++ after) → Fronts bytes (ps ++ p ∷ [])
-Fronts-snoc bytes ps p after formed is spelled = record {
-  formed = AllByRecursion-snoc IsParameter ps p formed is;
-  after = after;
-  spelled = spelled ∙ sym (flat_map-snoc ps p after);
-}
-
--- bytes begin with no more parameters than those after which none stands
-pub none_more : (P : Parameter → Type 0) (ps qs : List Parameter) (rest after : List ℕ) → AllByRecursion IsParameter ps → AllByRecursion IsParameter qs → flat_map parameter ps ++ rest ≡ flat_map parameter qs ++ after → ((p : Parameter) (more : List ℕ) → IsParameter p → rest ≡ parameter p ++ more → ⊥) → AllByRecursion P ps → AllByRecursion P qs
-none_more P ps [] rest after is_ps is_qs e none all = tt
-none_more P [] (q ∷ qs) rest after is_ps is_qs e none all =
-    absurd (none q (flat_map parameter qs ++ after) is_qs.0 (e ∙ append_assoc (parameter q) (flat_map parameter qs) after))
-none_more P (p ∷ ps) (q ∷ qs) rest after is_ps is_qs e none all =
-    let both = one_parameter p q (flat_map parameter ps ++ rest) (flat_map parameter qs ++ after) is_ps.0 is_qs.0 (sym (append_assoc (parameter p) (flat_map parameter ps) rest) ∙ e ∙ append_assoc (parameter q) (flat_map parameter qs) after) in
-    (subst P both.0 all.0, none_more P ps qs rest after is_ps.1 is_qs.1 both.1 none all.1)

@@ -5,6 +5,7 @@ pub mod FirstPacket
 pub mod Header
 pub mod Session
 pub mod Parameter
+pub mod Names
 pub mod Numbers
 pub mod ErrorCode
 pub mod Replies

@@ -1,22 +1,19 @@
-//! Bytes put at the end of a buffer, all or none.
-ghost use Rattle.std.specs.Prelude.{◌≡◌, ◌++◌, flat_map, OnOk, OnErr, IsOkUnless};
-ghost use Rattle.std.specs.Vec.{vec_len};
+//! Bytes appended to a buffer, all or none.
+ghost use Rattle.std.specs.Prelude.{◌≡◌, ◌<◌, ◌++◌, ◌^◌, flat_map, length, sum_by, OnOk, OnErr, IsOkUnless};
 
 use crate::startup_error::StartupError;
 
-/// Puts these parts at the end of the buffer, one after the other. Where memory is refused, the buffer
-/// has what it had.
+/// Appends these parts to the buffer, one after the other. Their memory is reserved before anything is
+/// written, so that the buffer is unchanged where it fails.
 pub fn append(out: &mut Vec<u8>, parts: &[&[u8]]) -> Result<(), StartupError>
+    requires { sum_by (λ part. length part.now) parts.now < 2 ^ 32 }
     ensures ok { OnOk result (out.new.items ≡ out.old.items ++ flat_map (λ part. part.now) parts.now) }
     ensures err { OnErr result (out.new.items ≡ out.old.items) }
     ensures memory { IsOkUnless result StartupError.Memory }
 {
-    let before = out.len();
+    out.reserve(parts.iter().map(|part| part.len()).sum())?;
     for part in parts {
-        if out.extend_from_slice(part).is_err() {
-            out.truncate(before);
-            return Err(StartupError::Memory);
-        }
+        out.extend_from_slice(part).unwrap();
     }
     Ok(())
 }

@@ -6,6 +6,7 @@ mod append;
 mod error_code;
 mod first;
 mod header;
+mod names;
 mod opening;
 mod packets;
 mod parameter;

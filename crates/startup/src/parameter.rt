@@ -1,5 +1,5 @@
 //! The parameters of a StartupMessage, one by one.
-ghost use Rattle.std.specs.Prelude.{◌≡◌, ◌≢◌, ◌<◌, ◌==◌, ◌∷◌, ◌++◌, List, ℕ, length, IfSome, IfNone, IsTrue};
+ghost use Rattle.std.specs.Prelude.{◌≡◌, ◌≢◌, ◌<◌, ◌==◌, ◌∷◌, ◌++◌, List, ℕ, length, IfSome, IfNone};
 ghost use Rattle.std.specs.List.{position_from};
 ghost use Rattle.startup.specs.StartupMessage.{IsText, IsParameter, parameter, is_reserved};
 
@@ -12,7 +12,7 @@ pub struct Parameter<'a> {
 
 impl<'a> Parameter<'a> {
     ghost use Rattle.startup.specs.StartupMessage.{Parameter as Sent};
-    ghost use Rattle.startup.specs.Parameter.{sent, ComesAgain};
+    ghost use Rattle.startup.specs.Parameter.{sent};
 
     /// The parameter at the front of the bytes, and what follows it.
     pub fn read(bytes: &'a [u8]) -> Option<(Parameter<'a>, &'a [u8])>
@@ -34,20 +34,6 @@ impl<'a> Parameter<'a> {
         ensures { result ≡ is_reserved self.entry.name.now }
     {
         self.name.as_bytes().starts_with(b"_pq_.") || self.name == "replication"
-    }
-
-    /// Does a parameter that these bytes begin with have this one's name?
-    pub fn comes_again(self, bytes: &[u8]) -> bool
-        ensures { ComesAgain result self.entry.name.now bytes.now }
-    {
-        let mut rest = bytes;
-        'later: while let Some((later, after)) = Parameter::read(rest) {
-            if later.name == self.name {
-                return true;
-            }
-            rest = after;
-        }
-        false
     }
 }
 

@@ -1,5 +1,5 @@
 //! What a pooler writes to a client before and about its session.
-ghost use Rattle.std.specs.Prelude.{◌≡◌, ◌∷◌, ◌++◌, OnOk, OnErr, IsOkUnless};
+ghost use Rattle.std.specs.Prelude.{◌≡◌, ◌+◌, ◌*◌, ◌≤◌, ◌∷◌, ◌++◌, length, OnOk, OnErr, IsOkUnless};
 ghost use Rattle.startup.specs.ErrorCode.{severity_text};
 ghost use Rattle.startup.specs.Replies.{login, error_fields, error_response, IsFieldText};
 
@@ -55,14 +55,16 @@ pub fn write_error(
 
 // Puts an ErrorResponse of this length at the end of the buffer.
 fn write_fields<'a>(
-    length: &'a [u8],
+    size: &'a [u8],
     severity: &'a str,
     code: &'a str,
     message: &'a str,
     out: &mut Vec<u8>,
 ) -> Result<(), StartupError>
+    requires { length size.now + 2 * length severity.now + length code.now
+        + length message.now ≤ 65536 }
     ensures ok { OnOk result (out.new.items ≡ out.old.items
-        ++ (69 ∷ length.now ++ error_fields severity.now code.now message.now)) }
+        ++ (69 ∷ size.now ++ error_fields severity.now code.now message.now)) }
     ensures err { OnErr result (out.new.items ≡ out.old.items) }
     ensures memory { IsOkUnless result StartupError.Memory }
 {
@@ -70,7 +72,7 @@ fn write_fields<'a>(
         out,
         &[
             b"E",
-            length,
+            size,
             b"S",
             severity.as_bytes(),
             b"\0V",

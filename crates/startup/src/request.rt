@@ -50,20 +50,21 @@ pub fn write_startup(user: &str, database: &str, out: &mut Vec<u8>) -> Result<()
 
 // Puts a StartupMessage of this length at the end of the buffer.
 fn write_asked<'a>(
-    length: &'a [u8],
+    size: &'a [u8],
     user: &'a str,
     database: &'a str,
     out: &mut Vec<u8>,
 ) -> Result<(), StartupError>
+    requires { length size.now + length user.now + length database.now ≤ 65536 }
     ensures ok { OnOk result (out.new.items ≡ out.old.items
-        ++ (length.now ++ big_bytes 4 startup_code ++ body_of (asked_for user.now database.now))) }
+        ++ (size.now ++ big_bytes 4 startup_code ++ body_of (asked_for user.now database.now))) }
     ensures err { OnErr result (out.new.items ≡ out.old.items) }
     ensures memory { IsOkUnless result StartupError.Memory }
 {
     append(
         out,
         &[
-            length,
+            size,
             b"\0\x03\0\0",
             b"user\0",
             user.as_bytes(),

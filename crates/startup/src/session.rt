@@ -1,16 +1,21 @@
 //! The session that a StartupMessage begins.
-ghost use Rattle.std.specs.Prelude.{◌≡◌, ◌≢◌, ◌↔◌, [], ◌∷◌, IsTrue, length, IfSome, IfNone, List, bytes_eq, codes, if◌then◌else◌};
+ghost use Rattle.std.specs.Prelude.{◌≡◌, ◌≢◌, ◌↔◌, ◌+◌, ◌*◌, ◌≤◌, [], ◌∷◌, IsTrue, false, length, take, IfSome, IfNone, List, bytes_eq, codes, if◌then◌else◌};
+ghost use Rattle.std.specs.List.{AllByRecursion};
 ghost use Rattle.startup.specs.Kinds.{Seen};
 ghost use Rattle.startup.specs.Packet.{startup_code};
 ghost use Rattle.startup.specs.FirstPacket.{length_of, code_of, HasHeader, Answers};
-ghost use Rattle.startup.specs.StartupMessage.{Parameter as Sent, AreParameters, body_of, unless_empty};
+ghost use Rattle.startup.specs.StartupMessage.{Parameter as Sent, IsParameter, AreParameters, is_reserved, body_of, unless_empty};
 
 use crate::first::First;
 use crate::header::Header;
+use crate::names::are_distinct;
 use crate::packets::unfinished;
 use crate::parameter::Parameter;
 use crate::startup_error::StartupError;
 use std::alloc::Global;
+
+// How many parameters the longest packet can hold: three bytes each, between the header and a zero byte.
+const MOST_PARAMETERS: usize = 3330;
 
 /// The answer to a StartupMessage's header and what stands behind it.
 pub fn read_startup(
@@ -52,28 +57,50 @@ pub struct Session<'a> {
 }
 
 impl<'a> Session<'a> {
-    ghost use Rattle.startup.specs.Session.{IsSessionOf};
+    ghost use Rattle.startup.specs.Session.{IsSessionOf, IsReadOf};
 
     /// The session of a StartupMessage's body, none where the body isn't of its form or names what may
     /// not be set.
     pub fn read(body: &'a [u8]) -> Option<Session<'a>>
+        requires { length body.now ≤ 9992 }
         ensures found { IfSome result (λ session. IsSessionOf session body.now) }
         ensures none { IfNone result ((ps : List Sent) → AreParameters ps → body.now ≢ body_of ps) }
+    {
+        let mut names = [""; MOST_PARAMETERS];
+        let (session, count) = Session::read_all(body, &mut names)?;
+        if are_distinct(&mut names[..count]) {
+            Some(session)
+        } else {
+            None
+        }
+    }
+
+    // The session of a body's parameters and their number, none where the body isn't of its form or names
+    // what is reserved. Their names are put at the front of `names`; some may be the same.
+    fn read_all(body: &'a [u8], names: &mut [&'a str]) -> Option<(Session<'a>, usize)>
+        requires { length body.now ≤ 3 * length names.old + 2 }
+        ensures found { IfSome result (λ read. (read.1 ≤ length names.new)
+            × IsReadOf read.0 (take read.1 names.new) body.now) }
+        ensures none { IfNone result ((ps : List Sent) → AllByRecursion IsParameter ps
+            → AllByRecursion (λ p. is_reserved p.name ≡ false) ps → body.now ≢ body_of ps) }
     {
         let mut session = Session {
             user: "",
             database: "",
         };
+        let mut count = 0;
         let mut rest = body;
         'parameters: while !is_end(rest) {
             let (parameter, after) = Parameter::read(rest)?;
-            if parameter.is_reserved() || parameter.comes_again(after) {
+            if parameter.is_reserved() {
                 return None;
             }
+            names[count] = parameter.name;
+            count += 1;
             session = session.with(parameter);
             rest = after;
         }
-        Some(session)
+        Some((session, count))
     }
 
     // The session after one more parameter.

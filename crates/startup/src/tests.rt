@@ -1,6 +1,7 @@
 //! Bytes worked out by hand from the PostgreSQL manual's message formats.
 use super::*;
 use pg_ids::ClientKey;
+use std::alloc::{AllocError, Global};
 use std::process::Abort;
 use std::test::Fail;
 
@@ -174,6 +175,38 @@ fn longest_packet(rt: HostRuntime) -> Result<(), Fail> {
     text[9998..].copy_from_slice(b"\0\0");
     let answer = Opening::new(rt.alloc()).read(&text, false)?;
     assert!(rt; matches!(answer, First::Startup { used: 10000, .. }));
+    Ok(())
+}
+
+// A parameter whose name is two characters that depend on a number below 14,400.
+fn push_parameter(text: &mut Vec<u8>, number: u16) -> Result<(), AllocError> {
+    text.extend_from_slice(&[
+        (number % 120) as u8 + 1,
+        (number / 120 % 120) as u8 + 1,
+        0,
+        0,
+    ])
+}
+
+// A packet of the greatest length with as many such parameters as it can hold, and one more.
+fn many_names(alloc: Global, last: u16) -> Result<Vec<u8>, AllocError> {
+    let mut text = b"\0\0\x27\x10\0\x03\0\0".to_vec(alloc)?;
+    for number in 0..2496 {
+        push_parameter(&mut text, number)?;
+    }
+    push_parameter(&mut text, last)?;
+    text.extend_from_slice(b"x\0\0\0")?;
+    Ok(text)
+}
+
+#[test]
+fn longest_list_of_names(rt: HostRuntime) -> Result<(), Fail> {
+    for (number, last) in [(5, 2496), (4, 2495), (4, 0)] {
+        let text = many_names(rt.alloc(), last)?;
+        assert_eq!(rt; text.len(), 10000);
+        let answer = Opening::new(rt.alloc()).read(&text, false);
+        assert_eq!(rt; refusal_of(&answer), number);
+    }
     Ok(())
 }
 
