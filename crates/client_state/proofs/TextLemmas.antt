@@ -2,11 +2,7 @@
 use Rattle.std.proofs.Common.{◌≡◌, ◌∙◌, ℕ, Bool, true, false, cond, eqb, ne_eqb, not, ◌&&◌, List, [], ◌∷◌, ◌++◌, length, inl, inr, refl, sym, ap, arith, length-append}
 use Rattle.std.proofs.lemmas.Bool.{cases_Bool}
 use Rattle.std.specs.List.{list_any}
-use Rattle.client_state.specs.Text.{is_one_string}
-
--- whether a byte is zero
-abbrev pub is_zero : ℕ → Bool
-is_zero byte = eqb byte 0
+use Rattle.client_state.specs.Text.{is_zero, is_one_string}
 
 -- a test that is chosen, against both ways
 last_alone : (b : Bool) → cond b true false ≡ (b && not false)

@@ -1,89 +1,141 @@
 -- The acts of a session (own, after PgBouncer's transaction pooling).
-use Rattle.std.specs.Prelude.{ℕ, zero, suc, ◌≡◌, ◌+◌, ◌⊎◌, Bool, true, false, List, [], ◌∷◌}
+use Rattle.std.specs.Prelude.{ℕ, zero, suc, ◌≡◌, ◌+◌, ◌⊎◌, Bool, true, false, List, [], ◌∷◌, ◌++◌, length}
 use Rattle.pg_frames.specs.declared.frame.Frame.{Frame}
+use Rattle.pg_frames.specs.FrameText.{text}
 use Rattle.startup.specs.declared.error_code.ErrorCode.{ErrorCode}
 use Rattle.startup.specs.declared.error_code.ErrorCode.TheVariants.{ConnectionFailure}
 use Rattle.startup.specs.declared.error_code.Severity.{Severity}
 use Rattle.startup.specs.declared.error_code.Severity.TheVariants.{Fatal}
 use Rattle.startup.specs.ErrorCode.{code_text, message_text, severity_text}
-use Rattle.startup.specs.Replies.{error_fields}
+use Rattle.startup.specs.Replies.{message, error_response}
 use Rattle.client_state.specs.declared.act.Act.{Act}
 use Rattle.client_state.specs.declared.act.Act.TheVariants.{ToLink, ToClient, Need, Release, Close, End}
-use Rattle.client_state.specs.declared.asked.Asked.{Asked}
-use Rattle.client_state.specs.declared.asked.Asked.TheVariants.{Query, Terminate, Refused as Refuses}
-use Rattle.client_state.specs.declared.told.Told.{Told}
-use Rattle.client_state.specs.declared.told.Told.TheVariants.{News, Idle, InTransaction, Refused}
-use Rattle.client_state.specs.Asked.{asked_by}
-use Rattle.client_state.specs.Told.{told_by}
+use Rattle.client_state.specs.declared.act.HeadAct.{HeadAct}
+use Rattle.client_state.specs.declared.act.HeadAct.TheVariants.{PassOn as Passes, Ready as Reads, Close as Closes}
+use Rattle.client_state.specs.declared.client_message.ClientMessage.{ClientMessage}
+use Rattle.client_state.specs.declared.client_message.ClientMessage.TheVariants.{Request, Gathered, Terminate, Refused as Refuses}
+use Rattle.client_state.specs.declared.link_message.LinkMessage.{LinkMessage}
+use Rattle.client_state.specs.declared.link_message.LinkMessage.TheVariants.{PassOn, Ready, Refused}
+use Rattle.client_state.specs.declared.link_message.Status.{Status}
+use Rattle.client_state.specs.declared.link_message.Status.TheVariants.{Idle, InTransaction, Unknown}
+use Rattle.client_state.specs.ClientMessage.{client_message}
+use Rattle.client_state.specs.LinkMessage.{link_message, status_of}
 use Rattle.client_state.specs.Session.{Session}
 
 -- a session at its start
 abbrev pub start : ℕ → Session
-start database = record { database = database; leased = false; outstanding = 0 }
+start database = record { database = database; leased = false; outstanding = 0; gathered = [] }
 
--- a session whose link is closed, with what was outstanding there
+-- a session without its lease, with what was outstanding there and what was gathered forgotten
 abbrev pub over : Session → Session
 over old = start old.database
 
 -- the ErrorResponse of a severity and a code
-unfoldable pub error_of : Severity → ErrorCode → Frame
-error_of severity code = record { kind = 69; body = error_fields (severity_text severity) (code_text code) (message_text code) }
+abbrev pub error_text : Severity → ErrorCode → List ℕ
+error_text severity code =
+    error_response (severity_text severity) (code_text code) (message_text code)
+
+-- the error that ends a session
+abbrev pub fatal : ErrorCode → List ℕ
+fatal code = error_text Fatal code
+
+-- the ReadyForQuery of a status
+abbrev pub ready_text : ℕ → List ℕ
+ready_text status = message 90 (status ∷ [])
 
 -- the end of a session: a held lease is closed
-abbrev pub ends : Bool → List Frame → Act
-ends false frames = End frames
-ends true frames = Close frames
+abbrev pub ends : Bool → List ℕ → Act
+ends false text = End text
+ends true text = Close text
 
--- the act on what a client's frame asks for, by whether a lease is held
-abbrev pub act_on_asked : Asked → Bool → Frame → Act
-act_on_asked Query false frame = Need (frame ∷ [])
-act_on_asked Query true frame = ToLink (frame ∷ [])
-act_on_asked Terminate leased frame = ends leased []
-act_on_asked (Refuses code) leased frame = ends leased (error_of Fatal code ∷ [])
+-- a request goes to the link, which is acquired where none is held
+abbrev pub asks : Bool → List ℕ → Act
+asks false text = Need text
+asks true text = ToLink text
 
--- the act on what a link's frame tells, by how many requests are outstanding
-abbrev pub act_on_told : Told → ℕ → Frame → Act
-act_on_told News outstanding frame = ToClient (frame ∷ [])
-act_on_told Idle zero frame = Close (error_of Fatal ConnectionFailure ∷ [])
-act_on_told Idle (suc outstanding) frame = Release (frame ∷ [])
-act_on_told InTransaction zero frame = Close (error_of Fatal ConnectionFailure ∷ [])
-act_on_told InTransaction (suc outstanding) frame = ToClient (frame ∷ [])
-act_on_told (Refused code) outstanding frame = Close (error_of Fatal code ∷ [])
+-- the act on a client's frame by what it asks for
+abbrev pub act_on_client : ClientMessage → Session → Frame → Act
+act_on_client Request old frame = asks old.leased (old.gathered ++ text frame)
+act_on_client Gathered old frame = ToClient []
+act_on_client Terminate old frame = ends old.leased []
+act_on_client (Refuses code) old frame = ends old.leased (fatal code)
 
--- the acts on a client's frame and on a link's
-abbrev pub client_act : Bool → Frame → Act
-client_act leased frame = act_on_asked (asked_by frame) leased frame
+-- what is known then: a request counts as outstanding, and needs a lease
+abbrev pub session_after : ClientMessage → Session → Frame → Session
+session_after Request old frame =
+    record old { leased = true; outstanding = old.outstanding + 1; gathered = [] }
+session_after Gathered old frame = record old { gathered = old.gathered ++ text frame }
+session_after Terminate old frame = over old
+session_after (Refuses code) old frame = over old
 
-abbrev pub link_act : ℕ → Frame → Act
-link_act outstanding frame = act_on_told (told_by frame) outstanding frame
+-- the act on a client's frame that asks for this, and what is known then; or, where memory was
+-- refused, the end of the session without an error
+abbrev pub ActsOn : ClientMessage → Session → Frame → Act → Session → Type 0
+ActsOn message old frame act new =
+    ((act ≡ act_on_client message old frame) × (new ≡ session_after message old frame))
+    ⊎ ((act ≡ ends old.leased []) × (new ≡ over old))
 
--- what is known after an act on a client's frame: a request counts as outstanding from then on, and needs a lease
-abbrev pub after_asked : Asked → Session → Session
-after_asked Query old = record old { leased = true; outstanding = old.outstanding + 1 }
-after_asked Terminate old = over old
-after_asked (Refuses code) old = over old
+-- the act on a client's frame
+abbrev pub ActsOnClient : Session → Frame → Act → Session → Type 0
+ActsOnClient old frame act new =
+    ActsOn (client_message (length old.gathered) frame) old frame act new
 
--- what is known after an act on a link's frame: a ReadyForQuery ends a request, and an idle one the lease
-abbrev pub after_told : Told → ℕ → Session → Session
-after_told News outstanding old = old
-after_told Idle zero old = over old
-after_told Idle (suc outstanding) old = record old { leased = false; outstanding = outstanding }
-after_told InTransaction zero old = over old
-after_told InTransaction (suc outstanding) old = record old { outstanding = outstanding }
-after_told (Refused code) outstanding old = over old
+-- the end of a session with this error, or without it where memory for it was refused
+abbrev pub EndsWith : Bool → ErrorCode → Act → Type 0
+EndsWith leased code act = (act ≡ ends leased (fatal code)) ⊎ (act ≡ ends leased [])
 
--- what is known after an act, on a client's frame and on a link's
-abbrev pub after_client : Session → Frame → Session
-after_client old frame = after_asked (asked_by frame) old
+-- the act on the head of a link's frame, by how many requests are outstanding
+abbrev pub act_on_head : LinkMessage → ℕ → HeadAct
+act_on_head PassOn outstanding = Passes
+act_on_head Ready zero = Closes (fatal ConnectionFailure)
+act_on_head Ready (suc outstanding) = Reads
+act_on_head (Refused code) outstanding = Closes (fatal code)
 
-abbrev pub after_link : Session → Frame → Session
-after_link old frame = after_told (told_by frame) old.outstanding old
+abbrev pub head_act : Session → ℕ → ℕ → HeadAct
+head_act old kind len = act_on_head (link_message kind len) old.outstanding
 
--- the act, or the same act with no frame where memory for its error was refused
-abbrev pub MemoryAside : Act → Act → Type 0
-MemoryAside (Close frames) act = (act ≡ Close frames) ⊎ (act ≡ Close [])
-MemoryAside (End frames) act = (act ≡ End frames) ⊎ (act ≡ End [])
-MemoryAside (ToLink frames) act = act ≡ ToLink frames
-MemoryAside (ToClient frames) act = act ≡ ToClient frames
-MemoryAside (Need frames) act = act ≡ Need frames
-MemoryAside (Release frames) act = act ≡ Release frames
+-- what is known then: a closed link's session is over
+abbrev pub session_at : HeadAct → Session → Session
+session_at Passes old = old
+session_at Reads old = old
+session_at (Closes text) old = over old
+
+abbrev pub after_head : Session → ℕ → ℕ → Session
+after_head old kind len = session_at (head_act old kind len) old
+
+-- the act, or the same without its error where memory for it was refused
+abbrev pub IsHeadAct : HeadAct → HeadAct → Type 0
+IsHeadAct Passes act = act ≡ Passes
+IsHeadAct Reads act = act ≡ Reads
+IsHeadAct (Closes text) act = (act ≡ Closes text) ⊎ (act ≡ Closes [])
+
+-- the act on the status of a ReadyForQuery, by how many requests are outstanding
+abbrev pub act_on_status : Status → ℕ → ℕ → Act
+act_on_status Idle status (suc outstanding) = Release (ready_text status)
+act_on_status InTransaction status (suc outstanding) = ToClient (ready_text status)
+act_on_status Idle status zero = Close (fatal ConnectionFailure)
+act_on_status InTransaction status zero = Close (fatal ConnectionFailure)
+act_on_status Unknown status outstanding = Close (fatal ConnectionFailure)
+
+abbrev pub ready_act : Session → ℕ → Act
+ready_act old status = act_on_status (status_of status) status old.outstanding
+
+-- what is known then: a ReadyForQuery ends a request, and an idle one the lease
+abbrev pub session_ready : Status → ℕ → Session → Session
+session_ready Idle (suc outstanding) old = record old { leased = false; outstanding = outstanding }
+session_ready InTransaction (suc outstanding) old = record old { outstanding = outstanding }
+session_ready Idle zero old = over old
+session_ready InTransaction zero old = over old
+session_ready Unknown outstanding old = over old
+
+abbrev pub after_ready : Session → ℕ → Session
+after_ready old status = session_ready (status_of status) old.outstanding old
+
+-- the act, or the same without its error where memory for it was refused
+abbrev pub IsReadyAct : Act → Act → Type 0
+IsReadyAct (Close text) act = (act ≡ Close text) ⊎ (act ≡ Close [])
+IsReadyAct (End text) act = act ≡ End text
+IsReadyAct (ToLink text) act = act ≡ ToLink text
+IsReadyAct (ToClient text) act = act ≡ ToClient text
+IsReadyAct (Need text) act = act ≡ Need text
+IsReadyAct (Release text) act = act ≡ Release text

@@ -1,6 +1,7 @@
 pub mod Acts
-pub mod Asked
+pub mod ClientMessage
+pub mod LinkMessage
 pub mod Session
 pub mod Stages
 pub mod Text
-pub mod Told
+pub mod Texts

@@ -1,8 +1,11 @@
 -- What is known of a client's session.
-use Rattle.std.specs.Prelude.{ℕ, Bool}
+use Rattle.std.specs.Prelude.{ℕ, Bool, List}
 
--- the database that it logged in to, whether it holds a lease, and how many requests wait for their ReadyForQuery
+-- the database that it logged in to, whether it holds a lease, how many requests wait for their
+-- ReadyForQuery, and the texts of an extended query's messages that were read since the last
+-- request
 pub record Session : Type 0 where
   pub database : ℕ
   pub leased : Bool
   pub outstanding : ℕ
+  pub gathered : List ℕ

@@ -1,26 +1,30 @@
 //! The machine of one client's session.
-ghost use Rattle.std.specs.Prelude.{◌≡◌, ◌⊎◌, ◌↔◌, ◌≤◌, false, ◌∷◌, [], IsTrue};
-ghost use Rattle.client_state.specs.Acts.{start, over, ends, error_of, client_act, act_on_asked, after_asked, after_client, link_act, act_on_told, after_told, after_link, MemoryAside};
+ghost use Rattle.std.specs.Prelude.{◌≡◌, ◌⊎◌, ◌↔◌, ◌≤◌, ◌+◌, true, false, [], ◌++◌, length, IsTrue};
+ghost use Rattle.pg_frames.specs.FrameText.{text};
+ghost use Rattle.startup.specs.declared.error_code.ErrorCode.TheVariants.{ProtocolViolation, ConnectionFailure};
+ghost use Rattle.client_state.specs.Acts.{start, over, ends, fatal, ActsOn, ActsOnClient, EndsWith, head_act, after_head, act_on_head, session_at, IsHeadAct, ready_act, after_ready, IsReadyAct};
 
-use crate::asked::Asked;
-use crate::errors::error_frame;
-use crate::told::Told;
-use crate::{Act, DatabaseNo, Frames};
-use pg_frames::Frame;
+use crate::client_message::ClientMessage;
+use crate::link_message::{LinkMessage, Status};
+use crate::{Act, DatabaseNo, HeadAct, Reply, Request};
+use pg_frames::{Frame, put_frame};
 use startup::{ErrorCode, Severity};
 use std::alloc::Global;
 use std::marker::Model;
 
-/// A client's session, from its login on. In contracts it is its database, whether it holds a lease, and how many
-/// requests are outstanding.
+/// A client's session, from its login on. In contracts it is its database, whether it holds a
+/// lease, how many requests are outstanding, and the texts that it has gathered for its next
+/// request.
 #[derive(Drop)]
 pub struct Client {
     alloc: Global,
     database: DatabaseNo,
     stage: Stage,
+    gathered: Vec<u8>,
 }
 
-// A request is outstanding only on a lease, and one at most, since the next is read after its ReadyForQuery.
+// A request is outstanding only on a lease, and one at most, since the next is read after its
+// ReadyForQuery.
 #[derive(Clone, Copy)]
 enum Stage {
     NoLease,
@@ -29,17 +33,26 @@ enum Stage {
 }
 
 impl Model for Client {
+    ghost use Rattle.std.specs.Prelude.{◌≤◌, length};
     ghost use Rattle.client_state.specs.Session.{Session};
 
     ghost Value = { Session };
 
     ghost use Rattle.client_state.specs.Stages.{is_leased, outstanding_of};
 
-    ghost view = { λ c. record { database = c.database; leased = is_leased c.stage; outstanding = outstanding_of c.stage } };
+    ghost view = { λ c. record {
+      database = c.database;
+      leased = is_leased c.stage;
+      outstanding = outstanding_of c.stage;
+      gathered = c.gathered.items;
+    } };
+
+    ghost invariant = { λ c. length c.gathered.items ≤ 1048576 };
 }
 
 impl Client {
-    /// A session that holds no lease, with nothing outstanding. It takes no memory.
+    /// A session that holds no lease, with nothing outstanding and nothing gathered. It takes no
+    /// memory.
     pub fn new(alloc: Global, database: DatabaseNo) -> Client
         ensures { result ≡ start database }
     {
@@ -47,6 +60,7 @@ impl Client {
             alloc,
             database,
             stage: Stage::NoLease,
+            gathered: Vec::new(alloc),
         }
     }
 
@@ -63,14 +77,17 @@ impl Client {
         // A request is outstanding only on a lease, and one at most.
         ensures one { self.now.outstanding ≤ 1 }
         ensures on_lease { self.now.leased ≡ false → self.now.outstanding ≡ 0 }
+        // What is gathered has a limit.
+        ensures gathered { length self.now.gathered ≤ 1048576 }
     {
+        let _gathered = &self.gathered;
         match self.stage {
             Stage::NoLease | Stage::Leased => true,
             Stage::Asking => false,
         }
     }
 
-    /// Whether a lease is held: from `Need` on, until `Release` or `Close`.
+    /// Whether a lease is held: from `Need` on, until `Release`, `Close` or `drop_request`.
     pub fn holds_lease(&self) -> bool
         ensures { result ≡ self.now.leased }
     {
@@ -80,107 +97,164 @@ impl Client {
         }
     }
 
-    /// What to do with the client's next frame. A request counts as outstanding from then on. Where memory for an
-    /// error was refused, the act has no frame.
+    /// What to do with the client's next frame. A request counts as outstanding from then on. Where
+    /// memory was refused, the session ends without an error.
     pub fn on_client(&mut self, frame: Frame) -> Act
         requires { self.old.outstanding ≡ 0 }
-        ensures act { MemoryAside (client_act self.old.leased frame) result }
-        ensures state { self.new ≡ after_client self.old frame }
+        ensures { ActsOnClient self.old frame result self.new }
     {
-        match Asked::of(&frame) {
-            Asked::Query => self.request(frame),
-            Asked::Terminate => self.end(Frames::none()),
-            Asked::Refused(code) => {
-                let error = self.error(code);
-                self.end(error)
-            }
+        match ClientMessage::of(self.gathered.len(), &frame) {
+            ClientMessage::Terminate => self.end(Reply::nothing()),
+            ClientMessage::Refused(code) => self.end_with(code),
+            ClientMessage::Gathered => self.gather(&frame),
+            ClientMessage::Request => self.request(&frame),
         }
     }
 
-    /// What to do with the link's next frame. Where memory for an error was refused, the act has no frame.
-    pub fn on_link(&mut self, frame: Frame) -> Act
+    /// What to do where the client's stream isn't cut into frames: it violates the protocol.
+    pub fn on_client_fault(&mut self) -> Act
+        ensures act { EndsWith self.old.leased ProtocolViolation result }
+        ensures state { self.new ≡ over self.old }
+    {
+        self.end_with(ErrorCode::ProtocolViolation)
+    }
+
+    /// What to do with the link's next frame, by its type and its length field, which counts
+    /// itself.
+    pub fn on_link_head(&mut self, kind: u8, length: usize) -> HeadAct
         requires { IsTrue self.old.leased }
-        ensures act { MemoryAside (link_act self.old.outstanding frame) result }
-        ensures state { self.new ≡ after_link self.old frame }
+        ensures act { IsHeadAct (head_act self.old kind length) result }
+        ensures state { self.new ≡ after_head self.old kind length }
     {
-        match Told::of(&frame) {
-            Told::News => Act::ToClient(Frames::one(frame)),
-            Told::Idle => self.idle(frame),
-            Told::InTransaction => self.in_transaction(frame),
-            Told::Refused(code) => self.close(code),
+        match LinkMessage::of(kind, length) {
+            LinkMessage::PassOn => HeadAct::PassOn,
+            LinkMessage::Ready => self.on_ready_head(),
+            LinkMessage::Refused(code) => self.close(code),
         }
     }
 
-    fn request(&mut self, frame: Frame) -> Act
+    /// What to do with the ReadyForQuery whose status byte this is.
+    pub fn on_ready(&mut self, status: u8) -> Act
+        requires { IsTrue self.old.leased }
+        ensures act { IsReadyAct (ready_act self.old status) result }
+        ensures state { self.new ≡ after_ready self.old status }
+    {
+        if self.may_read() {
+            return self.on_link_fault();
+        }
+        match Status::of(status) {
+            Status::Idle => {
+                self.stage = Stage::NoLease;
+                Act::Release(Reply::ready(status))
+            }
+            Status::InTransaction => {
+                self.stage = Stage::Leased;
+                Act::ToClient(Reply::ready(status))
+            }
+            Status::Unknown => self.on_link_fault(),
+        }
+    }
+
+    /// What to do where the link's stream isn't cut into frames, ends or fails: the link is lost.
+    pub fn on_link_fault(&mut self) -> Act
+        requires { IsTrue self.old.leased }
+        ensures act { EndsWith true ConnectionFailure result }
+        ensures state { self.new ≡ over self.old }
+    {
+        self.end_with(ErrorCode::ConnectionFailure)
+    }
+
+    /// Forgets the request that `Need` handed out, for which no link was acquired. It takes no
+    /// memory.
+    pub fn drop_request(&mut self)
+        ensures { self.new ≡ over self.old }
+    {
+        self.stage = Stage::NoLease;
+        self.gathered.clear();
+    }
+
+    // Keeps the frame for the request to which it belongs.
+    fn gather(&mut self, frame: &Frame) -> Act
+        requires { length self.old.gathered + (5 + length frame.now.body) ≤ 1048576 }
+        ensures { ActsOn ClientMessage.Gathered self.old frame.now result self.new }
+    {
+        match put_frame(frame, &mut self.gathered) {
+            Ok(()) => Act::ToClient(Reply::nothing()),
+            Err(_) => self.end(Reply::nothing()),
+        }
+    }
+
+    // Hands out the request that is whole with this frame.
+    fn request(&mut self, frame: &Frame) -> Act
         requires { self.old.outstanding ≡ 0 }
-        ensures act { result ≡ act_on_asked Asked.Query self.old.leased frame }
-        ensures state { self.new ≡ after_asked Asked.Query self.old }
+        ensures { ActsOn ClientMessage.Request self.old frame.now result self.new }
     {
         let leased = self.holds_lease();
+        if put_frame(frame, &mut self.gathered).is_err() {
+            return self.end(Reply::nothing());
+        }
+        let text = std::mem::replace(&mut self.gathered, Vec::new(self.alloc));
         self.stage = Stage::Asking;
-        let request = Frames::one(frame);
         if leased {
-            Act::ToLink(request)
+            Act::ToLink(Request::new(text))
         } else {
-            Act::Need(request)
+            Act::Need(Request::new(text))
         }
-    }
-
-    fn idle(&mut self, frame: Frame) -> Act
-        requires { IsTrue self.old.leased }
-        ensures act { MemoryAside (act_on_told Told.Idle self.old.outstanding frame) result }
-        ensures state { self.new ≡ after_told Told.Idle self.old.outstanding self.old }
-    {
-        if self.may_read() {
-            return self.close(ErrorCode::ConnectionFailure);
-        }
-        self.stage = Stage::NoLease;
-        Act::Release(Frames::one(frame))
-    }
-
-    fn in_transaction(&mut self, frame: Frame) -> Act
-        requires { IsTrue self.old.leased }
-        ensures act { MemoryAside (act_on_told Told.InTransaction self.old.outstanding frame) result }
-        ensures state { self.new ≡ after_told Told.InTransaction self.old.outstanding self.old }
-    {
-        if self.may_read() {
-            return self.close(ErrorCode::ConnectionFailure);
-        }
-        self.stage = Stage::Leased;
-        Act::ToClient(Frames::one(frame))
     }
 
     // Ends the session, and closes the link where one is held.
-    fn end(&mut self, frames: Frames) -> Act
-        ensures act { result ≡ ends self.old.leased frames }
+    fn end(&mut self, reply: Reply) -> Act
+        ensures act { result ≡ ends self.old.leased reply }
         ensures state { self.new ≡ over self.old }
     {
         let leased = self.holds_lease();
-        self.stage = Stage::NoLease;
+        self.drop_request();
         if leased {
-            Act::Close(frames)
+            Act::Close(reply)
         } else {
-            Act::End(frames)
+            Act::End(reply)
         }
     }
 
-    // Closes the link, and ends the session.
-    fn close(&mut self, code: ErrorCode) -> Act
-        requires { IsTrue self.old.leased }
-        ensures act { MemoryAside (Act.Close (error_of Severity.Fatal code ∷ [])) result }
+    // Ends the session with this error, and without it where memory for it is refused.
+    fn end_with(&mut self, code: ErrorCode) -> Act
+        ensures act { EndsWith self.old.leased code result }
         ensures state { self.new ≡ over self.old }
     {
         let error = self.error(code);
         self.end(error)
     }
 
-    // The session's own error, and nothing where memory for it is refused.
-    fn error(&self, code: ErrorCode) -> Frames
-        ensures { (result ≡ error_of Severity.Fatal code ∷ []) ⊎ (result ≡ []) }
+    // What to do with a ReadyForQuery, by whether a request is outstanding.
+    fn on_ready_head(&mut self) -> HeadAct
+        ensures act { IsHeadAct (act_on_head LinkMessage.Ready self.old.outstanding) result }
+        ensures state { self.new
+            ≡ session_at (act_on_head LinkMessage.Ready self.old.outstanding) self.old }
     {
-        match error_frame(self.alloc, Severity::Fatal, code) {
-            Ok(error) => Frames::one(error),
-            Err(_) => Frames::none(),
+        if self.may_read() {
+            self.close(ErrorCode::ConnectionFailure)
+        } else {
+            HeadAct::Ready
+        }
+    }
+
+    // Closes the link with this error.
+    fn close(&mut self, code: ErrorCode) -> HeadAct
+        ensures act { (result ≡ HeadAct.Close (fatal code)) ⊎ (result ≡ HeadAct.Close []) }
+        ensures state { self.new ≡ over self.old }
+    {
+        let error = self.error(code);
+        self.drop_request();
+        HeadAct::Close(error)
+    }
+
+    // The session's own error, and nothing where memory for it is refused.
+    fn error(&self, code: ErrorCode) -> Reply
+        ensures { (result ≡ fatal code) ⊎ (result ≡ []) }
+    {
+        match Reply::error(self.alloc, Severity::Fatal, code) {
+            Ok(error) => error,
+            Err(_) => Reply::nothing(),
         }
     }
 }

@@ -2,17 +2,17 @@
 #![tactic(auto)]
 
 mod act;
-mod asked;
 mod client;
-mod errors;
-mod frames;
-mod told;
+mod client_message;
+mod link_message;
+mod reply;
+mod request;
 
-pub use act::Act;
+pub use act::{Act, HeadAct};
 pub use client::Client;
-pub use errors::error_frame;
-pub use frames::Frames;
 pub use pg_ids::DatabaseNo;
+pub use reply::Reply;
+pub use request::Request;
 
 #[cfg(test)]
 mod tests;

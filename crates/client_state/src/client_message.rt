@@ -1,0 +1,133 @@
+//! What a client's message asks for.
+ghost use Rattle.std.specs.Prelude.{◌≡◌, ◌≤◌, ◌&&◌, length, nat_le, take};
+ghost use Rattle.std.specs.List.{count_by, list_all};
+ghost use Rattle.client_state.specs.Text.{is_one_string, is_zero};
+ghost use Rattle.client_state.specs.ClientMessage.{by_kind, by_names, by_target};
+
+use pg_frames::Frame;
+use startup::ErrorCode;
+
+// The greatest number of bytes of an extended query's messages before their Sync (own).
+const MAX_GATHERED: usize = 1 << 20;
+
+// The greatest length of a Query's body: its length field counts itself, and is at most 1,048,576
+// (own).
+const MAX_QUERY: usize = (1 << 20) - 4;
+
+// The type and the length field, which a message has apart from its body.
+const HEADER_LEN: usize = 5;
+
+/// What a client's message asks for.
+#[derive(Clone, Copy)]
+pub enum ClientMessage {
+    /// The request is whole with this message.
+    Request,
+    /// More of a request is to come, up to its Sync.
+    Gathered,
+    /// The session is to end.
+    Terminate,
+    /// Nothing that a session takes.
+    Refused(ErrorCode),
+}
+
+const VIOLATION: ClientMessage = ClientMessage::Refused(ErrorCode::ProtocolViolation);
+
+const LEFT_OUT: ClientMessage = ClientMessage::Refused(ErrorCode::FeatureNotSupported);
+
+impl ClientMessage {
+    ghost use Rattle.client_state.specs.ClientMessage.{client_message};
+
+    /// What the frame asks for, after messages of an extended query with this many bytes.
+    #[tactic(auto, unfolding(crate::specs::ClientMessage::client_message))]
+    pub fn of(gathered: usize, frame: &Frame) -> ClientMessage
+        requires { gathered ≤ 1048576 }
+        ensures { result ≡ client_message gathered frame.now }
+    {
+        let body = frame.body.as_slice();
+        match frame.kind {
+            b'X' => ClientMessage::Terminate,
+            b'Q' if gathered == 0 && body.len() <= MAX_QUERY && is_one_string(body) => {
+                ClientMessage::Request
+            }
+            b'S' if body.is_empty() => ClientMessage::Request,
+            b'P' | b'B' | b'D' | b'E' | b'C'
+                if body.len() + HEADER_LEN <= MAX_GATHERED - gathered => {
+                by_kind(frame.kind, body)
+            }
+            b'H' | b'F' | b'd' | b'c' | b'f' => LEFT_OUT,
+            _ => VIOLATION,
+        }
+    }
+}
+
+// What Parse, Bind, Describe, Execute or Close asks for.
+fn by_kind(kind: u8, body: &[u8]) -> ClientMessage
+    ensures { result ≡ by_kind kind body.now }
+{
+    match kind {
+        b'B' => by_names(2, body),
+        b'D' | b'C' => by_target(body),
+        _ => by_names(1, body),
+    }
+}
+
+// What a message asks for that begins with the kind of what it names: a prepared statement or a
+// portal.
+fn by_target(body: &[u8]) -> ClientMessage
+    ensures { result ≡ by_target body.now }
+{
+    let Some((kind, name)) = body.split_first() else {
+        return VIOLATION;
+    };
+    if *kind == b'S' || *kind == b'P' {
+        by_names(1, name)
+    } else {
+        VIOLATION
+    }
+}
+
+// What a message asks for that begins with this many names. The names that are taken are empty.
+fn by_names(count: usize, body: &[u8]) -> ClientMessage
+    ensures { result ≡ by_names count body.now }
+{
+    if begins_empty(count, body) {
+        ClientMessage::Gathered
+    } else if zeros(body) >= count {
+        LEFT_OUT
+    } else {
+        VIOLATION
+    }
+}
+
+// Whether the first bytes, this many, are all there and zero.
+fn begins_empty(count: usize, body: &[u8]) -> bool
+    ensures { result ≡ (nat_le count (length body.now) && list_all is_zero (take count body.now)) }
+{
+    match body.get(..count) {
+        Some(front) => all_zero(front),
+        None => false,
+    }
+}
+
+fn all_zero(bytes: &[u8]) -> bool
+    ensures { result ≡ list_all is_zero bytes.now }
+{
+    bytes.iter().all(|byte| *byte == 0)
+}
+
+// How many zero bytes there are.
+fn zeros(body: &[u8]) -> usize
+    ensures { result ≡ count_by is_zero body.now }
+{
+    body.iter().filter(|byte| **byte == 0).count()
+}
+
+// Whether the first zero byte is the last byte.
+fn is_one_string(body: &[u8]) -> bool
+    ensures { result ≡ is_one_string body.now }
+{
+    match body.split_last() {
+        Some((last, text)) => *last == 0 && !text.contains(&0),
+        None => false,
+    }
+}

@@ -1,0 +1,59 @@
+//! What a link's message means to a session, by its head and by its status.
+ghost use Rattle.std.specs.Prelude.{◌≡◌};
+
+use startup::ErrorCode;
+
+/// What a link's message means by its type and its length field.
+#[derive(Clone, Copy)]
+pub enum LinkMessage {
+    /// Something for the client.
+    PassOn,
+    /// A ReadyForQuery, whose status says the rest.
+    Ready,
+    /// Nothing that a session passes on.
+    Refused(ErrorCode),
+}
+
+/// What the status of a ReadyForQuery says.
+#[derive(Clone, Copy)]
+pub enum Status {
+    /// No transaction is open.
+    Idle,
+    /// A transaction is open, or failed.
+    InTransaction,
+    /// Nothing that is known.
+    Unknown,
+}
+
+impl LinkMessage {
+    ghost use Rattle.client_state.specs.LinkMessage.{link_message};
+
+    /// What a message of this type and this length field means. The length field counts itself.
+    #[tactic(auto, unfolding(crate::specs::LinkMessage::link_message))]
+    pub fn of(kind: u8, length: usize) -> LinkMessage
+        ensures { result ≡ link_message kind length }
+    {
+        match kind {
+            b'T' | b'D' | b'C' | b'I' | b'E' | b'N' | b'S' => LinkMessage::PassOn,
+            b'1' | b'2' | b'3' | b'n' | b's' | b't' => LinkMessage::PassOn,
+            b'Z' if length == 5 => LinkMessage::Ready,
+            b'G' | b'H' | b'W' => LinkMessage::Refused(ErrorCode::FeatureNotSupported),
+            _ => LinkMessage::Refused(ErrorCode::ConnectionFailure),
+        }
+    }
+}
+
+impl Status {
+    ghost use Rattle.client_state.specs.LinkMessage.{status_of};
+
+    /// What this byte says.
+    pub fn of(byte: u8) -> Status
+        ensures { result ≡ status_of byte }
+    {
+        match byte {
+            b'I' => Status::Idle,
+            b'T' | b'E' => Status::InTransaction,
+            _ => Status::Unknown,
+        }
+    }
+}
