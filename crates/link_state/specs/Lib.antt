@@ -1,5 +1,4 @@
-pub mod Head
 pub mod LinkError
 pub mod Login
+pub mod Message
 pub mod Stages
-pub mod Told

@@ -16,13 +16,14 @@ pub enum LinkError {
     /// An ErrorResponse came.
     #[error("the server answered the login with an error")]
     ServerError,
-    /// A message came that is no part of a login here, or that has another length or another status.
+    /// A message came that is no part of a login here, or that has another length or another
+    /// status.
     #[error("the server sent a message that is no part of a login in this profile")]
     OutOfProfile,
 }
 
 impl LinkError {
-    /// The number by which the refusal is told, 50 to 53.
+    /// The number of the refusal, 50 to 53.
     pub const fn number(self) -> u8
         ensures { result ≡ number_of self }
     {

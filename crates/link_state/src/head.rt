@@ -1,99 +1,112 @@
-//! What a message is to a login by its type and its length, and what its body tells then.
-ghost use Rattle.std.specs.Prelude.{◌≡◌, ◌≤◌, ℕ, List, length};
-ghost use Rattle.byteorder.specs.Endian.{big_number};
-ghost use Rattle.link_state.specs.Told.{is_idle, numbered};
+//! What a server's message means by its head, and which part of its body a login reads.
+ghost use Rattle.std.specs.Prelude.{◌≡◌, length};
+ghost use Rattle.link_state.specs.Message.{is_idle, message_in};
 
 use crate::LinkError;
-use crate::told::Told;
+use crate::message::Message;
 use byteorder::{BigEndian, ByteOrder};
 use pg_ids::ServerKey;
 
-// The number of an authentication request is an Int32.
-const NUMBER_LEN: usize = 4;
-
-// A key is a process ID and a secret key, an Int32 each.
-const KEY_LEN: usize = 8;
-
-// A status is one byte.
-const STATUS_LEN: usize = 1;
-
-/// What a message is to a login by its type and its length.
+/// What a message means by its type and its length field.
 #[derive(Clone, Copy)]
 pub enum Head {
-    /// One that tells this, whatever its body.
-    Whole(Told),
-    /// An authentication request with a number.
-    Authentication,
-    /// A BackendKeyData with a whole key.
+    /// Nothing that the login waits for.
+    Skipped,
+    /// The login fails.
+    Fault(LinkError),
+    /// A ReadyForQuery without one status byte.
+    OtherReady,
+    /// What this part of the body says.
+    Body(Part),
+}
+
+/// The part of a body that a login reads.
+#[derive(Clone, Copy, Debug)]
+pub enum Part {
+    /// The number of an authentication request.
+    Number,
+    /// The process ID and the secret key of BackendKeyData.
     Key,
-    /// A ReadyForQuery with one status.
-    Ready,
+    /// The status of ReadyForQuery.
+    Status,
 }
 
 impl Head {
-    ghost use Rattle.link_state.specs.Told.{told};
-    ghost use Rattle.link_state.specs.Head.{told_of, Fits};
+    ghost use Rattle.link_state.specs.Message.{head_of};
 
-    /// What a message of this type is whose body has this length.
-    #[tactic(auto, unfolding(crate::specs::Told::told))]
-    pub fn of(kind: u8, len: usize) -> Head
-        ensures tells { (body : List ℕ) → length body ≡ len → told kind body ≡ told_of result body }
-        ensures fits { Fits result len }
+    /// What a message of this type and this length field means. The length field counts itself.
+    #[tactic(auto, unfolding(crate::specs::Message::head_of))]
+    pub fn of(kind: u8, length: usize) -> Head
+        ensures { result ≡ head_of kind length }
     {
         match kind {
-            b'R' if len >= NUMBER_LEN => Head::Authentication,
-            b'S' | b'N' => Head::Whole(Told::Nothing),
-            b'K' if len == KEY_LEN => Head::Key,
-            b'Z' if len == STATUS_LEN => Head::Ready,
-            b'Z' => Head::Whole(Told::Ready { idle: false }),
-            b'E' => Head::Whole(Told::Fault(LinkError::ServerError)),
-            _ => Head::Whole(Told::Fault(LinkError::OutOfProfile)),
+            b'R' if length >= 8 => Head::Body(Part::Number),
+            b'S' | b'N' => Head::Skipped,
+            b'K' if length == 12 => Head::Body(Part::Key),
+            b'Z' if length == 5 => Head::Body(Part::Status),
+            b'Z' => Head::OtherReady,
+            b'E' => Head::Fault(LinkError::ServerError),
+            _ => Head::Fault(LinkError::OutOfProfile),
+        }
+    }
+}
+
+impl Part {
+    ghost use Rattle.link_state.specs.Message.{part_len, message_in};
+
+    /// How many bytes it has.
+    pub fn len(self) -> usize
+        ensures { result ≡ part_len self }
+    {
+        match self {
+            Part::Number => 4,
+            Part::Key => 8,
+            Part::Status => 1,
         }
     }
 
-    /// What the message tells that has this body.
-    pub fn told(self, body: &[u8]) -> Told
-        requires { Fits self (length body.now) }
-        ensures { result ≡ told_of self body.now }
+    /// What a message means in which the part is these bytes.
+    pub fn message(self, bytes: &[u8]) -> Message
+        requires { length bytes.now ≡ part_len self }
+        ensures { result ≡ message_in self bytes.now }
     {
         match self {
-            Head::Whole(told) => told,
-            Head::Authentication => authentication(body),
-            Head::Key => Told::Key(key_of(body)),
-            Head::Ready => Told::Ready {
-                idle: is_idle(body),
+            Part::Number => authentication(bytes),
+            Part::Key => Message::Key(key_of(bytes)),
+            Part::Status => Message::Ready {
+                idle: is_idle(bytes),
             },
         }
     }
 }
 
-// What the number of an authentication request tells.
-fn authentication(body: &[u8]) -> Told
-    requires { 4 ≤ length body.now }
-    ensures { result ≡ numbered (big_number 4 body.now) }
+// What an authentication request with this number means.
+fn authentication(number: &[u8]) -> Message
+    requires { length number.now ≡ 4 }
+    ensures { result ≡ message_in Part.Number number.now }
 {
-    if BigEndian::read_u32(body) == 0 {
-        Told::Nothing
+    if BigEndian::read_u32(number) == 0 {
+        Message::Passed
     } else {
-        Told::Fault(LinkError::AuthAsked)
+        Message::Fault(LinkError::AuthAsked)
     }
 }
 
 // The key that these bytes are.
-fn key_of(body: &[u8]) -> ServerKey
-    requires { length body.now ≡ 8 }
-    ensures { result ≡ body.now }
+fn key_of(bytes: &[u8]) -> ServerKey
+    requires { length bytes.now ≡ 8 }
+    ensures { result ≡ bytes.now }
 {
-    let mut key = [0; KEY_LEN];
-    key.copy_from_slice(body);
+    let mut key = [0; 8];
+    key.copy_from_slice(bytes);
     ServerKey(key)
 }
 
 // Whether the status says that no transaction is open.
-fn is_idle(body: &[u8]) -> bool
-    ensures { result ≡ is_idle body.now }
+fn is_idle(status: &[u8]) -> bool
+    ensures { result ≡ is_idle status.now }
 {
-    match body {
+    match status {
         b"I" => true,
         _ => false,
     }

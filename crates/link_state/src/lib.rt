@@ -1,15 +1,15 @@
-//! The login of a pooler at a server: what it sends, what it makes of each of the server's messages, and when the link
-//! is up.
+//! The login of a pooler at a server: what it sends, what it makes of each of the server's
+//! messages, and when the link is up.
 #![tactic(auto)]
 
 mod act;
 mod error;
 mod head;
 mod login;
+mod message;
 mod stage;
-mod told;
 
-pub use act::LinkAct;
+pub use act::{LinkAct, LoginHead};
 pub use error::LinkError;
 pub use login::LinkLogin;
 pub use pg_ids::ServerKey;

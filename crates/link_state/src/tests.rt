@@ -1,9 +1,25 @@
-//! Logins message by message, every beginning of a whole login, and each call with memory enough.
+//! Logins head by head and body by body, every beginning of a whole login, and each call with ample
+//! memory.
 use super::*;
-use pg_frames::{Body, Cutting, Frame, cut};
 use std::alloc::{AllocError, Global};
 use std::process::Abort;
 use std::test::Fail;
+
+mod transcripts;
+
+type Answer = Result<LinkAct, LinkError>;
+
+const MORE: Answer = Ok(LinkAct::More);
+
+const UP: Answer = Ok(LinkAct::Up(ServerKey([0, 0, 0, 1, 0, 0, 0, 2])));
+
+const NO_KEY: Answer = Err(LinkError::NoKey);
+
+const AUTH_ASKED: Answer = Err(LinkError::AuthAsked);
+
+const SERVER_ERROR: Answer = Err(LinkError::ServerError);
+
+const OUT_OF_PROFILE: Answer = Err(LinkError::OutOfProfile);
 
 const STARTUP: &[u8; 32] = b"\0\0\0\x20\0\x03\0\0user\0ann\0database\0shop\0\0";
 
@@ -15,133 +31,243 @@ const LOGIN: &[u8; 103] = b"R\0\0\0\x08\0\0\0\0\
     K\0\0\0\x0c\0\x08\0\0\0\0\0\x07\
     Z\0\0\0\x05I";
 
-const OK: (u8, &[u8]) = (b'R', b"\0\0\0\0");
+const OK: &[u8; 9] = b"R\0\0\0\x08\0\0\0\0";
 
-const STATUS: (u8, &[u8]) = (b'S', b"server_version\x0016\0");
+const KEY: &[u8; 13] = b"K\0\0\0\x0c\0\0\0\x01\0\0\0\x02";
 
-const KEY: (u8, &[u8]) = (b'K', b"\0\0\0\x01\0\0\0\x02");
+const IDLE: &[u8; 6] = b"Z\0\0\0\x05I";
 
-const IDLE: (u8, &[u8]) = (b'Z', b"I");
+fn login(alloc: Global) -> Result<LinkLogin, AllocError> {
+    LinkLogin::new(alloc, "ann", "shop")
+}
 
-// An answer by its number: 0 for more, 1 for up, else that of the refusal.
-fn number_of(answer: &Result<LinkAct, LinkError>) -> u8 {
-    match answer {
-        Ok(LinkAct::More) => 0,
-        Ok(LinkAct::Up(_)) => 1,
-        Err(error) => error.number(),
+// What comes of a message of which this much of the body is there.
+fn tell(login: &mut LinkLogin, kind: u8, length: usize, body: &[u8]) -> Answer {
+    match login.on_head(kind, length)? {
+        LoginHead::Skip => MORE,
+        LoginHead::Body(n) => match body.get(..n) {
+            Some(part) => login.on_body(part),
+            None => MORE,
+        },
     }
 }
 
-fn frame(alloc: Global, kind: u8, body: &[u8]) -> Result<Frame, AllocError> {
-    let body = Body::from_slice(alloc, body)?;
-    Ok(Frame { kind, body })
+// What comes of the last of these messages, the last of which may be cut short anywhere.
+fn feed(login: &mut LinkLogin, stream: &[u8]) -> Answer {
+    let mut rest = stream;
+    let mut act = LinkAct::More;
+    for _ in 0..stream.len() {
+        let [kind, a, b, c, d, body @ ..] = rest else {
+            break;
+        };
+        let length = u32::from_be_bytes([*a, *b, *c, *d]) as usize;
+        act = tell(login, *kind, length, body)?;
+        rest = body.get(length.saturating_sub(4)..).unwrap_or(&[]);
+    }
+    Ok(act)
 }
 
-// The login that is fed these messages answers these numbers.
-fn assert_login<'a>(
-    rt: &(impl Abort + AllocGlobal),
-    messages: &'a [(u8, &'a [u8])],
-    answers: &'a [u8],
-) -> Result<LinkLogin, AllocError> {
-    let mut login = LinkLogin::new(rt.alloc(), "ann", "shop")?;
-    assert_eq!(rt; messages.len(), answers.len());
-    for ((kind, body), expected) in messages.iter().zip(answers) {
-        let answer = login.on_frame(frame(rt.alloc(), *kind, body)?);
-        assert_eq!(rt; number_of(&answer), *expected);
-    }
-    Ok(login)
+fn assert_answer(rt: &impl Abort, login: &mut LinkLogin, stream: &[u8], expected: &Answer) {
+    assert_eq!(rt; feed(login, stream), *expected);
 }
 
 #[test]
 fn up(rt: HostRuntime) -> Result<(), Fail> {
-    let mut login = assert_login(&rt, &[OK, STATUS, KEY], &[0, 0, 0])?;
-    assert_eq!(rt; login.first_bytes(), STARTUP.as_slice());
-    let answer = login.on_frame(frame(rt.alloc(), b'Z', b"I")?);
-    let key = ServerKey([0, 0, 0, 1, 0, 0, 0, 2]);
-    assert_eq!(rt; answer, Ok(LinkAct::Up(key)));
+    let mut first = login(rt.alloc())?;
+    assert_eq!(rt; first.first_bytes(), STARTUP.as_slice());
+    assert_answer(&rt, &mut first, OK, &MORE);
+    assert_answer(&rt, &mut first, KEY, &MORE);
+    assert_answer(&rt, &mut first, IDLE, &UP);
 
     // The key that comes last.
-    let other = (b'K', b"\0\0\0\x03\0\0\0\x04".as_slice());
-    let mut login = assert_login(&rt, &[OK, KEY, other], &[0, 0, 0])?;
-    let answer = login.on_frame(frame(rt.alloc(), b'Z', b"I")?);
-    let key = ServerKey([0, 0, 0, 3, 0, 0, 0, 4]);
-    assert_eq!(rt; answer, Ok(LinkAct::Up(key)));
+    let mut second = login(rt.alloc())?;
+    let other = b"K\0\0\0\x0c\0\0\0\x03\0\0\0\x04";
+    assert_answer(&rt, &mut second, other, &MORE);
+    assert_answer(&rt, &mut second, KEY, &MORE);
+    assert_answer(&rt, &mut second, IDLE, &UP);
     Ok(())
 }
 
-// One message, and the answers to it at the start and after AuthenticationOk and a key.
-const MESSAGES: [(u8, &[u8], u8, u8); 30] = [
-    (b'R', b"\0\0\0\0", 0, 0),
-    (b'R', b"\0\0\0\0more", 0, 0),
-    (b'R', b"\0\0\0\x03", 51, 51),
-    (b'R', b"\0\0\0\x05salt", 51, 51),
-    (b'R', b"\0\0\0\x0aSCRAM-SHA-256\0\0", 51, 51),
-    (b'R', b"\x01\0\0\0", 51, 51),
-    (b'R', b"\xff\xff\xff\xff", 51, 51),
-    (b'R', b"\0\0\0", 53, 53),
-    (b'R', b"\x01\x01\x01", 53, 53),
-    (b'R', b"", 53, 53),
-    (b'S', b"a\0b\0", 0, 0),
-    (b'S', b"", 0, 0),
-    (b'N', b"\0", 0, 0),
-    (b'K', b"\0\0\0\x01\0\0\0\x02", 0, 0),
-    (b'K', b"\0\0\0\x01\0\0\0", 53, 53),
-    (b'K', b"\0\0\0\x01\0\0\0\x02\0", 53, 53),
-    (b'K', b"", 53, 53),
-    (b'Z', b"I", 50, 1),
-    (b'Z', b"T", 50, 53),
-    (b'Z', b"E", 50, 53),
-    (b'Z', b"i", 50, 53),
-    (b'Z', b"", 50, 53),
-    (b'Z', b"II", 50, 53),
-    (b'E', b"SFATAL\0\0", 52, 52),
-    (b'E', b"", 52, 52),
-    (b'T', b"\0\0", 53, 53),
-    (b'v', b"\0\0\0\0\0\0\0\0", 53, 53),
-    (b'r', b"\0\0\0\0", 53, 53),
-    (b'z', b"I", 53, 53),
-    (b'0', b"", 53, 53),
+// The head of a message, and what comes of it at the start and after a key.
+const HEADS: [(
+    u8,
+    usize,
+    Result<LoginHead, LinkError>,
+    Result<LoginHead, LinkError>,
+); 18] = [
+    (b'R', 8, Ok(LoginHead::Body(4)), Ok(LoginHead::Body(4))),
+    (b'R', 9, Ok(LoginHead::Body(4)), Ok(LoginHead::Body(4))),
+    (
+        b'R',
+        1_048_576,
+        Ok(LoginHead::Body(4)),
+        Ok(LoginHead::Body(4)),
+    ),
+    (
+        b'R',
+        7,
+        Err(LinkError::OutOfProfile),
+        Err(LinkError::OutOfProfile),
+    ),
+    (b'S', 4, Ok(LoginHead::Skip), Ok(LoginHead::Skip)),
+    (b'S', 1_048_576, Ok(LoginHead::Skip), Ok(LoginHead::Skip)),
+    (b'N', 5, Ok(LoginHead::Skip), Ok(LoginHead::Skip)),
+    (b'N', 1_048_576, Ok(LoginHead::Skip), Ok(LoginHead::Skip)),
+    (b'K', 12, Ok(LoginHead::Body(8)), Ok(LoginHead::Body(8))),
+    (
+        b'K',
+        11,
+        Err(LinkError::OutOfProfile),
+        Err(LinkError::OutOfProfile),
+    ),
+    (
+        b'K',
+        13,
+        Err(LinkError::OutOfProfile),
+        Err(LinkError::OutOfProfile),
+    ),
+    (b'Z', 5, Ok(LoginHead::Body(1)), Ok(LoginHead::Body(1))),
+    (b'Z', 4, Err(LinkError::NoKey), Err(LinkError::OutOfProfile)),
+    (b'Z', 6, Err(LinkError::NoKey), Err(LinkError::OutOfProfile)),
+    (
+        b'E',
+        4,
+        Err(LinkError::ServerError),
+        Err(LinkError::ServerError),
+    ),
+    (
+        b'E',
+        1_048_576,
+        Err(LinkError::ServerError),
+        Err(LinkError::ServerError),
+    ),
+    (
+        b'T',
+        6,
+        Err(LinkError::OutOfProfile),
+        Err(LinkError::OutOfProfile),
+    ),
+    (
+        b'v',
+        12,
+        Err(LinkError::OutOfProfile),
+        Err(LinkError::OutOfProfile),
+    ),
 ];
 
-// What was refused is refused in the same way from then on, and whatever comes after the login is out of profile.
+#[test]
+fn heads(rt: HostRuntime) -> Result<(), Fail> {
+    for (kind, length, first, later) in HEADS {
+        let mut fresh = login(rt.alloc())?;
+        assert_eq!(rt; fresh.on_head(kind, length), first);
+        let mut keyed = login(rt.alloc())?;
+        assert_answer(&rt, &mut keyed, KEY, &MORE);
+        assert_eq!(rt; keyed.on_head(kind, length), later);
+    }
+    Ok(())
+}
+
+// One message, and what comes of it at the start and after AuthenticationOk and a key.
+const MESSAGES: [(&[u8], Answer, Answer); 24] = [
+    (b"R\0\0\0\x08\0\0\0\0", MORE, MORE),
+    (b"R\0\0\0\x0c\0\0\0\0more", MORE, MORE),
+    (b"R\0\0\0\x08\0\0\0\x03", AUTH_ASKED, AUTH_ASKED),
+    (b"R\0\0\0\x0c\0\0\0\x05salt", AUTH_ASKED, AUTH_ASKED),
+    (
+        b"R\0\0\0\x17\0\0\0\x0aSCRAM-SHA-256\0\0",
+        AUTH_ASKED,
+        AUTH_ASKED,
+    ),
+    (b"R\0\0\0\x08\x01\0\0\0", AUTH_ASKED, AUTH_ASKED),
+    (b"R\0\0\0\x08\xff\xff\xff\xff", AUTH_ASKED, AUTH_ASKED),
+    (b"R\0\0\0\x07\0\0\0", OUT_OF_PROFILE, OUT_OF_PROFILE),
+    (b"R\0\0\0\x04", OUT_OF_PROFILE, OUT_OF_PROFILE),
+    (b"S\0\0\0\x08a\0b\0", MORE, MORE),
+    (b"S\0\0\0\x04", MORE, MORE),
+    (b"N\0\0\0\x05\0", MORE, MORE),
+    (b"K\0\0\0\x0c\0\0\0\x01\0\0\0\x02", MORE, MORE),
+    (
+        b"K\0\0\0\x0b\0\0\0\x01\0\0\0",
+        OUT_OF_PROFILE,
+        OUT_OF_PROFILE,
+    ),
+    (b"K\0\0\0\x04", OUT_OF_PROFILE, OUT_OF_PROFILE),
+    (b"Z\0\0\0\x05I", NO_KEY, UP),
+    (b"Z\0\0\0\x05T", NO_KEY, OUT_OF_PROFILE),
+    (b"Z\0\0\0\x05E", NO_KEY, OUT_OF_PROFILE),
+    (b"Z\0\0\0\x05i", NO_KEY, OUT_OF_PROFILE),
+    (b"Z\0\0\0\x04", NO_KEY, OUT_OF_PROFILE),
+    (b"Z\0\0\0\x06II", NO_KEY, OUT_OF_PROFILE),
+    (b"E\0\0\0\x0dSFATAL\0\0", SERVER_ERROR, SERVER_ERROR),
+    (b"T\0\0\0\x06\0\0", OUT_OF_PROFILE, OUT_OF_PROFILE),
+    (b"z\0\0\0\x05I", OUT_OF_PROFILE, OUT_OF_PROFILE),
+];
+
+// After this message each further one gives this.
+fn assert_stays(rt: &impl Abort, login: &mut LinkLogin, message: &[u8], expected: &Answer) {
+    assert_answer(rt, login, KEY, expected);
+    assert_answer(rt, login, IDLE, expected);
+    assert_answer(rt, login, message, expected);
+}
+
+// What was refused is refused in the same way from then on, and whatever comes after the login is
+// out of profile.
 #[test]
 fn messages(rt: HostRuntime) -> Result<(), Fail> {
-    for (kind, body, first, later) in MESSAGES {
-        let one = (kind, body);
-        if first != 0 {
-            assert_login(&rt, &[one, OK, KEY, IDLE, one], &[first; 5])?;
-        } else {
-            assert_login(&rt, &[one], &[first])?;
+    for (message, first, later) in &MESSAGES {
+        let mut fresh = login(rt.alloc())?;
+        assert_answer(&rt, &mut fresh, message, first);
+        if *first != MORE {
+            assert_stays(&rt, &mut fresh, message, first);
         }
-        if later > 1 {
-            let answers = [0, 0, later, later, later, later];
-            assert_login(&rt, &[OK, KEY, one, KEY, IDLE, OK], &answers)?;
-        } else {
-            assert_login(&rt, &[OK, KEY, one], &[0, 0, later])?;
+        let mut keyed = login(rt.alloc())?;
+        assert_answer(&rt, &mut keyed, OK, &MORE);
+        assert_answer(&rt, &mut keyed, KEY, &MORE);
+        assert_answer(&rt, &mut keyed, message, later);
+        if *later == UP {
+            assert_stays(&rt, &mut keyed, message, &OUT_OF_PROFILE);
+        } else if *later != MORE {
+            assert_stays(&rt, &mut keyed, message, later);
         }
-        assert_login(&rt, &[KEY, IDLE, one, IDLE, one], &[0, 1, 53, 53, 53])?;
+    }
+    Ok(())
+}
+
+// A login that has read these whole messages is not up before it has read more than a beginning.
+fn assert_beginnings(
+    rt: &(impl Abort + AllocGlobal),
+    before: &[&[u8]],
+    stream: &[u8],
+) -> Result<(), AllocError> {
+    for end in 0..stream.len() {
+        let mut login = login(rt.alloc())?;
+        for messages in before {
+            assert_answer(rt, &mut login, messages, &MORE);
+        }
+        assert_answer(rt, &mut login, &stream[..end], &MORE);
     }
     Ok(())
 }
 
 #[test]
 fn beginnings(rt: HostRuntime) -> Result<(), Fail> {
-    for end in 0..=LOGIN.len() {
-        let Cutting { frames, fault } = cut(rt.alloc(), &[&LOGIN[..end]])?;
-        assert_eq!(rt; fault, None);
-        let mut login = LinkLogin::new(rt.alloc(), "ann", "shop")?;
-        let mut answer = Ok(LinkAct::More);
-        for frame in frames {
-            assert_eq!(rt; answer, Ok(LinkAct::More));
-            answer = login.on_frame(frame);
-        }
-        let expected = if end == LOGIN.len() {
-            LinkAct::Up(ServerKey([0, 8, 0, 0, 0, 0, 0, 7]))
-        } else {
-            LinkAct::More
-        };
-        assert_eq!(rt; answer, Ok(expected), "{end}");
-    }
+    assert_beginnings(&rt, &[], LOGIN)?;
+    let key = ServerKey([0, 8, 0, 0, 0, 0, 0, 7]);
+    let mut login = login(rt.alloc())?;
+    assert_answer(&rt, &mut login, LOGIN, &Ok(LinkAct::Up(key)));
+    Ok(())
+}
+
+// Bytes that no head asked for change nothing, nor does a head while bytes are to come.
+#[test]
+fn out_of_turn(rt: HostRuntime) -> Result<(), Fail> {
+    let mut login = login(rt.alloc())?;
+    assert_eq!(rt; login.on_body(b"I"), MORE);
+    assert_eq!(rt; login.on_head(b'K', 12), Ok(LoginHead::Body(8)));
+    assert_eq!(rt; login.on_body(b"\0\0\0\x01"), MORE);
+    assert_eq!(rt; login.on_head(b'E', 4), Ok(LoginHead::Body(8)));
+    assert_eq!(rt; login.on_body(b"\0\0\0\x01\0\0\0\x02"), MORE);
+    assert_answer(&rt, &mut login, IDLE, &UP);
     Ok(())
 }
 
