@@ -1,1 +1,3 @@
+pub mod Calls
 pub mod Carrying
+pub mod Finishing

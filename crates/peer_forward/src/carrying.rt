@@ -1,21 +1,28 @@
 //! A packet is written, and the end of the input awaited.
-ghost use Rattle.std.specs.Prelude.{◌≡◌, true, false};
-ghost use Rattle.std.specs.Io.KnownBytes.{Appends};
-ghost use Rattle.peer_forward.specs.Carrying.{Carries, EndsCleanly, Stops, Waits};
+ghost use Rattle.std.specs.Prelude.{◌≡◌, ℕ, List, Result, length, true, false, []};
+ghost use Rattle.std.specs.declared.io.Error.{Error};
+ghost use Rattle.peer_forward.specs.declared.outcome.Outcome.{Outcome};
+ghost use Rattle.peer_forward.specs.Calls.{Call, Makes};
+ghost use Rattle.peer_forward.specs.Carrying.{outcome_of, Carries, Carried, WritesAll};
 
-use crate::outcome::Outcome;
-use std::io::{Read, Write};
+use crate::{Outcome, ReadCalls, WriteCalls};
 
-/// Writes the packet, and waits until the input ends. A call of the stream that is interrupted has failed. It takes
-/// no memory and doesn't flush: the stream is to be unbuffered, as a socket is. (PostgreSQL manual, "Canceling
-/// Requests in Progress": the server closes the connection without a reply.)
-pub fn carry<T: Read + Write>(stream: &mut T, packet: [u8; 16]) -> Outcome
-    // The outcome is what the calls of the stream make it, and what they took is a beginning of the packet.
-    ensures carried { Carries T.contents T.remaining stream.old packet result stream.new }
-    // A clean end comes only after the whole packet, and no byte was left then.
-    ensures ended { result ≡ Outcome.Ended → EndsCleanly T.contents T.remaining stream.old packet stream.new }
+/// Writes the packet, and waits until the input ends. `T` is any reader and writer of std, or a stream that lists its
+/// calls. A call of the stream that is interrupted has failed, and none is tried again. It takes no memory and doesn't
+/// flush: the stream is to be unbuffered, as a socket is. (PostgreSQL manual, "Canceling Requests in Progress": the
+/// server closes the connection without a reply.)
+pub fn carry<T: WriteCalls + ReadCalls>(stream: &mut T, packet: [u8; 16]) -> Outcome
+    // Which calls are made, and the outcome, follow from the results of the calls.
+    ensures { Carried T.wrote T.gave stream.old packet result stream.new }
 {
-    if write_whole(stream, &packet) {
+    carry_bytes(stream, &packet)
+}
+
+// The same for any bytes.
+fn carry_bytes<T: WriteCalls + ReadCalls>(stream: &mut T, bytes: &[u8]) -> Outcome
+    ensures { Carried T.wrote T.gave stream.old bytes.now result stream.new }
+{
+    if write_whole(stream, bytes) {
         await_end(stream)
     } else {
         Outcome::Failed
@@ -23,27 +30,34 @@ pub fn carry<T: Read + Write>(stream: &mut T, packet: [u8; 16]) -> Outcome
 }
 
 // Whether the whole of the bytes was written.
-fn write_whole<W: Write>(writer: &mut W, bytes: &[u8]) -> bool
-    ensures whole { result ≡ true → Appends (W.contents writer.old) (W.contents writer.new) bytes.now }
-    ensures stopped { result ≡ false → Stops W.contents writer.old bytes.now writer.new }
+fn write_whole<T: WriteCalls + ReadCalls>(stream: &mut T, bytes: &[u8]) -> bool
+    ensures whole { result ≡ true
+        → WritesAll T.wrote T.gave stream.old bytes.now [] stream.new }
+    ensures stopped { result ≡ false → (calls : List Call)
+        × Makes T.wrote T.gave stream.old calls stream.new
+        × Carries bytes.now calls Outcome.Failed }
 {
     let mut taken = 0;
     while taken < bytes.len() {
         let rest = bytes.split_at(taken).1;
-        match writer.write(rest) {
-            Ok(0) | Err(_) => return false,
-            Ok(count) => taken += count,
+        let Ok(count) = stream.write_once(rest) else {
+            return false;
+        };
+        if count == 0 {
+            return false;
         }
+        taken += count;
     }
     true
 }
 
-// Reads once. The outcome is clean where that tells the end.
-fn await_end<R: Read>(reader: &mut R) -> Outcome
-    ensures { Waits R.remaining reader.old result reader.new }
+// Reads once. The outcome is clean where that shows the end.
+fn await_end<T: ReadCalls>(stream: &mut T) -> Outcome
+    ensures { (buffer : List ℕ) × (answer : Result ℕ Error) × (length buffer ≡ 1)
+        × T.gave stream.old buffer answer stream.new × (result ≡ outcome_of answer) }
 {
-    let mut byte = [0];
-    match reader.read(&mut byte) {
+    let mut buffer = [0];
+    match stream.read_once(&mut buffer) {
         Ok(0) => Outcome::Ended,
         Ok(_) | Err(_) => Outcome::Failed,
     }

@@ -1,11 +1,16 @@
-//! A packet is carried to a server or to another pooler, and the end of the connection is awaited.
+//! A packet is carried to a server or to another pooler, the end of the connection is awaited, and whoever asked for
+//! it learns by one byte that it may not have been acted on.
 #![tactic(auto)]
 
+mod calls;
 mod carrying;
 mod outcome;
+mod verdict;
 
+pub use calls::{ReadCalls, WriteCalls};
 pub use carrying::carry;
 pub use outcome::Outcome;
+pub use verdict::{Verdict, finish};
 
 #[cfg(test)]
 mod tests;

@@ -1,10 +1,11 @@
-use Rattle.std.proofs.Common.{◌≤◌, ◌-◌, length, take}
-use Rattle.std.specs.Io.KnownBytes.{Appends}
+use Rattle.std.proofs.Common.{◌≤◌, ◌-◌, length, drop}
+use Rattle.peer_forward.specs.Carrying.{WritesAll}
 use Rattle.peer_forward.proofs.carrying.write_whole.Given as goal
 
--- the writes took so many of the bytes
+-- the writes so far leave the rest
 abbrev pub invariant-loop-taken : goal.invariant-loop-taken
-invariant-loop-taken g l = (l.taken ≤ length l.bytes) × Appends (g.W.Write.contents l.fn.writer) (g.W.Write.contents l.writer) (take l.taken l.bytes)
+invariant-loop-taken g l =
+    (l.taken ≤ length l.bytes) × WritesAll g.T.WriteCalls.wrote g.T.ReadCalls.gave l.fn.stream l.bytes (drop l.taken l.bytes) l.stream
 
 -- the rest grows shorter
 abbrev pub decreases-loop-taken : goal.decreases-loop-taken
