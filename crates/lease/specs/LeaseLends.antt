@@ -1,7 +1,7 @@
 -- What a lease ends as, once a `&mut` to its stream has ended.
 use Rattle.std.specs.Borrow.{Lends, Fml, RattleType, MutBor}
 use Rattle.lease.specs.LinkValue.{LinkValue}
-use Rattle.lease.specs.contracts.held_link.Lease.{the_row}
+use Rattle.lease.specs.contracts.link_lease.Lease.{the_row}
 
 module _ (S : RattleType) (lease : MutBor (LinkValue S.Denot)) where
   -- the lease says what it said, and its stream is the last one written through r

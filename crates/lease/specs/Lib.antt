@@ -1,3 +1,2 @@
 pub mod LinkValue
-pub mod OfNode
 pub mod LeaseLends

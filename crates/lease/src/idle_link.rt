@@ -1,7 +1,7 @@
-//! A link that is free. It lies in a pool, and is dropped with it where its stream may be.
+//! A link that is free. It is kept in a pool, and dropped with it if its stream may be dropped.
 ghost use Rattle.std.specs.Prelude.{◌≡◌};
 
-use crate::held_link::Lease;
+use crate::link_lease::Lease;
 use crate::link_record::LinkRecord;
 use std::marker::Model;
 

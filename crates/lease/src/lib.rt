@@ -2,8 +2,8 @@
 //! once, by type: a path that drops one doesn't compile.
 #![tactic(auto)]
 
-mod held_link;
 mod idle_link;
+mod link_lease;
 mod link_place;
 mod link_record;
 mod pass;
@@ -11,8 +11,8 @@ mod permit;
 mod quarantined_link;
 mod ticket;
 
-pub use held_link::Lease;
 pub use idle_link::IdleLink;
+pub use link_lease::Lease;
 pub use link_place::LinkPlace;
 pub use link_record::LinkRecord;
 pub use pass::{Pass, PassRecord};

@@ -1,4 +1,4 @@
-//! Where a link stands in its node's pool.
+//! Where a link is in its node's pool.
 use pg_ids::DatabaseNo;
 
 /// The place of a link, or of a permit to open one, in its node's pool.

@@ -1,8 +1,7 @@
 //! What a client of a node is known by there.
 ghost use Rattle.std.specs.Prelude.{◌≡◌};
-ghost use Rattle.lease.specs.OfNode.{pass_of_node};
 
-use pg_ids::{ClientKey, PeerNo};
+use pg_ids::ClientKey;
 use std::marker::Model;
 
 /// What a pass says.
@@ -14,15 +13,6 @@ pub struct PassRecord {
     pub incarnation: u64,
     /// The number of the pass there, which no other pass has.
     pub number: u64,
-}
-
-impl PassRecord {
-    /// Whether the pass is of this node in this incarnation. If not, it is stale.
-    pub fn is_of_node(&self, me: PeerNo, incarnation: u64) -> bool
-        ensures { result ≡ pass_of_node me incarnation self.now }
-    {
-        self.key.peer == me && self.incarnation == incarnation
-    }
 }
 
 /// A client's stay at a node, from its login to its leaving. It can't be copied, and has to be spent.
@@ -62,7 +52,7 @@ impl Pass {
         self.details.key
     }
 
-    /// Spends the pass in a step of a node, and answers what it said.
+    /// Spends the pass in a step of a node. Returns what it said.
     pub fn spend(self) -> PassRecord
         ensures { result ≡ self }
     {
@@ -70,8 +60,8 @@ impl Pass {
         details
     }
 
-    /// Spends the pass without a step, and answers what it said. It is used only where a journal or a
-    /// caller is at its end, where a world is dropped, and by a desk that is a list.
+    /// Spends the pass without a step, for who can make none any more: a journal or a caller at its end. Returns what
+    /// it said.
     pub fn forfeit(self) -> PassRecord
         ensures { result ≡ self }
     {

@@ -1,8 +1,7 @@
-//! The leave to open a link.
+//! The right to open a link.
 ghost use Rattle.std.specs.Prelude.{◌≡◌};
-ghost use Rattle.lease.specs.OfNode.{permit_of_node};
 
-use crate::held_link::Lease;
+use crate::link_lease::Lease;
 use crate::link_place::LinkPlace;
 use crate::link_record::LinkRecord;
 use pg_ids::{LinkNo, PeerNo};
@@ -19,15 +18,6 @@ pub struct PermitRecord {
     pub number: u64,
     /// The place in its node's pool that is kept for the link.
     pub at: LinkPlace,
-}
-
-impl PermitRecord {
-    /// Whether the permit is of this node in this incarnation. If not, it is stale.
-    pub fn is_of_node(&self, me: PeerNo, incarnation: u64) -> bool
-        ensures { result ≡ permit_of_node me incarnation self.now }
-    {
-        self.peer == me && self.incarnation == incarnation
-    }
 }
 
 /// A place in a pool, in which a link to a server may be opened. It can't be copied, and has to be spent.
@@ -84,7 +74,7 @@ impl Permit {
         )
     }
 
-    /// Spends the permit in a step of a node, and answers what it said.
+    /// Spends the permit in a step of a node. Returns what it said.
     pub fn spend(self) -> PermitRecord
         ensures { result ≡ self }
     {
@@ -92,8 +82,8 @@ impl Permit {
         details
     }
 
-    /// Spends the permit without a step, and answers what it said. It is used only where a journal or a
-    /// caller is at its end, where a world is dropped, and by a desk that is a list.
+    /// Spends the permit without a step, for who can make none any more: a journal or a caller at its end. Returns
+    /// what it said.
     pub fn forfeit(self) -> PermitRecord
         ensures { result ≡ self }
     {

@@ -1,8 +1,8 @@
-//! A link that waits for cancel requests to end. It lies in a pool, and is dropped with it where its stream may be.
+//! A link that waits for cancel requests to end. It is kept in a pool, and dropped with it if its stream may be dropped.
 ghost use Rattle.std.specs.Prelude.{◌≡◌};
 
-use crate::held_link::Lease;
 use crate::idle_link::IdleLink;
+use crate::link_lease::Lease;
 use crate::link_record::LinkRecord;
 use std::marker::Model;
 
@@ -52,7 +52,7 @@ impl<S> QuarantinedLink<S> {
         Lease::new(details, stream)
     }
 
-    /// The link leaves its pool: its stream is handed back, to be closed.
+    /// The link leaves its pool. Returns its stream, to be closed.
     pub fn close(self) -> S
         ensures { result ≡ self.stream }
     {

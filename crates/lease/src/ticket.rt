@@ -1,6 +1,5 @@
-//! What has to be told to a node once a cancel request was carried.
+//! What must be reported to a node once a cancel request was carried.
 ghost use Rattle.std.specs.Prelude.{◌≡◌};
-ghost use Rattle.lease.specs.OfNode.{ticket_of_node};
 
 use crate::link_place::LinkPlace;
 use pg_ids::{LinkNo, PeerNo};
@@ -17,21 +16,12 @@ pub struct TicketRecord {
     pub number: u64,
     /// The link whose server is asked to cancel.
     pub link: LinkNo,
-    /// Where that link stands in its node's pool.
+    /// Where that link is in its node's pool.
     pub at: LinkPlace,
 }
 
-impl TicketRecord {
-    /// Whether the ticket is of this node in this incarnation. If not, it is stale.
-    pub fn is_of_node(&self, me: PeerNo, incarnation: u64) -> bool
-        ensures { result ≡ ticket_of_node me incarnation self.now }
-    {
-        self.peer == me && self.incarnation == incarnation
-    }
-}
-
-/// A cancel request that a node has sent on its way to a link's server, and whose end it wants to be told.
-/// It can't be copied, and has to be spent.
+/// A cancel request that a node has sent on its way to a link's server, and whose end must be reported to it. It can't
+/// be copied, and has to be spent.
 #[must_use]
 #[derive(Debug)]
 pub struct Ticket {
@@ -61,7 +51,7 @@ impl Ticket {
         self.details
     }
 
-    /// Spends the ticket in a step of a node, and answers what it said.
+    /// Spends the ticket in a step of a node. Returns what it said.
     pub fn spend(self) -> TicketRecord
         ensures { result ≡ self }
     {
@@ -69,8 +59,8 @@ impl Ticket {
         details
     }
 
-    /// Spends the ticket without a step, and answers what it said. It is used only where a journal or a
-    /// caller is at its end, where a world is dropped, and by a desk that is a list.
+    /// Spends the ticket without a step, for who can make none any more: a journal or a caller at its end. Returns
+    /// what it said.
     pub fn forfeit(self) -> TicketRecord
         ensures { result ≡ self }
     {

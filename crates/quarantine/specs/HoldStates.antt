@@ -1,4 +1,4 @@
--- How a link stands by its tickets (own).
+-- The state of a link by its tickets (own).
 use Rattle.std.specs.Prelude.{ℕ, zero, suc, Bool, true, false}
 use Rattle.quarantine.specs.OpenTickets.{OpenTickets}
 use Rattle.quarantine.specs.declared.hold.HoldState.{HoldState}
@@ -10,6 +10,6 @@ state_by tickets true = Condemned
 state_by zero false = Clear
 state_by (suc n) false = Waiting (suc n)
 
--- how a link with these tickets stands
+-- the state of a link with these tickets
 abbrev pub state_of : OpenTickets → HoldState
 state_of t = state_by t.tickets t.condemned

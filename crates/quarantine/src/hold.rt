@@ -9,18 +9,19 @@ use std::marker::Model;
 /// How many tickets of one link may be open at once (own).
 pub const MAX_OPEN_TICKETS: u16 = 65_535;
 
-/// How a link stands by its tickets.
+/// The state of a link by its tickets.
 #[derive(Clone, Copy, Debug, PartialEq, Eq, Hash)]
 pub enum HoldState {
     /// No ticket is open and none failed: the link may be used again.
     Clear,
-    /// So many tickets are open, at least 1, and none failed.
+    /// The number of open tickets, at least 1. None failed.
     Waiting(u16),
     /// A ticket failed: the link is never used again.
     Condemned,
 }
 
-/// What keeps one link from being used again: how many of its tickets are open, and whether one failed.
+/// What keeps one link from being used again: how many of its tickets are open, and whether one
+/// failed.
 #[derive(Clone, Copy, Debug, PartialEq, Eq, Hash, Default)]
 pub struct Hold {
     tickets: u16,
@@ -39,7 +40,7 @@ impl Model for Hold {
 }
 
 impl Hold {
-    /// Of a new link: no ticket is open, and none failed.
+    /// The tickets of a new link: none is open, and none failed.
     pub const fn new() -> Hold
         ensures { result ≡ record { tickets = 0; condemned = false } }
     {
@@ -57,7 +58,7 @@ impl Hold {
         self.tickets
     }
 
-    /// How the link stands.
+    /// The state of the link.
     pub const fn state(&self) -> HoldState
         ensures state { result ≡ state_of self.now }
         ensures clear { (result ≡ Clear) ↔ ((self.now.tickets ≡ 0) × (self.now.condemned ≡ false)) }
@@ -72,10 +73,11 @@ impl Hold {
         }
     }
 
-    /// One more ticket is open. A condemned link takes tickets too.
+    /// Opens a ticket. A condemned link takes tickets too. Fails with `Busy` at `MAX_OPEN_TICKETS`.
     pub fn open_ticket(&mut self) -> Result<(), Busy>
         ensures busy { IsErr result ↔ (self.old.tickets ≡ MAX_OPEN_TICKETS) }
-        ensures opened { OnOk result (self.new ≡ record self.old { tickets = self.old.tickets + 1 }) }
+        ensures opened { OnOk result
+            (self.new ≡ record self.old { tickets = self.old.tickets + 1 }) }
         ensures unchanged { OnErr result (self.new ≡ self.old) }
     {
         if self.tickets == MAX_OPEN_TICKETS {
@@ -85,7 +87,7 @@ impl Hold {
         Ok(())
     }
 
-    /// An open ticket ended cleanly: one less is open.
+    /// Ends an open ticket cleanly.
     pub fn clean_end(&mut self)
         requires { 0 < self.old.tickets }
         ensures { self.new ≡ record self.old { tickets = self.old.tickets - 1 } }
@@ -93,7 +95,7 @@ impl Hold {
         self.tickets -= 1;
     }
 
-    /// An open ticket failed: one less is open, and the link is condemned from now on.
+    /// Ends an open ticket that failed: the link is condemned from now on.
     pub fn fail(&mut self)
         requires { 0 < self.old.tickets }
         ensures { self.new ≡ record { tickets = self.old.tickets - 1; condemned = true } }

@@ -1,5 +1,5 @@
-//! When a link that was asked to cancel may be used again: once each of its tickets has ended cleanly, and
-//! never if one failed.
+//! When a link that was asked to cancel may be used again: once each of its tickets has ended
+//! cleanly, and never if one failed.
 #![tactic(auto)]
 
 mod hold;

@@ -1,4 +1,4 @@
--- The rule of a board of counters, and what its steps tell (own).
+-- The rule of a board of counters, and what a seat learns at each step (own).
 use Rattle.std.specs.Prelude.{ℕ, ◌≡◌, ◌+◌, ◌-◌, ◌/◌, ◌^◌, ◌≤◌, length, sum, sum_by, slice_index, slice_set}
 use mathlib.Core.Option.{some}
 use lib.ListN.{get_elem?}
@@ -14,11 +14,13 @@ BOARD_LIMIT = 2 ^ 63
 pub record IsCounted {S : Type 0} (s : State S Note) : Type 0 where
   pub words : length s.words ≡ 8
   -- the value of each word is the sum, over all seats, of what they have counted there
-  pub counted : (place : ℕ) → slice_index s.words place ≡ sum_by (λ seat. slice_index seat.counts place) s.views
+  pub counted : (place : ℕ)
+      → slice_index s.words place ≡ sum_by (λ seat. slice_index seat.counts place) s.views
   -- words and allowances together make 2^63
   pub whole : sum s.words + sum_by (λ seat. seat.allowance) s.views ≡ BOARD_LIMIT
   -- no seat's last reading is above the word
-  pub read : (id : ℕ) (seat : Note) → get_elem? s.views id ≡ some seat → (place : ℕ) → slice_index seat.readings place ≤ slice_index s.words place
+  pub read : (id : ℕ) (seat : Note) → get_elem? s.views id ≡ some seat
+      → (place : ℕ) → slice_index seat.readings place ≤ slice_index s.words place
 
 -- the first seat may count everything
 abbrev pub first_note : Note
@@ -26,7 +28,10 @@ first_note = record { allowance = BOARD_LIMIT; counts = NOTHING; readings = NOTH
 
 -- a seat counted one more at this place
 abbrev pub counted_at : Note → ℕ → Note
-counted_at seat place = record seat { allowance = seat.allowance - 1; counts = raised seat.counts place }
+counted_at seat place = record seat {
+  allowance = seat.allowance - 1;
+  counts = raised seat.counts place;
+}
 
 -- a seat read this word at this place
 abbrev pub noted : Note → ℕ → ℕ → Note
@@ -42,7 +47,11 @@ handed seat = record { allowance = seat.allowance / 2; counts = NOTHING; reading
 
 -- two seats are one
 abbrev pub united : Note → Note → Note
-united seat other = record { allowance = seat.allowance + other.allowance; counts = added seat.counts other.counts; readings = greatest seat.readings other.readings }
+united seat other = record {
+  allowance = seat.allowance + other.allowance;
+  counts = added seat.counts other.counts;
+  readings = greatest seat.readings other.readings;
+}
 
 -- what is left of a seat that was joined to another
 abbrev pub nobody : Note
@@ -53,18 +62,18 @@ abbrev pub IsWithin : Note → Type 0
 IsWithin seat = seat.allowance + sum seat.counts ≤ BOARD_LIMIT
 
 module _ {S : Type 0} where
-  -- the step that raises a word tells its seat that it counted there
+  -- after the step that raises a word, its seat has counted there
   abbrev pub raising : Step S → Me S Note → ℕ → Me S Note → Type 0
   raising st before found after = after ≡ (counted_at before.0 st.word, before.1)
 
-  -- the step that reads a word: it is at least what the seat counted or read there, and leaves room for what the
-  -- seat may count.
+  -- the step that reads a word: it is at least what the seat counted or read there, and leaves room
+  -- for what the seat may count.
   pub record Looks (st : Step S) (before : Me S Note) (found : ℕ) (after : Me S Note) : Type 0 where
     pub noted : after ≡ (noted before.0 st.word found, before.1)
     pub counted : slice_index before.0.counts st.word ≤ found
     pub read : slice_index before.0.readings st.word ≤ found
     pub most : found + before.0.allowance ≤ BOARD_LIMIT
 
-  -- a step tells a seat that its numbers are within the limit
+  -- by a step a seat learns that its numbers are within the limit
   abbrev pub weighing : Step S → Me S Note → ℕ → Me S Note → Type 0
   weighing st before found after = (after ≡ before) × IsWithin before.0

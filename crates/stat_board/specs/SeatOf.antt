@@ -6,9 +6,14 @@ use Rattle.stat_board.specs.declared.seat.BoardSeat.TheInside.{Inside}
 
 -- a seat by its fields
 abbrev pub seat_of : Inside → SeatView
-seat_of s = record { board = s.place.table_id; allowance = s.allowance; counts = s.counts; readings = s.readings }
+seat_of s = record {
+  board = s.place.table_id;
+  allowance = s.allowance;
+  counts = s.counts;
+  readings = s.readings;
+}
 
--- what it says is what its place at the board knows
+-- its fields agree with the notes of its place at the board
 pub record IsSeat (s : Inside) : Type 0 where
   pub empty : s.place.me.1 ≡ []
   pub allowance : s.place.me.0.allowance ≡ s.allowance

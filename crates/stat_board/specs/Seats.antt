@@ -4,8 +4,8 @@ use Rattle.atomic_table.specs.Seated.{TableId}
 use Rattle.stat_board.specs.Rows.{NOTHING, added, greatest, raised}
 use Rattle.stat_board.specs.Counts.{BOARD_LIMIT}
 
--- A seat as clauses see it: the board that it is of, how much it may still count, what it has counted by the
--- places of the counters, and its last reading of each word.
+-- A seat as clauses see it: the board that it is of, how much it may still count, what it has
+-- counted by the places of the counters, and its last reading of each word.
 pub record SeatView : Type 0 where
   pub board : TableId
   pub allowance : ℕ
@@ -18,7 +18,8 @@ pub record IsFirst (seat : SeatView) : Type 0 where
   pub counts : seat.counts ≡ NOTHING
   pub readings : seat.readings ≡ NOTHING
 
--- a seat hands half of its allowance, rounded down, to a new seat without counts and with the same readings
+-- a seat hands half of its allowance, rounded down, to a new seat without counts and with the same
+-- readings
 pub record Splits (old new part : SeatView) : Type 0 where
   pub board : (new.board ≡ old.board) × (part.board ≡ old.board)
   pub half : part.allowance ≡ old.allowance / 2
@@ -26,7 +27,8 @@ pub record Splits (old new part : SeatView) : Type 0 where
   pub counts : (new.counts ≡ old.counts) × (part.counts ≡ NOTHING)
   pub readings : (new.readings ≡ old.readings) × (part.readings ≡ old.readings)
 
--- two seats of a board become one: allowances and counts are added up, and the greater readings kept
+-- two seats of a board become one: allowances and counts are added up, and the greater readings
+-- kept
 pub record JoinsUp (old other new : SeatView) : Type 0 where
   pub board : new.board ≡ old.board
   pub allowance : new.allowance ≡ old.allowance + other.allowance

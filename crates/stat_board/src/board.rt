@@ -27,7 +27,8 @@ impl Model for Board {
 
     ghost view = { λ b. b.table.shared.table_id };
 
-    ghost invariant = { λ b. (b.table.shared.table_id.words ≡ 8) × (b.table.shared.table_id.slots ≡ 0) };
+    ghost invariant = { λ b. (b.table.shared.table_id.words ≡ 8)
+        × (b.table.shared.table_id.slots ≡ 0) };
 }
 
 impl Board {
@@ -43,8 +44,8 @@ impl Board {
         Ok((Board { table }, BoardSeat::first(seat)))
     }
 
-    /// What was counted at all, by the places of the counters. Where all seats were joined to this one, it is what
-    /// this one counted.
+    /// The total of each counter, by its place. Where all other seats were joined to this one, the
+    /// totals are the counts of this seat.
     pub fn close(self, seat: BoardSeat) -> [u64; COUNTERS]
         requires own { seat.board ≡ self }
         ensures whole { seat.allowance + sum seat.counts ≡ BOARD_LIMIT → result ≡ seat.counts }
@@ -88,7 +89,8 @@ impl Board {
     // A place without counts, with half of the allowance of another.
     pub(crate) fn hand(&self, seat: &mut Place) -> Place
         requires own { seat.old.table_id ≡ self.now }
-        ensures own { (seat.new.table_id ≡ seat.old.table_id) × (result.table_id ≡ seat.old.table_id) }
+        ensures own { (seat.new.table_id ≡ seat.old.table_id)
+            × (result.table_id ≡ seat.old.table_id) }
         ensures left { seat.new.me ≡ (handing seat.old.me.0, seat.old.me.1) }
         ensures right { result.me ≡ (handed seat.old.me.0, []) }
     {

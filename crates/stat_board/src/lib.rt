@@ -1,4 +1,5 @@
-//! The counters of a node's cancel requests, which any number of threads raise and read without waiting.
+//! The counters of a node's cancel requests, which any number of threads raise and read without
+//! waiting.
 #![tactic(auto)]
 
 mod board;

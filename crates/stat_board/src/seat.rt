@@ -11,7 +11,8 @@ use crate::refusal::NoAllowance;
 use crate::row::{Row, maxima, sums};
 use std::marker::Model;
 
-/// Who counts on a board: how much it may still count, what it has counted, and its last reading of each word.
+/// Who counts on a board: how much it may still count, what it has counted, and its last reading of
+/// each word.
 #[derive(Drop)]
 pub struct BoardSeat {
     place: Place,
@@ -50,7 +51,7 @@ impl BoardSeat {
         }
     }
 
-    // Its place at the board, which knows what it says.
+    // Its place at the board, whose notes agree with the fields.
     pub(crate) fn into_place(self) -> Place
         ensures own { result.table_id ≡ self.board }
         ensures empty { result.me.1 ≡ [] }
@@ -68,8 +69,8 @@ impl BoardSeat {
         place
     }
 
-    /// Hands half of the allowance, rounded down, to a new seat of the same board, which has counted nothing and
-    /// knows the same readings.
+    /// Hands half of the allowance, rounded down, to a new seat of the same board, which has counted
+    /// nothing and has the same readings.
     pub fn split(&mut self, board: &Board) -> BoardSeat
         requires own { self.old.board ≡ board.now }
         ensures { Splits self.old self.new result }
@@ -85,7 +86,8 @@ impl BoardSeat {
         }
     }
 
-    /// Takes in the allowance and the counts of another seat of this board, and keeps the greater readings.
+    /// Adds the allowance and the counts of another seat of this board, and keeps the greater
+    /// readings.
     pub fn join(&mut self, board: &Board, other: BoardSeat)
         requires own { self.old.board ≡ board.now }
         requires same { other.board ≡ board.now }
@@ -103,7 +105,7 @@ impl BoardSeat {
         self.readings = maxima(&self.readings, &readings);
     }
 
-    /// Counts one more, on the board and in this seat. A seat with no allowance counts nothing.
+    /// Counts one more, on the board and in this seat. Fails with `NoAllowance` exactly at allowance 0.
     pub fn count(&mut self, board: &Board, counter: Counter) -> Result<(), NoAllowance>
         requires own { self.old.board ≡ board.now }
         ensures refused { IsErr result ↔ (self.old.allowance ≡ 0) }
@@ -120,8 +122,8 @@ impl BoardSeat {
         Ok(())
     }
 
-    /// The word of a counter: at least what this seat has counted or read there before, and at most what its
-    /// allowance leaves of 2^63. It is the seat's last reading from then on.
+    /// The word of a counter: at least what this seat has counted or read there before, and at most
+    /// what its allowance leaves of 2^63. It is the seat's last reading from then on.
     pub fn read(&mut self, board: &Board, counter: Counter) -> u64
         requires own { self.old.board ≡ board.now }
         ensures read { Reads self.old (place_of counter) result self.new }

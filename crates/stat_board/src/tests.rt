@@ -153,7 +153,7 @@ fn joined(rt: HostRuntime) -> Result<(), Fail> {
     Ok(())
 }
 
-// What a seat has after so many halves, of which the others are dropped.
+// What a seat has after this many splits, of which the new seats are dropped.
 fn halved(board: &Board, mut seat: BoardSeat, times: u32) -> BoardSeat
     requires { seat.board ≡ board.now }
     ensures { result.board ≡ seat.board }

@@ -70,7 +70,7 @@ impl<S> Lease<S> {
         QuarantinedLink::new(details, stream)
     }
 
-    /// The link leaves its pool: its stream is handed back, to be closed.
+    /// The link leaves its pool. Returns its stream, to be closed.
     pub fn close(self) -> S
         ensures { result ≡ self.stream }
     {
@@ -78,8 +78,8 @@ impl<S> Lease<S> {
         stream
     }
 
-    /// Spends the lease without a step, and hands its stream back. It is used only where a journal or a
-    /// caller is at its end, where a world is dropped, and by a desk that is a list.
+    /// Spends the lease without a step, for who can make none any more: a journal or a caller at its end. Returns its
+    /// stream.
     pub fn forfeit(self) -> S
         ensures { result ≡ self.stream }
     {
