@@ -1,17 +1,22 @@
 -- A client that asks for a link: its view once it has left the queue.
-use Rattle.std.proofs.Common.{◌≡◌, ℕ, ◌<◌, false, Option, Some, None, length, refl, subst}
+use Rattle.std.proofs.Common.{◌≡◌, ℕ, ◌+◌, ◌^◌, ◌<◌, false, arith, List, Option, Some, None, length, refl, ap, sym, ◌∙◌, subst}
+use Rattle.std.proofs.lemmas.List.{set-set}
+use Rattle.std.specs.Prelude.{slice_set}
 use Rattle.std.specs.List.{slice_get}
 use Rattle.std.proofs.lemmas.Option.{slice_get-get_or}
 use Rattle.lease.specs.declared.link_place.LinkPlace.{LinkPlace}
 use Rattle.lease.specs.declared.permit.PermitRecord.{PermitRecord}
+use Rattle.link_pool.specs.declared.place.Place.{Place}
 use Rattle.link_pool.specs.declared.place.Place.TheVariants as place
 use Rattle.link_pool.specs.declared.place.Claim.{Claim}
 use Rattle.link_pool.specs.declared.place.Claim.TheVariants as claim
-use Rattle.link_pool.specs.Pool.{PoolView, place_at, out_of_queue, unqueued, others}
-use Rattle.link_pool.specs.OnePlace.{Fits, PermitFits, IsPool}
+use Rattle.link_pool.specs.Pool.{DatabasePool, PoolView, at_place, place_at, queue_in, changed, with_place, with_claim, out_of_queue, unqueued, others}
+use Rattle.link_pool.specs.OnePlace.{Fits, PermitFits, waits, times, IsPool}
 use Rattle.link_pool.specs.PoolStep.{is_holding}
 use Rattle.link_pool.proofs.Places.{slice_get-set_same}
-use Rattle.link_pool.proofs.Changes.{place_with_queue}
+use Rattle.link_pool.proofs.Changes.{place_with_queue, changed_alike, changed_twice}
+use Rattle.link_pool.proofs.Queues.{left, others_absent}
+use Rattle.link_pool.proofs.Handing.{given_more, kept_for}
 
 place_out : (o : Option Claim) (v : PoolView) (slot : ℕ) (at : LinkPlace) → place_at (out_of_queue o v slot) at ≡ place_at v at
 place_out None v slot at = refl
@@ -35,48 +40,73 @@ nothing_out (Some (claim.Link k)) v slot e within h = absurd (cc)
 pub nothing_unqueued : (v : PoolView) (slot : ℕ) → slot < length v.claims → is_holding (slice_get v.claims slot) ≡ false → slice_get (unqueued v slot).claims slot ≡ Some claim.Nothing
 nothing_unqueued v slot within h = nothing_out (slice_get v.claims slot) v slot refl within h
 
-given_out : (o : Option Claim) (v : PoolView) (slot n : ℕ) → out_of_queue o (record v { next_permit = n }) slot ≡ record (out_of_queue o v slot) { next_permit = n }
-given_out None v slot n = refl
-given_out (Some claim.Nothing) v slot n = refl
-given_out (Some (claim.Waiting d)) v slot n = refl
-given_out (Some (claim.Open k)) v slot n = refl
-given_out (Some (claim.Link k)) v slot n = refl
+-- only pools and claims change
+kept_out : (o : Option Claim) (v : PoolView) (slot : ℕ) → out_of_queue o v slot ≡ record v { pools = (out_of_queue o v slot).pools; claims = (out_of_queue o v slot).claims }
+kept_out None v slot = refl
+kept_out (Some claim.Nothing) v slot = refl
+kept_out (Some (claim.Waiting d)) v slot = refl
+kept_out (Some (claim.Open k)) v slot = refl
+kept_out (Some (claim.Link k)) v slot = refl
 
--- with the next number of a permit given before
-pub given_unqueued : (v : PoolView) (slot n : ℕ) → unqueued (record v { next_permit = n }) slot ≡ record (unqueued v slot) { next_permit = n }
-given_unqueued v slot n = given_out (slice_get v.claims slot) v slot n
-
--- nobody's numbers change
-peer_out : (o : Option Claim) (v : PoolView) (slot : ℕ) → (out_of_queue o v slot).peer ≡ v.peer
-peer_out None v slot = refl
-peer_out (Some claim.Nothing) v slot = refl
-peer_out (Some (claim.Waiting d)) v slot = refl
-peer_out (Some (claim.Open k)) v slot = refl
-peer_out (Some (claim.Link k)) v slot = refl
-
-pub peer_unqueued : (v : PoolView) (slot : ℕ) → (unqueued v slot).peer ≡ v.peer
-peer_unqueued v slot = peer_out (slice_get v.claims slot) v slot
-
-incarnation_out : (o : Option Claim) (v : PoolView) (slot : ℕ) → (out_of_queue o v slot).incarnation ≡ v.incarnation
-incarnation_out None v slot = refl
-incarnation_out (Some claim.Nothing) v slot = refl
-incarnation_out (Some (claim.Waiting d)) v slot = refl
-incarnation_out (Some (claim.Open k)) v slot = refl
-incarnation_out (Some (claim.Link k)) v slot = refl
-
-pub incarnation_unqueued : (v : PoolView) (slot : ℕ) → (unqueued v slot).incarnation ≡ v.incarnation
-incarnation_unqueued v slot = incarnation_out (slice_get v.claims slot) v slot
-
-permit_out : (o : Option Claim) (v : PoolView) (slot : ℕ) → (out_of_queue o v slot).next_permit ≡ v.next_permit
-permit_out None v slot = refl
-permit_out (Some claim.Nothing) v slot = refl
-permit_out (Some (claim.Waiting d)) v slot = refl
-permit_out (Some (claim.Open k)) v slot = refl
-permit_out (Some (claim.Link k)) v slot = refl
-
-pub permit_unqueued : (v : PoolView) (slot : ℕ) → (unqueued v slot).next_permit ≡ v.next_permit
-permit_unqueued v slot = permit_out (slice_get v.claims slot) v slot
+pub kept_unqueued : (v : PoolView) (slot : ℕ) → unqueued v slot ≡ record v { pools = (unqueued v slot).pools; claims = (unqueued v slot).claims }
+kept_unqueued v slot = kept_out (slice_get v.claims slot) v slot
 
 -- a permit's number was given
 pub permit_given : (v : PoolView) (at : LinkPlace) (permit : PermitRecord) (slot : ℕ) → IsPool v → place_at v at ≡ Some (place.Open permit slot) → permit.number < v.next_permit
 permit_given v at permit slot whole e = let fits : PermitFits v at permit = subst (Fits v at) e (whole.fits at) in fits.given
+
+-- who leaves a queue leaves the pools whole
+whole_out : (o : Option Claim) (v : PoolView) (slot : ℕ) → slice_get v.claims slot ≡ o → IsPool v → IsPool (out_of_queue o v slot)
+whole_out None v slot e whole = whole
+whole_out (Some claim.Nothing) v slot e whole = whole
+whole_out (Some (claim.Waiting d)) v slot e whole = left v d slot whole e
+whole_out (Some (claim.Open k)) v slot e whole = whole
+whole_out (Some (claim.Link k)) v slot e whole = whole
+
+pub whole_unqueued : (v : PoolView) (slot : ℕ) → IsPool v → IsPool (unqueued v slot)
+whole_unqueued v slot whole = whole_out (slice_get v.claims slot) v slot refl whole
+
+-- a place of the pool changes, and the slot no longer waits
+abbrev pub taken_by : ℕ → ℕ → Place → DatabasePool → DatabasePool
+taken_by slot index p pool = record { places = slice_set pool.places index p; waiting = others slot pool.waiting; room = pool.room }
+
+served_by : (o : Option Claim) (v : PoolView) (at : LinkPlace) (p : Place) (slot : ℕ) (c : Claim) (pool : DatabasePool) → slice_get v.claims slot ≡ o → IsPool v → is_holding o ≡ false → slot < length v.claims
+    → ((other : ℕ) → o ≡ Some (claim.Waiting other) → other ≡ at.database) → slice_get v.pools at.database ≡ Some pool
+    → record v { pools = changed v.pools at.database (taken_by slot at.index p); claims = slice_set v.claims slot c } ≡ with_claim (with_place (out_of_queue o v slot) at p) slot c
+served_by None v at p slot c pool e whole free within own there = absurd (cc (slice_get-get_or v.claims slot claim.Nothing within))
+served_by (Some claim.Nothing) v at p slot c pool e whole free within own there =
+    let never : times slot pool.waiting ≡ 0 = ap (λ (o : Option DatabasePool). times slot (queue_in o)) (sym there) ∙ sym (whole.queues slot at.database) ∙ ap (waits at.database) e in
+    ap (λ (ps : List DatabasePool). record v { pools = ps; claims = slice_set v.claims slot c })
+    (changed_alike v.pools at.database pool (taken_by slot at.index p) (λ q. at_place q at.index p) there
+    (ap {B = DatabasePool} (λ (w : List ℕ). record { places = slice_set pool.places at.index p; waiting = w; room = pool.room }) (others_absent slot pool.waiting never)))
+served_by (Some (claim.Waiting d)) v at p slot c pool e whole free within own there =
+    ap (λ (ps : List DatabasePool). record v { pools = ps; claims = slice_set v.claims slot c })
+    (sym (ap (λ (n : ℕ). changed (changed v.pools n (λ q. record q { waiting = others slot q.waiting })) at.database (λ q. at_place q at.index p)) (own d refl)
+    ∙ changed_twice v.pools at.database (λ q. record q { waiting = others slot q.waiting }) (λ q. at_place q at.index p)))
+    ∙ ap (λ (cs : List Claim). record v { pools = changed (changed v.pools d (λ q. record q { waiting = others slot q.waiting })) at.database (λ q. at_place q at.index p); claims = cs }) (sym (set-set v.claims slot claim.Nothing c))
+served_by (Some (claim.Open k)) v at p slot c pool e whole free within own there = absurd (cc)
+served_by (Some (claim.Link k)) v at p slot c pool e whole free within own there = absurd (cc)
+
+-- both at once, as one after the other
+pub served : (v : PoolView) (at : LinkPlace) (p : Place) (slot : ℕ) (c : Claim) (pool : DatabasePool) → IsPool v → is_holding (slice_get v.claims slot) ≡ false → slot < length v.claims
+    → ((other : ℕ) → slice_get v.claims slot ≡ Some (claim.Waiting other) → other ≡ at.database) → slice_get v.pools at.database ≡ Some pool
+    → record v { pools = changed v.pools at.database (taken_by slot at.index p); claims = slice_set v.claims slot c } ≡ with_claim (with_place (unqueued v slot) at p) slot c
+served v at p slot c pool whole free within own there = served_by (slice_get v.claims slot) v at p slot c pool refl whole free within own there
+
+-- a place is kept for a client that leaves the queue
+pub opened : (v : PoolView) (slot n : ℕ) (permit : PermitRecord) → IsPool v → slot < length v.claims → is_holding (slice_get v.claims slot) ≡ false → place_at v permit.at ≡ Some place.Free → v.next_permit < 2 ^ 64 → n ≡ v.next_permit + 1
+    → permit ≡ record { peer = v.peer; incarnation = v.incarnation; number = v.next_permit; at = permit.at } → IsPool (with_claim (with_place (unqueued (record v { next_permit = n }) slot) permit.at (place.Open permit slot)) slot (claim.Open permit.at))
+opened v slot n permit whole some free lowest left next says =
+    let w : PoolView = record v { next_permit = n } in
+    let numbers = whole.numbers in
+    let l = numbers.0 in
+    let t = numbers.2 in
+    let more : IsPool w = given_more v v.next_link n v.next_ticket whole (omega arith) (omega (arith, next)) l (omega (arith, next, left)) t in
+    let number : permit.number ≡ v.next_permit = ap (λ (p : PermitRecord). p.number) says in
+    let last = ap (λ (x : PoolView). x.next_permit) (kept_unqueued w slot) in
+    kept_for (unqueued w slot) permit slot (whole_unqueued w slot more) (place_unqueued w slot permit.at ∙ lowest) (nothing_unqueued w slot some free)
+    (says
+    ∙ ap {B = PermitRecord} (λ (x : ℕ). record { peer = v.peer; incarnation = v.incarnation; number = x; at = permit.at }) (sym number)
+    ∙ ap {B = PermitRecord} (λ (x : PoolView). record { peer = x.peer; incarnation = x.incarnation; number = permit.number; at = permit.at }) (sym (kept_unqueued w slot)))
+    (omega (arith, number, next, last))
+    (λ at other s e same. let below = permit_given v at other s whole (sym (place_unqueued w slot at) ∙ e) in omega (arith, below, number, same))

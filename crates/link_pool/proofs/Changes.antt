@@ -1,42 +1,59 @@
 -- A view's places and queues, once one of them has changed.
-use Rattle.std.proofs.Common.{◌≡◌, ◌≢◌, ℕ, zero, suc, Bool, true, false, List, [], ◌∷◌, Option, Some, None, length, refl, ap, sym, ◌∙◌, arith, ⊎_elim, ◌⊎◌, inl, inr, ◌==◌, ◌&&◌}
+use Rattle.std.proofs.Common.{◌≡◌, ◌≢◌, ℕ, zero, suc, Bool, true, false, List, [], ◌∷◌, Option, Some, None, length, map, option_map, get_or, ◌<◌, refl, ap, sym, subst, ◌∙◌, arith, ⊎_elim, ◌⊎◌, inl, inr, ◌==◌, ◌&&◌}
 use Rattle.std.proofs.Math.ListN.{set}
 use Rattle.std.specs.List.{slice_get}
-use Rattle.std.proofs.lemmas.Option.{slice_get_within}
+use Rattle.std.proofs.lemmas.Option.{slice_get_within, slice_get-get_or}
 use Rattle.std.proofs.lemmas.Bool.{cases_eq}
-use Rattle.std.proofs.lemmas.Bool.Decides.{eqb_tells}
 use Rattle.lease.specs.declared.link_place.LinkPlace.{LinkPlace}
 use Rattle.link_pool.specs.declared.place.Place.{Place}
-use Rattle.link_pool.specs.Pool.{DatabasePool, PoolView, place_in, place_at, queue_in, queue_at, changed, with_place, with_queue}
+use Rattle.link_pool.specs.Pool.{DatabasePool, PoolView, at_place, place_in, place_at, queue_in, queue_at, changed, with_place, with_queue}
 use Rattle.link_pool.specs.OnePlace.{same_place}
-use Rattle.link_pool.proofs.Places.{slice_get-set_same, slice_get-set_other}
+use Rattle.link_pool.proofs.Places.{slice_get-set_same, slice_get-set_other, eq_self, eq_yes}
 
--- what a change makes of a pool, where there is one
-abbrev pub mapped : (DatabasePool → DatabasePool) → Option DatabasePool → Option DatabasePool
-mapped change None = None
-mapped change (Some pool) = Some (change pool)
-
-pub changed_here : (pools : List DatabasePool) (d : ℕ) (change : DatabasePool → DatabasePool) → slice_get (changed pools d change) d ≡ mapped change (slice_get pools d)
+pub changed_here : {X : Type 0} (xs : List X) (d : ℕ) (change : X → X) → slice_get (changed xs d change) d ≡ option_map change (slice_get xs d)
 changed_here [] d change = refl
-changed_here (pool ∷ pools) zero change = refl
-changed_here (pool ∷ pools) (suc d) change = changed_here pools d change
+changed_here (x ∷ xs) zero change = refl
+changed_here (x ∷ xs) (suc d) change = changed_here xs d change
 
-pub changed_there : (pools : List DatabasePool) (d e : ℕ) (change : DatabasePool → DatabasePool) → e ≢ d → slice_get (changed pools d change) e ≡ slice_get pools e
+pub changed_there : {X : Type 0} (xs : List X) (d e : ℕ) (change : X → X) → e ≢ d → slice_get (changed xs d change) e ≡ slice_get xs e
 changed_there [] d e change h = refl
-changed_there (pool ∷ pools) zero zero change h = absurd (h refl)
-changed_there (pool ∷ pools) zero (suc e) change h = refl
-changed_there (pool ∷ pools) (suc d) zero change h = refl
-changed_there (pool ∷ pools) (suc d) (suc e) change h = changed_there pools d e change (λ same. h (ap suc same))
+changed_there (x ∷ xs) zero zero change h = absurd (h refl)
+changed_there (x ∷ xs) zero (suc e) change h = refl
+changed_there (x ∷ xs) (suc d) zero change h = refl
+changed_there (x ∷ xs) (suc d) (suc e) change h = changed_there xs d e change (λ same. h (ap suc same))
 
-pub changed_is_set : (pools : List DatabasePool) (d : ℕ) (pool : DatabasePool) (change : DatabasePool → DatabasePool) → slice_get pools d ≡ Some pool → changed pools d change ≡ set pools d (change pool)
-changed_is_set [] d pool change h = absurd (cc)
-changed_is_set (first ∷ pools) zero pool change h = let e : first ≡ pool = cc in ap (λ (p : DatabasePool). change p ∷ pools) e
-changed_is_set (first ∷ pools) (suc d) pool change h = ap (λ (rest : List DatabasePool). first ∷ rest) (changed_is_set pools d pool change h)
+pub changed_is_set : {X : Type 0} (xs : List X) (d : ℕ) (x : X) (change : X → X) → slice_get xs d ≡ Some x → changed xs d change ≡ set xs d (change x)
+changed_is_set [] d x change h = absurd (cc)
+changed_is_set (first ∷ xs) zero x change h = let e : first ≡ x = cc in ap (λ p. change p ∷ xs) e
+changed_is_set (first ∷ xs) (suc d) x change h = ap (λ rest. first ∷ rest) (changed_is_set xs d x change h)
 
-pub length-changed : (pools : List DatabasePool) (d : ℕ) (change : DatabasePool → DatabasePool) → length (changed pools d change) ≡ length pools
-length-changed [] d change = refl
-length-changed (pool ∷ pools) zero change = refl
-length-changed (pool ∷ pools) (suc d) change = ap suc (length-changed pools d change)
+-- two changes that do the same to what is there
+pub changed_alike : {X : Type 0} (xs : List X) (d : ℕ) (x : X) (f g : X → X) → slice_get xs d ≡ Some x → f x ≡ g x → changed xs d f ≡ changed xs d g
+changed_alike xs d x f g h e = changed_is_set xs d x f h ∙ ap (set xs d) e ∙ sym (changed_is_set xs d x g h)
+
+pub changed_twice : {X : Type 0} (xs : List X) (d : ℕ) (f g : X → X) → changed (changed xs d f) d g ≡ changed xs d (λ x. g (f x))
+changed_twice [] d f g = refl
+changed_twice (x ∷ xs) zero f g = refl
+changed_twice (x ∷ xs) (suc d) f g = ap (λ rest. x ∷ rest) (changed_twice xs d f g)
+
+pub changed_id : {X : Type 0} (xs : List X) (d : ℕ) → changed xs d (λ x. x) ≡ xs
+changed_id [] d = refl
+changed_id (x ∷ xs) zero = refl
+changed_id (x ∷ xs) (suc d) = ap (λ rest. x ∷ rest) (changed_id xs d)
+
+changed-map : {X Y : Type 0} (f : X → Y) (g : X → X) (h : Y → Y) → ((x : X) → f (g x) ≡ h (f x)) → (xs : List X) (d : ℕ) → map f (changed xs d g) ≡ changed (map f xs) d h
+changed-map f g h same [] d = refl
+changed-map f g h same (x ∷ xs) zero = ap (λ y. y ∷ map f xs) (same x)
+changed-map f g h same (x ∷ xs) (suc d) = ap (λ ys. f x ∷ ys) (changed-map f g h same xs d)
+
+-- what was read of a list
+pub was_read : {X : Type 0} (xs : List X) (n d : ℕ) (x : X) → n ≡ d → n < length xs → x ≡ get_or xs n x → slice_get xs d ≡ Some x
+was_read xs n d x same within read = subst (λ (m : ℕ). slice_get xs m ≡ Some x) same (slice_get-get_or xs n x within ∙ ap Some (sym read))
+
+-- a write of what was read and changed, as it is seen
+pub wrote : {X Y : Type 0} (f : X → Y) (g : X → X) (h : Y → Y) → ((x : X) → f (g x) ≡ h (f x)) → (xs : List X) (n d : ℕ) (x new : X) → n ≡ d → slice_get xs d ≡ Some x → new ≡ g x → map f (set xs n new) ≡ changed (map f xs) d h
+wrote f g h alike xs n d x new same there made =
+    ap (λ (m : ℕ). map f (set xs m new)) same ∙ ap (λ y. map f (set xs d y)) made ∙ ap (map f) (sym (changed_is_set xs d x g there)) ∙ changed-map f g h alike xs d
 
 -- two places with one database and one index are one
 pub one_place : (a b : LinkPlace) → a.database ≡ b.database → a.index ≡ b.index → a ≡ b
@@ -44,32 +61,29 @@ one_place a b p q = ap {B = LinkPlace} (λ (d : ℕ). record { database = d; ind
 
 -- the test of two places
 pub same_place_yes : (a : LinkPlace) → same_place a a ≡ true
-same_place_yes a = grind (arith, eqb_tells a.database a.database, eqb_tells a.index a.index)
+same_place_yes a = rw (eq_self a.database, eq_self a.index) refl
 
-both_eq : (x y : Bool) → x && y ≡ true → (x ≡ true) × (y ≡ true)
-both_eq true true h = (refl, refl)
-both_eq true false h = absurd (cc)
-both_eq false y h = absurd (cc)
+and_both : (x y : Bool) → x && y ≡ true → (x ≡ true) × (y ≡ true)
+and_both true true h = (refl, refl)
+and_both true false h = absurd (cc)
+and_both false y h = absurd (cc)
 
-is_bool : (b : Bool) → (b ≡ true) ⊎ (b ≡ false)
-is_bool true = inl refl
-is_bool false = inr refl
+pub same_places : (a b : LinkPlace) → same_place a b ≡ true → a ≡ b
+same_places a b h = let both = and_both (a.database == b.database) (a.index == b.index) h in one_place a b (eq_yes a.database b.database both.0) (eq_yes a.index b.index both.1)
 
-eq_of : (x y : ℕ) → (x == y) ≡ true → x ≡ y
-eq_of x y h = grind (arith, eqb_tells x y)
+is_false : (b : Bool) → (b ≢ true) → b ≡ false
+is_false true n = absurd (n refl)
+is_false false n = refl
 
 pub same_place_no : (a b : LinkPlace) → a ≢ b → same_place a b ≡ false
-same_place_no a b h = ⊎_elim
-    (λ yes. let both = both_eq (a.database == b.database) (a.index == b.index) yes in absurd (h (one_place a b (eq_of a.database b.database both.0) (eq_of a.index b.index both.1))))
-    (λ no. no)
-    (is_bool (same_place a b))
+same_place_no a b h = is_false (same_place a b) (λ yes. h (same_places a b yes))
 
--- what stands in a changed pool
-in_changed_pool : (o : Option DatabasePool) (i : ℕ) (old p : Place) → place_in o i ≡ Some old → place_in (mapped (λ pool. record pool { places = set pool.places i p }) o) i ≡ Some p
+-- what is in a changed pool
+in_changed_pool : (o : Option DatabasePool) (i : ℕ) (old p : Place) → place_in o i ≡ Some old → place_in (option_map (λ (pool : DatabasePool). at_place pool i p) o) i ≡ Some p
 in_changed_pool None i old p h = absurd (cc)
 in_changed_pool (Some pool) i old p h = slice_get-set_same pool.places i p (slice_get_within pool.places i old h)
 
-beside_in_pool : (o : Option DatabasePool) (i j : ℕ) (p : Place) → j ≢ i → place_in (mapped (λ pool. record pool { places = set pool.places i p }) o) j ≡ place_in o j
+beside_in_pool : (o : Option DatabasePool) (i j : ℕ) (p : Place) → j ≢ i → place_in (option_map (λ (pool : DatabasePool). at_place pool i p) o) j ≡ place_in o j
 beside_in_pool None i j p h = refl
 beside_in_pool (Some pool) i j p h = slice_get-set_other pool.places i j p h
 
@@ -86,7 +100,7 @@ place_there v at other p h = ⊎_elim
     (λ apart. ap (λ (o : Option DatabasePool). place_in o other.index) (changed_there v.pools at.database other.database _ apart))
     (cases_eq other.database at.database)
 
-queue_kept : (o : Option DatabasePool) (i : ℕ) (p : Place) → queue_in (mapped (λ pool. record pool { places = set pool.places i p }) o) ≡ queue_in o
+queue_kept : (o : Option DatabasePool) (i : ℕ) (p : Place) → queue_in (option_map (λ (pool : DatabasePool). at_place pool i p) o) ≡ queue_in o
 queue_kept None i p = refl
 queue_kept (Some pool) i p = refl
 
@@ -96,7 +110,7 @@ queue_with_place v at p d = ⊎_elim
     (λ apart. ap queue_in (changed_there v.pools at.database d _ apart))
     (cases_eq d at.database)
 
-places_kept : (o : Option DatabasePool) (i : ℕ) (change : List ℕ → List ℕ) → place_in (mapped (λ pool. record pool { waiting = change pool.waiting }) o) i ≡ place_in o i
+places_kept : (o : Option DatabasePool) (i : ℕ) (change : List ℕ → List ℕ) → place_in (option_map (λ (pool : DatabasePool). record pool { waiting = change pool.waiting }) o) i ≡ place_in o i
 places_kept None i change = refl
 places_kept (Some pool) i change = refl
 
@@ -109,7 +123,7 @@ place_with_queue v d change at = ⊎_elim
 pub queue_there : (v : PoolView) (d e : ℕ) (change : List ℕ → List ℕ) → e ≢ d → queue_at (with_queue v d change) e ≡ queue_at v e
 queue_there v d e change h = ap queue_in (changed_there v.pools d e _ h)
 
-queue_made : (o : Option DatabasePool) (pool : DatabasePool) (change : List ℕ → List ℕ) → o ≡ Some pool → queue_in (mapped (λ p. record p { waiting = change p.waiting }) o) ≡ change (queue_in o)
+queue_made : (o : Option DatabasePool) (pool : DatabasePool) (change : List ℕ → List ℕ) → o ≡ Some pool → queue_in (option_map (λ (p : DatabasePool). record p { waiting = change p.waiting }) o) ≡ change (queue_in o)
 queue_made None pool change h = absurd (cc)
 queue_made (Some p) pool change h = refl
 

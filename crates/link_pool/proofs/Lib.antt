@@ -1,9 +1,10 @@
 pub mod Places
 pub mod Stacking
-pub mod Clients
+pub mod Entries
 pub mod Changes
 pub mod Whole
 pub mod Handing
 pub mod Queues
 pub mod Asking
+pub mod Settling
 pub mod NewLinks

@@ -1,216 +1,143 @@
--- The stacks of new links, and what is true of new pools.
-use Rattle.std.proofs.Common.{◌≡◌, ◌≢◌, ℕ, zero, suc, ◌+◌, ◌<◌, ◌≤◌, Bool, true, false, List, [], ◌∷◌, ◌++◌, Option, Some, None, length, get_or, refl, ap, sym, ◌∙◌, arith, length-append, ⊎_elim, replicate, take, drop, ◌^◌}
+-- What is true of new pools, and of pools that were emptied.
+use Rattle.std.proofs.Common.{◌≡◌, ◌≢◌, ℕ, zero, suc, ◌+◌, ◌<◌, ◌≤◌, ◌^◌, Bool, true, false, List, [], ◌∷◌, ◌++◌, Option, Some, None, length, get_or, map, option_map, replicate, take, drop, refl, ap, subst, sym, ◌∙◌, arith, ⊎_elim, ◌⊎◌, inl, inr, if◌then◌else◌}
 use Rattle.std.proofs.Math.ListN.{set}
 use Rattle.std.specs.List.{slice_get}
-use Rattle.std.proofs.Math.Seq.{get_or-append_seam}
-use Rattle.std.proofs.lemmas.Bool.{cases_lt}
-use Rattle.std.proofs.lemmas.List.{get_or_append_left, length-replicate}
+use Rattle.std.proofs.lemmas.List.{length-map, length-replicate}
+use Rattle.std.proofs.lemmas.Option.{slice_get-map}
 use Rattle.lease.specs.declared.link_place.LinkPlace.{LinkPlace}
+use Rattle.link_pool.specs.declared.entry.Entry.TheVariants as entry
 use Rattle.link_pool.specs.declared.place.Claim.{Claim}
+use Rattle.link_pool.specs.declared.place.Claim.TheVariants as claim
 use Rattle.link_pool.specs.declared.place.Place.{Place}
 use Rattle.link_pool.specs.declared.place.Place.TheVariants as place
-use Rattle.link_pool.specs.declared.place.Claim.TheVariants as claim
 use Rattle.link_pool.specs.Pool.{DatabasePool, PoolView, place_in, place_at, queue_in}
 use Rattle.link_pool.specs.OnePlace.{Fits, has_link, has_permit, held_by, open_for, waits, times, waiting_claims, link_number, permit_number, HasRoom, IsPool}
-use Rattle.link_pool.specs.PoolStep.{is_idle, empty_pools, emptied, fresh}
-use Rattle.link_pool.specs.Stacks.{how_many, IsStack, is_free}
-use Rattle.link_pool.proofs.Whole.{used-le}
+use Rattle.link_pool.specs.PoolStep.{empty_pool, empty_pools, emptied, fresh}
+use Rattle.link_pool.specs.Entries.{Entries, place_of, stream_of, idle_entry, freed, new_links, pool_in, streams_in}
+use Rattle.link_pool.specs.Streams.{stream_there, stored_in, NothingStored}
+use Rattle.link_pool.specs.Stacks.{how_many, IsStack}
 
--- the list that a new pool begins with: each place, the last one first
-pub record CountsDown (limit : ℕ) (free : List ℕ) : Type 0 where
-  pub within : length free ≤ limit
-  pub slot : (i : ℕ) → i < length free → get_or free i 0 + i + 1 ≡ limit
+none_idle : (S : Type 0) (n : ℕ) → how_many (idle_entry {S = S}) (replicate n entry.Free) ≡ 0
+none_idle S zero = refl
+none_idle S (suc n) = let e = none_idle S n in omega (arith, e)
 
-pub counts_down_none : (limit : ℕ) → CountsDown limit []
-counts_down_none limit = record { within = omega arith; slot = λ i h. absurd (omega arith) }
+not_idle : (S : Type 0) (n i : ℕ) → idle_entry {S = S} (slice_get (replicate n entry.Free) i) ≡ false
+not_idle S zero i = refl
+not_idle S (suc n) zero = refl
+not_idle S (suc n) (suc i) = not_idle S n i
 
-pub counts_down_more : (limit : ℕ) (free : List ℕ) (s : ℕ) → s + length free + 1 ≡ limit → CountsDown limit free → CountsDown limit (free ++ s ∷ [])
-counts_down_more limit free s next down =
-    let longer : length (free ++ s ∷ []) ≡ length free + 1 = length-append free (s ∷ []) in
-    let last : get_or (free ++ s ∷ []) (length free) 0 ≡ s = get_or-append_seam free s [] 0 in
-    record {
-      within = omega (arith, longer);
-      slot = λ i h. ⊎_elim
-          (λ below. let at = get_or_append_left free (s ∷ []) 0 i below in let before = down.slot i below in omega (arith, at, before))
-          (λ not_below. let here : i ≡ length free = omega arith in let at : get_or (free ++ s ∷ []) i 0 ≡ s = ap (λ n. get_or (free ++ s ∷ []) n 0) here ∙ last in omega (arith, at, here))
-          (cases_lt i (length free));
-    }
+-- nothing is listed where nothing is idle
+pub none_listed_idle : (S : Type 0) (n : ℕ) → IsStack (idle_entry {S = S}) (replicate n entry.Free) []
+none_listed_idle S n = record { once = λ i. sym (ap (λ b. if b then 1 else 0) (not_idle S n i)); counted = sym (none_idle S n) }
 
-free_at : (n i : ℕ) → i < n → is_free (slice_get (replicate n place.Free) i) ≡ true
-free_at zero i h = absurd (omega arith)
-free_at (suc n) zero h = refl
-free_at (suc n) (suc i) h = free_at n i (omega arith)
+-- nothing else is there than this
+abbrev pub NoOther : {X : Type 0} → X → Option X → Type 0
+NoOther x o = (o ≡ None) ⊎ (o ≡ Some x)
 
-all_free : (n : ℕ) → how_many is_free (replicate n place.Free) ≡ n
-all_free zero = refl
-all_free (suc n) = let e = all_free n in omega (arith, e)
+in_replicate : {X : Type 0} (x : X) (n i : ℕ) → NoOther x (slice_get (replicate n x) i)
+in_replicate x zero i = inl refl
+in_replicate x (suc n) zero = inr refl
+in_replicate x (suc n) (suc i) = in_replicate x n i
 
-none_idle : (n : ℕ) → how_many is_idle (replicate n place.Free) ≡ 0
-none_idle zero = refl
-none_idle (suc n) = let e = none_idle n in omega (arith, e)
+-- what doesn't tell it from none
+alike : {X R : Type 0} (f : Option X → R) (x : X) (o : Option X) → f None ≡ f (Some x) → NoOther x o → f o ≡ f None
+alike f x o e h = ⊎_elim (λ n. ap f n) (λ s. ap f s ∙ sym e) h
 
--- new stacks
-pub all_listed : (n : ℕ) (free : List ℕ) → length free ≡ n → CountsDown n free → IsStack is_free (replicate n place.Free) free
-all_listed n free full down = record {
-  sound = λ i h. let slot = down.slot i h in free_at n (get_or free i 0) (omega (arith, slot));
-  distinct = λ i j below within same. let one = down.slot i (omega arith) in let other = down.slot j within in omega (arith, one, other, same);
-  counted = full ∙ sym (all_free n);
-}
+in_empty : {X : Type 0} (size room : X → ℕ) (o : Option X) (i : ℕ) → NoOther place.Free (place_in (option_map (λ x. empty_pool (size x) (room x)) o) i)
+in_empty size room None i = inl refl
+in_empty size room (Some x) i = in_replicate place.Free (size x) i
 
-pub none_listed_idle : (n : ℕ) → IsStack is_idle (replicate n place.Free) []
-none_listed_idle n = record {
-  sound = λ i h. absurd (omega arith);
-  distinct = λ i j below within same. omega arith;
-  counted = sym (none_idle n);
-}
-
--- whether nothing is there
-abbrev pub nothing_at : Option Place → Bool
-nothing_at None = true
-nothing_at (Some place.Free) = true
-nothing_at (Some (place.Open permit slot)) = false
-nothing_at (Some (place.Link link)) = false
-
-nothing_in : (n i : ℕ) → nothing_at (slice_get (replicate n place.Free) i) ≡ true
-nothing_in zero i = refl
-nothing_in (suc n) zero = refl
-nothing_in (suc n) (suc i) = nothing_in n i
-
-nothing_fresh : (sizes : List ℕ) (slots d i : ℕ) → nothing_at (place_in (slice_get (empty_pools sizes slots) d) i) ≡ true
-nothing_fresh [] slots d i = refl
-nothing_fresh (size ∷ sizes) slots zero i = nothing_in size i
-nothing_fresh (size ∷ sizes) slots (suc d) i = nothing_fresh sizes slots d i
-
-none_waits : (sizes : List ℕ) (slots d s : ℕ) → times s (queue_in (slice_get (empty_pools sizes slots) d)) ≡ 0
-none_waits [] slots d s = refl
-none_waits (size ∷ sizes) slots zero s = refl
-none_waits (size ∷ sizes) slots (suc d) s = none_waits sizes slots d s
-
-no_claims : (n s d : ℕ) → waits d (slice_get (replicate n claim.Nothing) s) ≡ 0
-no_claims zero s d = refl
-no_claims (suc n) zero d = refl
-no_claims (suc n) (suc s) d = no_claims n s d
-
-no_links : (n s : ℕ) (at : LinkPlace) → has_link at (slice_get (replicate n claim.Nothing) s) ≡ false
-no_links zero s at = refl
-no_links (suc n) zero at = refl
-no_links (suc n) (suc s) at = no_links n s at
-
-no_permits : (n s : ℕ) (at : LinkPlace) → has_permit at (slice_get (replicate n claim.Nothing) s) ≡ false
-no_permits zero s at = refl
-no_permits (suc n) zero at = refl
-no_permits (suc n) (suc s) at = no_permits n s at
+none_waits : {X : Type 0} (size room : X → ℕ) (o : Option X) → queue_in (option_map (λ x. empty_pool (size x) (room x)) o) ≡ []
+none_waits size room None = refl
+none_waits size room (Some x) = refl
 
 none_claims : (n d : ℕ) → waiting_claims d (replicate n claim.Nothing) ≡ 0
 none_claims zero d = refl
 none_claims (suc n) d = let e = none_claims n d in omega (arith, e)
 
-fits_nothing : (v : PoolView) (at : LinkPlace) (o : Option Place) → nothing_at o ≡ true → Fits v at o
-fits_nothing v at None h = tt
-fits_nothing v at (Some place.Free) h = tt
-fits_nothing v at (Some (place.Open permit slot)) h = absurd (cc)
-fits_nothing v at (Some (place.Link link)) h = absurd (cc)
+has_room : {X : Type 0} (size room : X → ℕ) (slots d : ℕ) (o : Option X) → ((x : X) → o ≡ Some x → room x ≡ slots) → HasRoom (replicate slots claim.Nothing) d (option_map (λ x. empty_pool (size x) (room x)) o)
+has_room size room slots d None rooms = tt
+has_room size room slots d (Some x) rooms = (sym (none_claims slots d), rooms x refl ∙ sym (length-replicate slots claim.Nothing))
 
-held_nothing : (s : ℕ) (o : Option Place) → nothing_at o ≡ true → held_by s o ≡ false
-held_nothing s None h = refl
-held_nothing s (Some place.Free) h = refl
-held_nothing s (Some (place.Open permit slot)) h = refl
-held_nothing s (Some (place.Link link)) h = absurd (cc)
-
-open_nothing : (s : ℕ) (o : Option Place) → nothing_at o ≡ true → open_for s o ≡ false
-open_nothing s None h = refl
-open_nothing s (Some place.Free) h = refl
-open_nothing s (Some (place.Open permit slot)) h = absurd (cc)
-open_nothing s (Some (place.Link link)) h = refl
-
-link_nothing : (n : ℕ) (o : Option Place) → nothing_at o ≡ true → link_number o ≢ Some n
-link_nothing n None h = λ e. cc
-link_nothing n (Some place.Free) h = λ e. cc
-link_nothing n (Some (place.Open permit slot)) h = λ e. cc
-link_nothing n (Some (place.Link link)) h = λ e. cc
-
-permit_nothing : (n : ℕ) (o : Option Place) → nothing_at o ≡ true → permit_number o ≢ Some n
-permit_nothing n None h = λ e. cc
-permit_nothing n (Some place.Free) h = λ e. cc
-permit_nothing n (Some (place.Open permit slot)) h = λ e. cc
-permit_nothing n (Some (place.Link link)) h = λ e. cc
-
-room_in : (sizes : List ℕ) (slots d e : ℕ) → HasRoom (replicate slots claim.Nothing) e (slice_get (empty_pools sizes slots) d)
-room_in [] slots d e = tt
-room_in (size ∷ sizes) slots zero e = (used-le (replicate size place.Free), sym (none_claims slots e), sym (length-replicate slots claim.Nothing))
-room_in (size ∷ sizes) slots (suc d) e = room_in sizes slots d e
-
-room_fresh : (sizes : List ℕ) (slots d : ℕ) → HasRoom (replicate slots claim.Nothing) d (slice_get (empty_pools sizes slots) d)
-room_fresh sizes slots d = room_in sizes slots d d
+-- pools with nothing at any place, for which nobody waits
+whole_empty : {X : Type 0} (peer incarnation link permit ticket slots : ℕ) (size room : X → ℕ) (xs : List X) → ((d : ℕ) (x : X) → slice_get xs d ≡ Some x → room x ≡ slots)
+    → (link ≤ 2 ^ 64) × (permit ≤ 2 ^ 64) × (ticket ≤ 2 ^ 64) × (incarnation < 2 ^ 64)
+    → IsPool (record { peer = peer; incarnation = incarnation; pools = map (λ x. empty_pool (size x) (room x)) xs; claims = replicate slots claim.Nothing; next_link = link; next_permit = permit; next_ticket = ticket })
+whole_empty peer incarnation link permit ticket slots size room xs rooms numbers =
+    let pools : List DatabasePool = map (λ x. empty_pool (size x) (room x)) xs in
+    let v : PoolView = record { peer = peer; incarnation = incarnation; pools = pools; claims = replicate slots claim.Nothing; next_link = link; next_permit = permit; next_ticket = ticket } in
+    let pool : (d : ℕ) → slice_get pools d ≡ option_map (λ x. empty_pool (size x) (room x)) (slice_get xs d) = λ d. slice_get-map (λ x. empty_pool (size x) (room x)) xs d in
+    let free : (at : LinkPlace) → NoOther place.Free (place_at v at) = λ at. subst (λ o. NoOther place.Free (place_in o at.index)) (sym (pool at.database)) (in_empty size room (slice_get xs at.database) at.index) in
+    let none : (s : ℕ) → NoOther claim.Nothing (slice_get v.claims s) = λ s. in_replicate claim.Nothing slots s in
+    record {
+      fits = λ at. ⊎_elim (λ n. subst (Fits v at) (sym n) tt) (λ s. subst (Fits v at) (sym s) tt) (free at);
+      links = λ s at. alike (has_link at) claim.Nothing (slice_get v.claims s) refl (none s) ∙ sym (alike (held_by s) place.Free (place_at v at) refl (free at));
+      permits = λ s at. alike (has_permit at) claim.Nothing (slice_get v.claims s) refl (none s) ∙ sym (alike (open_for s) place.Free (place_at v at) refl (free at));
+      queues = λ s d. alike (waits d) claim.Nothing (slice_get v.claims s) refl (none s) ∙ sym (ap (times s) (ap queue_in (pool d) ∙ none_waits size room (slice_get xs d)));
+      link_once = λ at other n h k. let e : None ≡ Some n = sym (alike link_number place.Free (place_at v at) refl (free at)) ∙ h in absurd (cc);
+      permit_once = λ at other n h k. let e : None ≡ Some n = sym (alike permit_number place.Free (place_at v at) refl (free at)) ∙ h in absurd (cc);
+      numbers = numbers;
+      rooms = λ d. subst (HasRoom v.claims d) (sym (pool d)) (has_room size room slots d (slice_get xs d) (rooms d));
+    }
 
 -- new pools
 pub whole_fresh : (peer : ℕ) (sizes : List ℕ) (slots : ℕ) → IsPool (fresh peer sizes slots)
-whole_fresh peer sizes slots =
-    let v : PoolView = fresh peer sizes slots in
-    let nothing : (at : LinkPlace) → nothing_at (place_at v at) ≡ true = λ at. nothing_fresh sizes slots at.database at.index in
-    record {
-      fits = λ at. fits_nothing v at (place_at v at) (nothing at);
-      links = λ s at. no_links slots s at ∙ sym (held_nothing s (place_at v at) (nothing at));
-      permits = λ s at. no_permits slots s at ∙ sym (open_nothing s (place_at v at) (nothing at));
-      queues = λ s d. no_claims slots s d ∙ sym (none_waits sizes slots d s);
-      link_once = λ at other n h k. absurd (link_nothing n (place_at v at) (nothing at) h);
-      permit_once = λ at other n h k. absurd (permit_nothing n (place_at v at) (nothing at) h);
-      numbers = (omega arith, omega arith, omega arith, omega arith);
-      rooms = λ d. room_fresh sizes slots d;
-    }
+whole_fresh peer sizes slots = whole_empty peer 0 0 0 0 slots (λ size. size) (λ size. slots) sizes (λ d x h. refl) (omega arith, omega arith, omega arith, omega arith)
 
--- one size more
-pub empty_pools-more : (sizes : List ℕ) (size slots : ℕ) → empty_pools (sizes ++ size ∷ []) slots ≡ empty_pools sizes slots ++ record { places = replicate size place.Free; waiting = []; room = slots } ∷ []
-empty_pools-more [] size slots = refl
-empty_pools-more (first ∷ sizes) size slots = ap (λ (ps : List DatabasePool). record { places = replicate first place.Free; waiting = []; room = slots } ∷ ps) (empty_pools-more sizes size slots)
+-- pools after a new start
+pub whole_emptied : (v : PoolView) (next : ℕ) → IsPool v → next < 2 ^ 64 → IsPool (record v { incarnation = next; pools = emptied v.pools; claims = replicate (length v.claims) claim.Nothing })
+whole_emptied v next whole h = whole_empty v.peer next v.next_link v.next_permit v.next_ticket (length v.claims) (λ (pool : DatabasePool). length pool.places) (λ (pool : DatabasePool). pool.room) v.pools
+    (λ d pool e. let room : HasRoom v.claims d (Some pool) = subst (HasRoom v.claims d) e (whole.rooms d) in room.1)
+    (whole.numbers.0, whole.numbers.1, whole.numbers.2, h)
 
--- a pool that is emptied
-abbrev pub one_emptied : DatabasePool → DatabasePool
-one_emptied pool = record { places = replicate (length pool.places) place.Free; waiting = []; room = pool.room }
+-- new entries, as the view sees them
+places_free : (S : Type 0) (n : ℕ) → map (place_of {S = S}) (replicate n entry.Free) ≡ replicate n place.Free
+places_free S zero = refl
+places_free S (suc n) = ap (λ (ps : List Place). place.Free ∷ ps) (places_free S n)
 
-pub get_emptied : (old : List DatabasePool) (i : ℕ) (d : DatabasePool) → i < length old → get_or (emptied (take i old) ++ drop i old) i d ≡ get_or old i d
-get_emptied [] i d h = absurd (omega arith)
-get_emptied (p ∷ ps) zero d h = refl
-get_emptied (p ∷ ps) (suc i) d h = get_emptied ps i d (omega arith)
+new_pool_seen : (S : Type 0) (size room : ℕ) → pool_in (new_links {S = S} size room) ≡ empty_pool size room
+new_pool_seen S size room = ap {B = DatabasePool} (λ (ps : List Place). record { places = ps; waiting = []; room = room }) (places_free S size)
 
-pub set_emptied : (old : List DatabasePool) (i : ℕ) (d : DatabasePool) → i < length old → set (emptied (take i old) ++ drop i old) i (one_emptied (get_or old i d)) ≡ emptied (take (suc i) old) ++ drop (suc i) old
-set_emptied [] i d h = absurd (omega arith)
-set_emptied (p ∷ ps) zero d h = refl
-set_emptied (p ∷ ps) (suc i) d h = ap (λ (qs : List DatabasePool). one_emptied p ∷ qs) (set_emptied ps i d (omega arith))
+pub new_seen : (S : Type 0) (slots : ℕ) (sizes : List ℕ) → map pool_in (map (λ size. new_links {S = S} size slots) sizes) ≡ empty_pools sizes slots
+new_seen S slots [] = refl
+new_seen S slots (size ∷ sizes) =
+    ap (λ (p : DatabasePool). p ∷ map pool_in (map (λ size. new_links {S = S} size slots) sizes)) (new_pool_seen S size slots) ∙ ap (λ (ps : List DatabasePool). empty_pool size slots ∷ ps) (new_seen S slots sizes)
+
+pub freed_seen : {S : Type 0} (pools : List (Entries S)) → map pool_in (map freed pools) ≡ emptied (map pool_in pools)
+freed_seen [] = refl
+freed_seen {S} (pool ∷ pools) =
+    ap (λ (p : DatabasePool). p ∷ map pool_in (map freed pools)) (new_pool_seen S (length pool.entries) pool.room ∙ ap (λ (n : ℕ). empty_pool n pool.room) (sym (length-map pool.entries place_of)))
+    ∙ ap (λ (ps : List DatabasePool). empty_pool (length (map place_of pool.entries)) pool.room ∷ ps) (freed_seen pools)
+
+-- no stream lies in them
+streams_free : (S : Type 0) (n i : ℕ) → stream_there (slice_get (map (stream_of {S = S}) (replicate n entry.Free)) i) ≡ None
+streams_free S zero i = refl
+streams_free S (suc n) zero = refl
+streams_free S (suc n) (suc i) = streams_free S n i
+
+none_stored : {X : Type 0} (S : Type 0) (size room : X → ℕ) (xs : List X) (d i : ℕ) → stored_in (slice_get (map streams_in (map (λ x. new_links {S = S} (size x) (room x)) xs)) d) i ≡ None
+none_stored S size room [] d i = refl
+none_stored S size room (x ∷ xs) zero i = streams_free S (size x) i
+none_stored S size room (x ∷ xs) (suc d) i = none_stored S size room xs d i
+
+pub new_stored : (S : Type 0) (slots : ℕ) (sizes : List ℕ) → NothingStored (map streams_in (map (λ size. new_links {S = S} size slots) sizes))
+new_stored S slots sizes at = none_stored S (λ size. size) (λ size. slots) sizes at.database at.index
+
+pub freed_stored : {S : Type 0} (pools : List (Entries S)) → NothingStored (map streams_in (map freed pools))
+freed_stored {S} pools at = none_stored S (λ (pool : Entries S). length pool.entries) (λ (pool : Entries S). pool.room) pools at.database at.index
+
+-- the first so many of a list are changed
+pub get_mapped : {X : Type 0} (f : X → X) (old : List X) (i : ℕ) (d : X) → i < length old → get_or (map f (take i old) ++ drop i old) i d ≡ get_or old i d
+get_mapped f [] i d h = absurd (omega arith)
+get_mapped f (x ∷ xs) zero d h = refl
+get_mapped f (x ∷ xs) (suc i) d h = get_mapped f xs i d (omega arith)
+
+pub set_mapped : {X : Type 0} (f : X → X) (old : List X) (i : ℕ) (d : X) → i < length old → set (map f (take i old) ++ drop i old) i (f (get_or old i d)) ≡ map f (take (suc i) old) ++ drop (suc i) old
+set_mapped f [] i d h = absurd (omega arith)
+set_mapped f (x ∷ xs) zero d h = refl
+set_mapped f (x ∷ xs) (suc i) d h = ap (λ ys. f x ∷ ys) (set_mapped f xs i d (omega arith))
 
 pub set_nothing : (old : List Claim) (i : ℕ) → i < length old → set (replicate i claim.Nothing ++ drop i old) i claim.Nothing ≡ replicate (suc i) claim.Nothing ++ drop (suc i) old
 set_nothing [] i h = absurd (omega arith)
 set_nothing (c ∷ cs) zero h = refl
 set_nothing (c ∷ cs) (suc i) h = ap (λ (qs : List Claim). claim.Nothing ∷ qs) (set_nothing cs i (omega arith))
-
-nothing_emptied : (pools : List DatabasePool) (d i : ℕ) → nothing_at (place_in (slice_get (emptied pools) d) i) ≡ true
-nothing_emptied [] d i = refl
-nothing_emptied (pool ∷ pools) zero i = nothing_in (length pool.places) i
-nothing_emptied (pool ∷ pools) (suc d) i = nothing_emptied pools d i
-
-none_waits_emptied : (pools : List DatabasePool) (d s : ℕ) → times s (queue_in (slice_get (emptied pools) d)) ≡ 0
-none_waits_emptied [] d s = refl
-none_waits_emptied (pool ∷ pools) zero s = refl
-none_waits_emptied (pool ∷ pools) (suc d) s = none_waits_emptied pools d s
-
-room_emptied : (pools : List DatabasePool) (claims : List Claim) (d e : ℕ) → HasRoom claims e (slice_get pools d) → HasRoom (replicate (length claims) claim.Nothing) e (slice_get (emptied pools) d)
-room_emptied [] claims d e h = tt
-room_emptied (pool ∷ pools) claims zero e h = (used-le (replicate (length pool.places) place.Free), sym (none_claims (length claims) e), h.2 ∙ sym (length-replicate (length claims) claim.Nothing))
-room_emptied (pool ∷ pools) claims (suc d) e h = room_emptied pools claims d e h
-
--- pools after a new start
-pub whole_emptied : (v : PoolView) (next : ℕ) → IsPool v → next < 2 ^ 64 → IsPool (record v { incarnation = next; pools = emptied v.pools; claims = replicate (length v.claims) claim.Nothing })
-whole_emptied v next whole h =
-    let w : PoolView = record v { incarnation = next; pools = emptied v.pools; claims = replicate (length v.claims) claim.Nothing } in
-    let nothing : (at : LinkPlace) → nothing_at (place_at w at) ≡ true = λ at. nothing_emptied v.pools at.database at.index in
-    let n = length v.claims in
-    record {
-      fits = λ at. fits_nothing w at (place_at w at) (nothing at);
-      links = λ s at. no_links (length v.claims) s at ∙ sym (held_nothing s (place_at w at) (nothing at));
-      permits = λ s at. no_permits (length v.claims) s at ∙ sym (open_nothing s (place_at w at) (nothing at));
-      queues = λ s d. no_claims (length v.claims) s d ∙ sym (none_waits_emptied v.pools d s);
-      link_once = λ at other k h1 h2. absurd (link_nothing k (place_at w at) (nothing at) h1);
-      permit_once = λ at other k h1 h2. absurd (permit_nothing k (place_at w at) (nothing at) h1);
-      numbers = (whole.numbers.0, whole.numbers.1, whole.numbers.2, h);
-      rooms = λ d. room_emptied v.pools v.claims d d (whole.rooms d);
-    }

@@ -1,7 +1,9 @@
--- A list at a place, after a write to one place.
-use Rattle.std.proofs.Common.{◌≡◌, ◌≢◌, ℕ, zero, suc, ◌<◌, List, [], ◌∷◌, Some, length, refl, ap, arith}
+-- Lists at a place, after a write to one place, and the numbers that are in a list.
+use Rattle.std.proofs.Common.{◌≡◌, ◌≢◌, ℕ, zero, suc, ◌+◌, ◌<◌, ◌==◌, true, false, List, [], ◌∷◌, ◌++◌, Some, length, refl, ap, sym, arith, if◌then◌else◌}
 use Rattle.std.proofs.Math.ListN.{set}
 use Rattle.std.specs.List.{slice_get}
+use Rattle.std.proofs.lemmas.Bool.Decides.{eqb_tells}
+use Rattle.link_pool.specs.OnePlace.{times}
 
 -- what was written is read
 pub slice_get-set_same : {X : Type 0} (xs : List X) (i : ℕ) (x : X) → i < length xs → slice_get (set xs i x) i ≡ Some x
@@ -16,3 +18,24 @@ slice_get-set_other (y ∷ ys) zero zero x h = absurd (h refl)
 slice_get-set_other (y ∷ ys) zero (suc j) x h = refl
 slice_get-set_other (y ∷ ys) (suc i) zero x h = refl
 slice_get-set_other (y ∷ ys) (suc i) (suc j) x h = slice_get-set_other ys i j x (λ e. h (ap suc e))
+
+-- what was there is written again
+pub set_same : {X : Type 0} (xs : List X) (i : ℕ) (x : X) → slice_get xs i ≡ Some x → set xs i x ≡ xs
+set_same [] i x h = refl
+set_same (y ∷ ys) zero x h = let e : y ≡ x = cc in ap (λ z. z ∷ ys) (sym e)
+set_same (y ∷ ys) (suc i) x h = ap (λ zs. y ∷ zs) (set_same ys i x h)
+
+-- the test of two numbers
+pub eq_self : (n : ℕ) → (n == n) ≡ true
+eq_self n = grind (arith, eqb_tells n n)
+
+pub eq_yes : (m n : ℕ) → (m == n) ≡ true → m ≡ n
+eq_yes m n h = grind (arith, eqb_tells m n)
+
+pub eq_no : (m n : ℕ) → m ≢ n → (m == n) ≡ false
+eq_no m n h = grind (arith, eqb_tells m n)
+
+-- how often a number is in a list, once one was appended
+pub times_joined : (s slot : ℕ) (waiting : List ℕ) → times s (waiting ++ slot ∷ []) ≡ times s waiting + (if slot == s then 1 else 0)
+times_joined s slot [] = omega arith
+times_joined s slot (x ∷ rest) = let e = times_joined s slot rest in omega (arith, e)

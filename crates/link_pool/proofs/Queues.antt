@@ -1,32 +1,18 @@
 -- Who waits, once a client has joined a queue or left it.
-use Rattle.std.proofs.Common.{◌≡◌, ◌≢◌, ℕ, suc, ◌<◌, ◌≤◌, ◌+◌, Bool, true, false, List, [], ◌∷◌, ◌++◌, Option, Some, None, length, length-set, length-append, get_or, refl, ap, sym, subst, ◌∙◌, arith, ⊎_elim, ◌⊎◌, inl, inr, ◌==◌, if◌then◌else◌}
+use Rattle.std.proofs.Common.{◌≡◌, ◌≢◌, ℕ, suc, ◌<◌, ◌≤◌, ◌+◌, Bool, true, false, List, [], ◌∷◌, ◌++◌, option_map, Option, Some, None, length, length-set, length-append, get_or, refl, ap, sym, subst, ◌∙◌, arith, ⊎_elim, ◌⊎◌, inl, inr, ◌==◌, if◌then◌else◌}
 use Rattle.std.proofs.Math.ListN.{set}
 use Rattle.std.specs.List.{slice_get, remove}
 use Rattle.std.proofs.lemmas.Option.{slice_get_within, slice_get-get_or}
 use Rattle.std.proofs.lemmas.Bool.{cases_eq}
-use Rattle.std.proofs.lemmas.Bool.Decides.{eqb_tells}
 use Rattle.lease.specs.declared.link_place.LinkPlace.{LinkPlace}
 use Rattle.link_pool.specs.declared.place.Claim.{Claim}
 use Rattle.link_pool.specs.declared.place.Claim.TheVariants as claim
-use Rattle.link_pool.specs.Pool.{DatabasePool, PoolView, place_at, queue_in, queue_at, changed, with_queue, with_claim, others}
+use Rattle.link_pool.specs.Pool.{DatabasePool, PoolView, at_place, place_at, queue_in, queue_at, changed, with_queue, with_claim, others, behind}
 use Rattle.link_pool.specs.OnePlace.{has_link, has_permit, held_by, open_for, waits, times, waiting_claims, link_number, permit_number, HasRoom, IsPool}
 use Rattle.link_pool.specs.Stacks.{place_of}
-use Rattle.link_pool.proofs.Places.{slice_get-set_same, slice_get-set_other}
-use Rattle.link_pool.proofs.Changes.{mapped, changed_here, changed_there, changed_is_set, place_with_queue, queue_here, queue_there}
+use Rattle.link_pool.proofs.Places.{slice_get-set_same, slice_get-set_other, eq_self, eq_yes, eq_no, times_joined}
+use Rattle.link_pool.proofs.Changes.{changed_here, changed_there, place_with_queue, queue_here, queue_there}
 use Rattle.link_pool.proofs.Whole.{agree_changed, waiting_claims-set, fits_more}
-
-is_bool : (b : Bool) → (b ≡ true) ⊎ (b ≡ false)
-is_bool true = inl refl
-is_bool false = inr refl
-
-eq_self : (n : ℕ) → (n == n) ≡ true
-eq_self n = grind (arith, eqb_tells n n)
-
-eq_yes : (m n : ℕ) → (m == n) ≡ true → m ≡ n
-eq_yes m n h = grind (arith, eqb_tells m n)
-
-eq_no : (m n : ℕ) → m ≢ n → (m == n) ≡ false
-eq_no m n h = grind (arith, eqb_tells m n)
 
 -- by the place in the queue
 others_at : (slot x : ℕ) (rest : List ℕ) (b : Bool) → (x == slot) ≡ b → others slot rest ≡ remove rest (place_of slot rest) → others slot (x ∷ rest) ≡ remove (x ∷ rest) (place_of slot (x ∷ rest))
@@ -70,11 +56,6 @@ pub length_left : (slot : ℕ) (waiting : List ℕ) → 0 < times slot waiting �
 length_left slot [] some = absurd (omega arith)
 length_left slot (x ∷ rest) some = length_left_at slot x rest (x == slot) refl (length_left slot rest) some
 
--- how often the slots stand in the queue, once one has joined it
-pub times_joined : (s slot : ℕ) (waiting : List ℕ) → times s (waiting ++ slot ∷ []) ≡ times s waiting + (if slot == s then 1 else 0)
-times_joined s slot [] = omega arith
-times_joined s slot (x ∷ rest) = let e = times_joined s slot rest in omega (arith, e)
-
 -- what a change of one queue and for one client has to keep
 pub record Requeues (v : PoolView) (d : ℕ) (pool : DatabasePool) (change : List ℕ → List ℕ) (slot : ℕ) (was claim : Claim) : Type 0 where
   pub there : slice_get v.pools d ≡ Some pool
@@ -86,13 +67,13 @@ pub record Requeues (v : PoolView) (d : ℕ) (pool : DatabasePool) (change : Lis
   pub elsewhere : (e : ℕ) → e ≢ d → waits e (Some claim) ≡ waits e (Some was)
   pub long : length (change pool.waiting) + waits d (Some was) ≡ length pool.waiting + waits d (Some claim)
 
-room_of_queue : (claims new : List Claim) (d : ℕ) (o : Option DatabasePool) (pool : DatabasePool) (change : List ℕ → List ℕ) → o ≡ Some pool → length (change pool.waiting) + waiting_claims d claims ≡ length pool.waiting + waiting_claims d new → length new ≡ length claims → HasRoom claims d o → HasRoom new d (mapped (λ p. record p { waiting = change p.waiting }) o)
+room_of_queue : (claims new : List Claim) (d : ℕ) (o : Option DatabasePool) (pool : DatabasePool) (change : List ℕ → List ℕ) → o ≡ Some pool → length (change pool.waiting) + waiting_claims d claims ≡ length pool.waiting + waiting_claims d new → length new ≡ length claims → HasRoom claims d o → HasRoom new d (option_map (λ (p : DatabasePool). record p { waiting = change p.waiting }) o)
 room_of_queue claims new d None pool change e w l h = tt
-room_of_queue claims new d (Some p) pool change e w l h = let one : p ≡ pool = cc in (h.0, let long = h.1 in let long2 : length pool.waiting ≡ waiting_claims d claims = rw (← one) long in rw one (omega (arith, w, long2)), h.2 ∙ sym l)
+room_of_queue claims new d (Some p) pool change e w l h = let one : p ≡ pool = cc in (let long = h.0 in let long2 : length pool.waiting ≡ waiting_claims d claims = rw (← one) long in rw one (omega (arith, w, long2)), h.1 ∙ sym l)
 
 room_beside : (claims new : List Claim) (d : ℕ) (o : Option DatabasePool) → waiting_claims d new ≡ waiting_claims d claims → length new ≡ length claims → HasRoom claims d o → HasRoom new d o
 room_beside claims new d None w l h = tt
-room_beside claims new d (Some pool) w l h = (h.0, h.1 ∙ sym w, h.2 ∙ sym l)
+room_beside claims new d (Some pool) w l h = (h.0 ∙ sym w, h.1 ∙ sym l)
 
 -- after a change of one queue and for one client
 pub requeued : (v : PoolView) (d : ℕ) (pool : DatabasePool) (change : List ℕ → List ℕ) (slot : ℕ) (was claim : Claim) → IsPool v → Requeues v d pool change slot was claim → IsPool (with_claim (with_queue v d change) slot claim)
@@ -162,11 +143,11 @@ left v d slot whole h =
     }
 
 -- a client has joined the queue
-pub joined : (v : PoolView) (d slot : ℕ) (pool : DatabasePool) → IsPool v → slice_get v.pools d ≡ Some pool → slice_get v.claims slot ≡ Some claim.Nothing → IsPool (with_claim (with_queue v d (λ waiting. waiting ++ slot ∷ [])) slot (claim.Waiting d))
+pub joined : (v : PoolView) (d slot : ℕ) (pool : DatabasePool) → IsPool v → slice_get v.pools d ≡ Some pool → slice_get v.claims slot ≡ Some claim.Nothing → IsPool (with_claim (with_queue v d (behind slot)) slot (claim.Waiting d))
 joined v d slot pool whole there h =
     let none : waits d (slice_get v.claims slot) ≡ 0 = ap (waits d) h in
     let never : times slot pool.waiting ≡ 0 = ap (λ (o : Option DatabasePool). times slot (queue_in o)) (sym there) ∙ sym (whole.queues slot d) ∙ none in
-    requeued v d pool (λ waiting. waiting ++ slot ∷ []) slot claim.Nothing (claim.Waiting d) whole record {
+    requeued v d pool (behind slot) slot claim.Nothing (claim.Waiting d) whole record {
       there = there;
       had = h;
       links = λ k. refl;
@@ -196,12 +177,15 @@ room_to_wait v d slot pool whole there h =
     let set_one = waiting_claims-set v.claims slot d claim.Nothing (claim.Waiting d) h in
     let few = waiting_few d (set v.claims slot (claim.Waiting d)) in
     let same = length-set v.claims slot (claim.Waiting d) in
-    let long = room.1 in
-    let all = room.2 in
+    let long = room.0 in
+    let all = room.1 in
     omega (arith, self, set_one, few, same, long, all)
 
--- a write to one queue
-pub queue_set : (v : PoolView) (d n : ℕ) (pool new : DatabasePool) (change : List ℕ → List ℕ) → n ≡ d → n < length v.pools → pool ≡ get_or v.pools n pool → new ≡ record pool { waiting = change pool.waiting } → set v.pools n new ≡ changed v.pools d (λ p. record p { waiting = change p.waiting })
-queue_set v d n pool new change same within read made =
-    let is : slice_get v.pools d ≡ Some pool = subst (λ (m : ℕ). slice_get v.pools m ≡ Some pool) same (slice_get-get_or v.pools n pool within ∙ ap Some (sym read)) in
-    ap (λ (m : ℕ). set v.pools m new) same ∙ ap (set v.pools d) made ∙ sym (changed_is_set v.pools d pool (λ p. record p { waiting = change p.waiting }) is)
+-- who isn't in a queue doesn't leave it
+absent_at : (slot x : ℕ) (rest : List ℕ) (b : Bool) → (x == slot) ≡ b → (times slot rest ≡ 0 → others slot rest ≡ rest) → times slot (x ∷ rest) ≡ 0 → others slot (x ∷ rest) ≡ x ∷ rest
+absent_at slot x rest true e h none = let one = rw e at none in absurd (omega (arith, one))
+absent_at slot x rest false e h none = let zero_is = rw e at none in rw e (ap (λ (xs : List ℕ). x ∷ xs) (h (omega (arith, zero_is))))
+
+pub others_absent : (slot : ℕ) (waiting : List ℕ) → times slot waiting ≡ 0 → others slot waiting ≡ waiting
+others_absent slot [] none = refl
+others_absent slot (x ∷ rest) none = absent_at slot x rest (x == slot) refl (others_absent slot rest) none

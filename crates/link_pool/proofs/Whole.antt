@@ -1,17 +1,17 @@
 -- What is true of every node's pools stays true.
-use Rattle.std.proofs.Common.{◌≡◌, ◌≢◌, ℕ, zero, suc, ◌≤◌, ◌+◌, List, [], ◌∷◌, Option, Some, None, length, length-set, refl, ap, sym, subst, ◌∙◌, arith, ⊎_elim, ◌⊎◌, inl, inr}
+use Rattle.std.proofs.Common.{◌≡◌, ◌≢◌, ℕ, zero, suc, ◌≤◌, ◌+◌, List, [], ◌∷◌, option_map, unwrap_or, get_or, Option, Some, None, length, length-set, refl, ap, sym, subst, ◌∙◌, arith, ⊎_elim, ◌⊎◌, inl, inr}
 use Rattle.std.proofs.Math.ListN.{set}
 use Rattle.std.specs.List.{slice_get}
-use Rattle.std.proofs.lemmas.Option.{slice_get_within}
+use Rattle.std.proofs.lemmas.Option.{slice_get_within, slice_get-map, unwrap_or-slice_get}
 use Rattle.std.proofs.lemmas.Bool.{cases_eq}
 use Rattle.lease.specs.declared.link_place.LinkPlace.{LinkPlace}
 use Rattle.link_pool.specs.declared.place.Place.{Place}
 use Rattle.link_pool.specs.declared.place.Place.TheVariants as place
 use Rattle.link_pool.specs.declared.place.Claim.{Claim}
-use Rattle.link_pool.specs.Pool.{DatabasePool, PoolView, place_at, queue_at, with_place, with_claim}
-use Rattle.link_pool.specs.OnePlace.{Fits, has_link, has_permit, held_by, open_for, waits, times, used, waiting_claims, link_number, permit_number, HasRoom, IsPool}
+use Rattle.link_pool.specs.Pool.{DatabasePool, PoolView, at_place, place_at, queue_at, with_place, with_claim}
+use Rattle.link_pool.specs.OnePlace.{Fits, has_link, has_permit, held_by, open_for, waits, times, used, used_in, sizes, WithinSizes, waiting_claims, link_number, permit_number, HasRoom, IsPool}
 use Rattle.link_pool.proofs.Places.{slice_get-set_same, slice_get-set_other}
-use Rattle.link_pool.proofs.Changes.{one_place, mapped, changed_here, changed_there, place_here, place_there, queue_with_place}
+use Rattle.link_pool.proofs.Changes.{one_place, changed_here, changed_there, place_here, place_there, queue_with_place}
 
 -- what fits one view fits one with more numbers given
 pub fits_more : (v w : PoolView) (at : LinkPlace) (o : Option Place) → v.peer ≡ w.peer → v.incarnation ≡ w.incarnation → v.next_link ≤ w.next_link → v.next_permit ≤ w.next_permit → Fits v at o → Fits w at o
@@ -26,6 +26,18 @@ used-le [] = omega arith
 used-le (place.Free ∷ places) = let e = used-le places in omega (arith, e)
 used-le (place.Open permit slot ∷ places) = let e = used-le places in omega (arith, e)
 used-le (place.Link link ∷ places) = let e = used-le places in omega (arith, e)
+
+pub used_in-le : (o : Option DatabasePool) → used_in o ≤ unwrap_or (option_map (λ (pool : DatabasePool). length pool.places) o) 0
+used_in-le None = omega arith
+used_in-le (Some pool) = used-le pool.places
+
+-- with as many places as the pool sizes, links and permits are no more
+pub within_sizes : (v : PoolView) (each : List ℕ) → sizes v.pools ≡ each → WithinSizes each v
+within_sizes v each e d =
+    let few = used_in-le (slice_get v.pools d) in
+    let same : unwrap_or (option_map (λ (pool : DatabasePool). length pool.places) (slice_get v.pools d)) 0 ≡ get_or each d 0 =
+    ap (λ (o : Option ℕ). unwrap_or o 0) (sym (slice_get-map (λ (pool : DatabasePool). length pool.places) v.pools d)) ∙ unwrap_or-slice_get (sizes v.pools) d 0 ∙ ap (λ (ns : List ℕ). get_or ns d 0) e in
+    omega (arith, few, same)
 
 -- as many claims wait, once one has changed
 pub waiting_claims-set : (claims : List Claim) (s d : ℕ) (was claim : Claim) → slice_get claims s ≡ Some was → waiting_claims d (set claims s claim) + waits d (Some was) ≡ waiting_claims d claims + waits d (Some claim)
@@ -100,13 +112,13 @@ apart_changed number v at old p there once new k j n hk hj =
     (place_cases k at)
 
 -- a pool's room, once one of its places has changed
-room_of_place : (claims new : List Claim) (d : ℕ) (o : Option DatabasePool) (i : ℕ) (p : Place) → waiting_claims d new ≡ waiting_claims d claims → length new ≡ length claims → HasRoom claims d o → HasRoom new d (mapped (λ pool. record pool { places = set pool.places i p }) o)
+room_of_place : (claims new : List Claim) (d : ℕ) (o : Option DatabasePool) (i : ℕ) (p : Place) → waiting_claims d new ≡ waiting_claims d claims → length new ≡ length claims → HasRoom claims d o → HasRoom new d (option_map (λ (pool : DatabasePool). at_place pool i p) o)
 room_of_place claims new d None i p w l h = tt
-room_of_place claims new d (Some pool) i p w l h = (used-le (set pool.places i p), h.1 ∙ sym w, h.2 ∙ sym l)
+room_of_place claims new d (Some pool) i p w l h = (h.0 ∙ sym w, h.1 ∙ sym l)
 
 room_same : (claims new : List Claim) (d : ℕ) (o : Option DatabasePool) → waiting_claims d new ≡ waiting_claims d claims → length new ≡ length claims → HasRoom claims d o → HasRoom new d o
 room_same claims new d None w l h = tt
-room_same claims new d (Some pool) w l h = (h.0, h.1 ∙ sym w, h.2 ∙ sym l)
+room_same claims new d (Some pool) w l h = (h.0 ∙ sym w, h.1 ∙ sym l)
 
 pub rooms_with_place : (v : PoolView) (at : LinkPlace) (p : Place) (new : List Claim) → ((d : ℕ) → waiting_claims d new ≡ waiting_claims d v.claims) → length new ≡ length v.claims → ((d : ℕ) → HasRoom v.claims d (slice_get v.pools d)) → (d : ℕ) → HasRoom new d (slice_get (with_place v at p).pools d)
 rooms_with_place v at p new w l h d = ⊎_elim

@@ -1,10 +1,9 @@
 pub mod Pool
 pub mod OnePlace
 pub mod PoolStep
-pub mod DatabaseStep
-pub mod Stacks
-pub mod Parts
-pub mod Said
-pub mod PoolOf
 pub mod Streams
-pub mod Stored
+pub mod Said
+pub mod Stacks
+pub mod Entries
+pub mod Parts
+pub mod PoolOf

@@ -1,5 +1,5 @@
 -- What is true of every node's links (own): each is in one place, and each client has one thing at most.
-use Rattle.std.specs.Prelude.{ℕ, ◌≡◌, ◌==◌, ◌&&◌, ◌+◌, ◌<◌, ◌≤◌, ◌^◌, Bool, false, List, [], ◌∷◌, Option, Some, None, length, slice_get, if◌then◌else◌}
+use Rattle.std.specs.Prelude.{ℕ, ◌≡◌, ◌==◌, ◌&&◌, ◌+◌, ◌<◌, ◌≤◌, ◌^◌, Bool, false, List, [], ◌∷◌, Option, Some, None, length, map, slice_get, slice_index, if◌then◌else◌}
 use Rattle.lease.specs.declared.link_place.LinkPlace.{LinkPlace}
 use Rattle.lease.specs.declared.permit.PermitRecord.{PermitRecord}
 use Rattle.quarantine.specs.OpenTickets.{OpenTickets}
@@ -73,14 +73,24 @@ StateFits state.Quarantined hold = (0 < hold.tickets) × (hold.condemned ≡ fal
 
 -- a link says its node, its incarnation and its place, and its number was given
 pub record LinkFits (v : PoolView) (at : LinkPlace) (link : Link) : Type 0 where
-  pub says : link.details ≡ record { peer = v.peer; incarnation = v.incarnation; link = link.details.link; at = at }
+  pub says : link.details ≡ record {
+    peer = v.peer;
+    incarnation = v.incarnation;
+    link = link.details.link;
+    at = at;
+  }
   pub given : link.details.link < v.next_link
   pub tickets : link.hold.tickets ≤ 65535
   pub state : StateFits link.state link.hold
 
 -- a permit likewise
 pub record PermitFits (v : PoolView) (at : LinkPlace) (permit : PermitRecord) : Type 0 where
-  pub says : permit ≡ record { peer = v.peer; incarnation = v.incarnation; number = permit.number; at = at }
+  pub says : permit ≡ record {
+    peer = v.peer;
+    incarnation = v.incarnation;
+    number = permit.number;
+    at = at;
+  }
   pub given : permit.number < v.next_permit
 
 -- what stands at a place says so
@@ -115,26 +125,45 @@ abbrev pub waiting_claims : ℕ → List Claim → ℕ
 waiting_claims database [] = 0
 waiting_claims database (claim ∷ claims) = waits database (Some claim) + waiting_claims database claims
 
--- links and permits of a database are at most its pool size; as many wait as clients say that they wait; each
--- client may wait
+-- as many wait as clients say that they wait; each client may wait
 abbrev pub HasRoom : List Claim → ℕ → Option DatabasePool → Type 0
 HasRoom claims database None = Unit {0}
-HasRoom claims database (Some pool) = (used pool.places ≤ length pool.places) × (length pool.waiting ≡ waiting_claims database claims) × (pool.room ≡ length claims)
+HasRoom claims database (Some pool) =
+    (length pool.waiting ≡ waiting_claims database claims) × (pool.room ≡ length claims)
 
 -- what is true of every node's pools
 pub record IsPool (v : PoolView) : Type 0 where
   -- what stands at a place says its node, incarnation and place, with a number that was given
   pub fits : (at : LinkPlace) → Fits v at (place_at v at)
   -- a client has a link exactly where that link is held by it
-  pub links : (slot : ℕ) (at : LinkPlace) → has_link at (slice_get v.claims slot) ≡ held_by slot (place_at v at)
+  pub links : (slot : ℕ) (at : LinkPlace)
+      → has_link at (slice_get v.claims slot) ≡ held_by slot (place_at v at)
   -- a client has a permit exactly where its place is kept for it
-  pub permits : (slot : ℕ) (at : LinkPlace) → has_permit at (slice_get v.claims slot) ≡ open_for slot (place_at v at)
+  pub permits : (slot : ℕ) (at : LinkPlace)
+      → has_permit at (slice_get v.claims slot) ≡ open_for slot (place_at v at)
   -- a client waits exactly where it stands in that queue, and it stands there once
-  pub queues : (slot database : ℕ) → waits database (slice_get v.claims slot) ≡ times slot (queue_at v database)
+  pub queues : (slot database : ℕ)
+      → waits database (slice_get v.claims slot) ≡ times slot (queue_at v database)
   -- no two links have one number, and no two permits
-  pub link_once : (at other : LinkPlace) (number : ℕ) → link_number (place_at v at) ≡ Some number → link_number (place_at v other) ≡ Some number → at ≡ other
-  pub permit_once : (at other : LinkPlace) (number : ℕ) → permit_number (place_at v at) ≡ Some number → permit_number (place_at v other) ≡ Some number → at ≡ other
+  pub link_once : (at other : LinkPlace) (number : ℕ) → link_number (place_at v at) ≡ Some number
+      → link_number (place_at v other) ≡ Some number → at ≡ other
+  pub permit_once : (at other : LinkPlace) (number : ℕ) → permit_number (place_at v at) ≡ Some number
+      → permit_number (place_at v other) ≡ Some number → at ≡ other
   -- the numbers that are left
-  pub numbers : (v.next_link ≤ 2 ^ 64) × (v.next_permit ≤ 2 ^ 64) × (v.next_ticket ≤ 2 ^ 64) × (v.incarnation < 2 ^ 64)
-  -- links and permits are at most as many as the pool size, and each client may wait
+  pub numbers : (v.next_link ≤ 2 ^ 64) × (v.next_permit ≤ 2 ^ 64) × (v.next_ticket ≤ 2 ^ 64)
+      × (v.incarnation < 2 ^ 64)
+  -- as many wait as say so, and each client may wait
   pub rooms : (database : ℕ) → HasRoom v.claims database (slice_get v.pools database)
+
+-- how many links and permits a pool has
+abbrev pub used_in : Option DatabasePool → ℕ
+used_in None = 0
+used_in (Some pool) = used pool.places
+
+-- how many places each pool has
+abbrev pub sizes : List DatabasePool → List ℕ
+sizes pools = map (λ pool. length pool.places) pools
+
+-- links and permits of each database are at most its pool size
+abbrev pub WithinSizes : List ℕ → PoolView → Type 0
+WithinSizes sizes v = (database : ℕ) → used_in (slice_get v.pools database) ≤ slice_index sizes database

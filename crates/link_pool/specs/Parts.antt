@@ -1,38 +1,80 @@
 -- What the parts of a step need.
-use Rattle.std.specs.Prelude.{ℕ, ◌≡◌, ◌||◌, Bool, Option, Some, slice_get}
+use Rattle.std.specs.Prelude.{ℕ, ◌≡◌, ◌≢◌, Bool, true, false, List, Option, None, Some, slice_get}
 use Rattle.lease.specs.declared.link_place.LinkPlace.{LinkPlace}
-use Rattle.lease.specs.declared.link_record.LinkRecord.{LinkRecord}
-use Rattle.lease.specs.declared.permit.PermitRecord.{PermitRecord}
+use Rattle.quarantine.specs.OpenTickets.{OpenTickets}
+use Rattle.quarantine.specs.HoldStates.{state_of}
+use Rattle.quarantine.specs.declared.hold.HoldState.{HoldState}
+use Rattle.quarantine.specs.declared.hold.HoldState.TheVariants.{Clear, Waiting, Condemned}
 use Rattle.link_pool.specs.declared.place.Place.{Place}
 use Rattle.link_pool.specs.declared.place.Place.TheVariants as place
 use Rattle.link_pool.specs.declared.place.Claim.TheVariants as claim
 use Rattle.link_pool.specs.declared.place.Link.{Link}
+use Rattle.link_pool.specs.declared.place.LinkState.{LinkState}
 use Rattle.link_pool.specs.declared.place.LinkState.TheVariants as state
-use Rattle.link_pool.specs.Pool.{PoolView, place_at, with_place, with_claim}
-use Rattle.link_pool.specs.OnePlace.{held_by, open_for, LinkFits}
+use Rattle.link_pool.specs.Pool.{PoolView, place_at, with_place, with_claim, in_state}
+use Rattle.link_pool.specs.OnePlace.{LinkFits}
+use Rattle.link_pool.specs.PoolStep.{with_hold}
+use Rattle.link_pool.specs.Streams.{Takes, Puts}
+use Rattle.link_pool.specs.declared.entry.Entry.{Entry}
+use Rattle.link_pool.specs.Entries.{place_of, claim_of}
 
--- whether the client of the slot has the permit or the link of the place
-abbrev pub is_of : ℕ → Option Place → Bool
-is_of slot o = held_by slot o || open_for slot o
+-- whether a client has the link
+abbrev pub is_held : LinkState → Bool
+is_held state.Idle = false
+is_held (state.Held slot) = true
+is_held state.Quarantined = false
 
--- the client of a slot, which has nothing, gets an idle link of the database
-pub record TakesLink (old : PoolView) (slot database : ℕ) (lease : LinkRecord) (new : PoolView) : Type 0 where
-  pub link : Link
-  pub was : place_at old lease.at ≡ Some (place.Link link)
-  pub idle : link.state ≡ state.Idle
-  pub says : link.details ≡ lease
-  pub of : lease.at.database ≡ database
-  pub after : new ≡ with_claim (with_place old lease.at (place.Link (record link { state = state.Held slot }))) slot (claim.Link lease.at)
+-- whether there is such a place, and no stream lies there
+abbrev pub is_bare : Option Place → Bool
+is_bare None = false
+is_bare (Some place.Free) = true
+is_bare (Some (place.Open permit slot)) = true
+is_bare (Some (place.Link link)) = is_held link.state
 
--- a free place of the database is kept for the client of a slot, which has nothing, by a permit with this number
-pub record KeepsPlace (old : PoolView) (slot database number : ℕ) (permit : PermitRecord) (new : PoolView) : Type 0 where
-  pub free : place_at old permit.at ≡ Some place.Free
-  pub of : permit.at.database ≡ database
-  pub says : permit ≡ record { peer = old.peer; incarnation = old.incarnation; number = number; at = permit.at }
-  pub after : new ≡ with_claim (with_place old permit.at (place.Open permit slot)) slot (claim.Open permit.at)
+-- the view with this at a place, and so for the client of a slot
+abbrev pub with_client : {S : Type 0} → PoolView → LinkPlace → ℕ → Entry S → PoolView
+with_client v at slot entry = with_claim (with_place v at (place_of entry)) slot (claim_of at entry)
+
+-- what is stored with an entry is stored at its place, and nothing else
+abbrev pub Stores : {S : Type 0} → LinkPlace → Option S → List (List (Option S)) → List (List (Option S)) → Type 0
+Stores at None old new = new ≡ old
+Stores at (Some stream) old new = Puts at stream old new
+
+-- a stream that leaves its place is taken from there, and nothing else
+abbrev pub Leaves : {S : Type 0} → LinkPlace → Option S → List (List (Option S)) → List (List (Option S)) → Type 0
+Leaves at None old new = new ≡ old
+Leaves at (Some stream) old new = Takes at stream old new
+
+-- the place of a quarantined link, by how it stands by its tickets
+abbrev pub quarantined_place : HoldState → Link → Place
+quarantined_place Clear link = place.Link (in_state state.Idle link)
+quarantined_place (Waiting tickets) link = place.Link link
+quarantined_place Condemned link = place.Free
+
+-- the place of a link that has these tickets from now on
+abbrev pub settled_link : LinkState → OpenTickets → Link → Place
+settled_link state.Idle hold link = place.Link link
+settled_link (state.Held slot) hold link = place.Link (with_hold link hold)
+settled_link state.Quarantined hold link = quarantined_place (state_of hold) (with_hold link hold)
+
+abbrev pub settled_place : OpenTickets → Place → Place
+settled_place hold place.Free = place.Free
+settled_place hold (place.Open permit slot) = place.Open permit slot
+settled_place hold (place.Link link) = settled_link link.state hold link
+
+-- whether a link with these tickets leaves its place
+abbrev pub is_leaving_in : LinkState → OpenTickets → Bool
+is_leaving_in state.Idle hold = false
+is_leaving_in (state.Held slot) hold = false
+is_leaving_in state.Quarantined hold = hold.condemned
+
+abbrev pub is_leaving : OpenTickets → Place → Bool
+is_leaving hold place.Free = false
+is_leaving hold (place.Open permit slot) = false
+is_leaving hold (place.Link link) = is_leaving_in link.state hold
 
 -- the link that the client of a slot has, at its place
-pub record IsLent (v : PoolView) (slot : ℕ) (at : LinkPlace) (link : Link) : Type 0 where
+pub record IsLent (slot : ℕ) (at : LinkPlace) (link : Link) (v : PoolView) : Type 0 where
   pub claimed : slice_get v.claims slot ≡ Some (claim.Link at)
   pub there : place_at v at ≡ Some (place.Link link)
   pub held : link.state ≡ state.Held slot

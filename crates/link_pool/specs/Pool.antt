@@ -2,6 +2,10 @@
 use Rattle.std.specs.Prelude.{ℕ, zero, suc, ◌==◌, ◌++◌, List, [], ◌∷◌, Option, Some, None, slice_get, slice_set, if◌then◌else◌}
 use Rattle.lease.specs.declared.link_place.LinkPlace.{LinkPlace}
 use Rattle.link_pool.specs.declared.place.Place.{Place}
+use Rattle.link_pool.specs.declared.place.Place.TheVariants as place
+use Rattle.link_pool.specs.declared.place.Link.{Link}
+use Rattle.link_pool.specs.declared.place.LinkState.{LinkState}
+use Rattle.link_pool.specs.declared.place.LinkState.TheVariants as state
 use Rattle.link_pool.specs.declared.place.Claim.{Claim}
 use Rattle.link_pool.specs.declared.place.Claim.TheVariants as claim
 
@@ -41,34 +45,60 @@ queue_in (Some pool) = pool.waiting
 abbrev pub queue_at : PoolView → ℕ → List ℕ
 queue_at v database = queue_in (slice_get v.pools database)
 
--- the pools with the one of this database changed
-abbrev pub changed : List DatabasePool → ℕ → (DatabasePool → DatabasePool) → List DatabasePool
+-- the list with the entry of this database changed
+abbrev pub changed : {X : Type 0} → List X → ℕ → (X → X) → List X
 changed [] database change = []
-changed (pool ∷ pools) zero change = change pool ∷ pools
-changed (pool ∷ pools) (suc database) change = pool ∷ changed pools database change
+changed (x ∷ xs) zero change = change x ∷ xs
+changed (x ∷ xs) (suc database) change = x ∷ changed xs database change
+
+-- the pool with this at a place
+abbrev pub at_place : DatabasePool → ℕ → Place → DatabasePool
+at_place pool index place = record pool { places = slice_set pool.places index place }
 
 -- the view with this at this place
 abbrev pub with_place : PoolView → LinkPlace → Place → PoolView
-with_place v at place = record v { pools = changed v.pools at.database (λ pool. record pool { places = slice_set pool.places at.index place }) }
+with_place v at place = record v {
+  pools = changed v.pools at.database (λ pool. at_place pool at.index place);
+}
 
 -- the view with this queue for the database
 abbrev pub with_queue : PoolView → ℕ → (List ℕ → List ℕ) → PoolView
-with_queue v database change = record v { pools = changed v.pools database (λ pool. record pool { waiting = change pool.waiting }) }
+with_queue v database change = record v {
+  pools = changed v.pools database (λ pool. record pool { waiting = change pool.waiting });
+}
 
 -- the view with this for the client of the slot
 abbrev pub with_claim : PoolView → ℕ → Claim → PoolView
 with_claim v slot claim = record v { claims = slice_set v.claims slot claim }
+
+-- the link in this state
+abbrev pub in_state : LinkState → Link → Link
+in_state state link = record link { state = state }
+
+-- the client of the slot gets the link of a place
+abbrev pub lend : PoolView → LinkPlace → ℕ → Link → PoolView
+lend v at slot link =
+    with_claim (with_place v at (place.Link (in_state (state.Held slot) link))) slot (claim.Link at)
+
+-- the client of the slot no longer has the place, which is this from now on
+abbrev pub give_back : PoolView → LinkPlace → ℕ → Place → PoolView
+give_back v at slot place = with_claim (with_place v at place) slot claim.Nothing
 
 -- the others that wait, in order
 abbrev pub others : ℕ → List ℕ → List ℕ
 others slot [] = []
 others slot (first ∷ rest) = if first == slot then rest else first ∷ others slot rest
 
+-- the slots that wait, and this one last
+abbrev pub behind : ℕ → List ℕ → List ℕ
+behind slot waiting = waiting ++ slot ∷ []
+
 -- the view with the slot out of the queue, by what its client has
 abbrev pub out_of_queue : Option Claim → PoolView → ℕ → PoolView
 out_of_queue None v slot = v
 out_of_queue (Some claim.Nothing) v slot = v
-out_of_queue (Some (claim.Waiting database)) v slot = with_claim (with_queue v database (others slot)) slot claim.Nothing
+out_of_queue (Some (claim.Waiting database)) v slot =
+    with_claim (with_queue v database (others slot)) slot claim.Nothing
 out_of_queue (Some (claim.Open at)) v slot = v
 out_of_queue (Some (claim.Link at)) v slot = v
 
@@ -80,7 +110,8 @@ unqueued v slot = out_of_queue (slice_get v.claims slot) v slot
 abbrev pub in_queue : Option Claim → PoolView → ℕ → ℕ → PoolView
 in_queue (Some (claim.Waiting already)) v slot database = v
 in_queue None v slot database = v
-in_queue (Some claim.Nothing) v slot database = with_claim (with_queue v database (λ waiting. waiting ++ slot ∷ [])) slot (claim.Waiting database)
+in_queue (Some claim.Nothing) v slot database =
+    with_claim (with_queue v database (behind slot)) slot (claim.Waiting database)
 in_queue (Some (claim.Open at)) v slot database = v
 in_queue (Some (claim.Link at)) v slot database = v
 

@@ -1,6 +1,6 @@
 -- The steps of a node's pools (own; PgBouncer manual, transaction pooling): which reply a call may get, and
--- what it leaves. Free is which idle link is got, and which free place is kept.
-use Rattle.std.specs.Prelude.{ℕ, ◌≡◌, ◌≢◌, ◌==◌, ◌+◌, ◌-◌, ◌<◌, ◌^◌, Bool, true, false, List, [], ◌∷◌, Option, Some, None, ◌⊎◌, length, slice_get, replicate}
+-- what it leaves. Free is which idle link is got, and nothing else.
+use Rattle.std.specs.Prelude.{ℕ, ◌≡◌, ◌≢◌, ◌==◌, ◌+◌, ◌-◌, ◌<◌, ◌^◌, Bool, true, false, List, [], ◌∷◌, Option, Some, None, ◌⊎◌, length, map, slice_get, replicate}
 use Rattle.lease.specs.declared.link_place.LinkPlace.{LinkPlace}
 use Rattle.lease.specs.declared.link_record.LinkRecord.{LinkRecord}
 use Rattle.lease.specs.declared.permit.PermitRecord.{PermitRecord}
@@ -33,7 +33,7 @@ use Rattle.link_pool.specs.declared.replies.FailedReply.{FailedReply}
 use Rattle.link_pool.specs.declared.replies.FailedReply.TheVariants as failed
 use Rattle.link_pool.specs.declared.replies.RestartReply.{RestartReply}
 use Rattle.link_pool.specs.declared.replies.RestartReply.TheVariants as restart
-use Rattle.link_pool.specs.Pool.{DatabasePool, PoolView, place_at, queue_at, with_place, with_claim, unqueued, queued}
+use Rattle.link_pool.specs.Pool.{DatabasePool, PoolView, place_at, queue_at, with_place, with_claim, in_state, lend, give_back, unqueued, queued}
 
 -- whether a client has a link or a permit
 abbrev pub is_holding : Option Claim → Bool
@@ -61,156 +61,225 @@ is_idle (Some place.Free) = false
 is_idle (Some (place.Open permit slot)) = false
 is_idle (Some (place.Link link)) = is_idle_state link.state
 
+-- the place of the database with this index
+abbrev pub nth_of : ℕ → ℕ → LinkPlace
+nth_of database index = record { database = database; index = index }
+
 -- no link of the database is idle
-abbrev pub NoIdle : PoolView → ℕ → Type 0
-NoIdle v database = (index : ℕ) → is_idle (place_at v record { database = database; index = index }) ≡ false
+abbrev pub NoIdle : ℕ → PoolView → Type 0
+NoIdle database v = (index : ℕ) → is_idle (place_at v (nth_of database index)) ≡ false
 
 -- a place of the database is free
-abbrev pub SomeFree : PoolView → ℕ → Type 0
-SomeFree v database = (index : ℕ) × (place_at v record { database = database; index = index } ≡ Some place.Free)
+abbrev pub SomeFree : ℕ → PoolView → Type 0
+SomeFree database v = (index : ℕ) × (place_at v (nth_of database index) ≡ Some place.Free)
 
 -- no place of the database is free
-abbrev pub NoneFree : PoolView → ℕ → Type 0
-NoneFree v database = (index : ℕ) → place_at v record { database = database; index = index } ≢ Some place.Free
+abbrev pub NoneFree : ℕ → PoolView → Type 0
+NoneFree database v = (index : ℕ) → place_at v (nth_of database index) ≢ Some place.Free
 
--- the client has nothing, or waits; and whether others wait before it
-abbrev pub MayTake : PoolView → ℕ → ℕ → Bool → Type 0
-MayTake v slot database first = (is_holding (slice_get v.claims slot) ≡ false) × (is_first slot (queue_at v database) ≡ first)
+-- the place is free, and no lower one of its database is
+pub record IsLowestFree (v : PoolView) (at : LinkPlace) : Type 0 where
+  pub free : place_at v at ≡ Some place.Free
+  pub lowest : (index : ℕ) → index < at.index → place_at v (nth_of at.database index) ≢ Some place.Free
+
+-- the client has nothing, or waits; and whether nobody waits before it
+abbrev pub MayTake : ℕ → ℕ → Bool → PoolView → Type 0
+MayTake slot database first v =
+    (is_holding (slice_get v.claims slot) ≡ false) × (is_first slot (queue_at v database) ≡ first)
 
 -- the client of the slot gets an idle link of the database
-pub record Gets (old : PoolView) (slot database : ℕ) (lease : LinkRecord) (new : PoolView) : Type 0 where
+pub record Gets (slot database : ℕ) (lease : LinkRecord) (old new : PoolView) : Type 0 where
   pub link : Link
   pub was : place_at old lease.at ≡ Some (place.Link link)
   pub idle : link.state ≡ state.Idle
   pub says : link.details ≡ lease
   pub of : lease.at.database ≡ database
-  pub after : new ≡ with_claim (with_place (unqueued old slot) lease.at (place.Link (record link { state = state.Held slot }))) slot (claim.Link lease.at)
+  pub after : new ≡ lend (unqueued old slot) lease.at slot link
 
--- the client of the slot may open a link at a free place of the database
-pub record MayOpen (old : PoolView) (slot database : ℕ) (permit : PermitRecord) (new : PoolView) : Type 0 where
-  pub free : place_at old permit.at ≡ Some place.Free
+-- the client of the slot may open a link at the lowest free place of the database
+pub record MayOpen (slot database : ℕ) (permit : PermitRecord) (old new : PoolView) : Type 0 where
+  pub at : IsLowestFree old permit.at
   pub of : permit.at.database ≡ database
   pub left : old.next_permit < 2 ^ 64
-  pub says : permit ≡ record { peer = old.peer; incarnation = old.incarnation; number = old.next_permit; at = permit.at }
-  pub after : new ≡ record (with_claim (with_place (unqueued old slot) permit.at (place.Open permit slot)) slot (claim.Open permit.at)) { next_permit = old.next_permit + 1 }
+  pub says : permit ≡ record {
+    peer = old.peer;
+    incarnation = old.incarnation;
+    number = old.next_permit;
+    at = permit.at;
+  }
+  pub after : new ≡ record
+      (with_claim (with_place (unqueued old slot) permit.at (place.Open permit slot)) slot (claim.Open permit.at))
+      { next_permit = old.next_permit + 1 }
 
 -- asking for a link
-abbrev pub AcquireStep : PoolView → ℕ → ℕ → AcquireReply LinkRecord PermitRecord → PoolView → Type 0
-AcquireStep old slot database (acquire.Got lease) new = MayTake old slot database true × Gets old slot database lease new
-AcquireStep old slot database (acquire.Open permit) new = MayTake old slot database true × NoIdle old database × MayOpen old slot database permit new
--- none is idle and a place is free, or it would have to wait; or somebody waits before it
-AcquireStep old slot database acquire.Waiting new =
-    (is_holding (slice_get old.claims slot) ≡ false) × ((is_first slot (queue_at old database) ≡ false) ⊎ (NoIdle old database × NoneFree old database)) × (new ≡ queued old slot database)
-AcquireStep old slot database acquire.Holding new = (is_holding (slice_get old.claims slot) ≡ true) × (new ≡ old)
+abbrev pub AcquireStep : ℕ → ℕ → AcquireReply LinkRecord PermitRecord → PoolView → PoolView → Type 0
+AcquireStep slot database (acquire.Got lease) old new =
+    MayTake slot database true old × Gets slot database lease old new
+AcquireStep slot database (acquire.Open permit) old new =
+    MayTake slot database true old × NoIdle database old × MayOpen slot database permit old new
+-- none is idle and none can be opened, or somebody waits before it
+AcquireStep slot database acquire.Waiting old new =
+    (is_holding (slice_get old.claims slot) ≡ false)
+    × ((is_first slot (queue_at old database) ≡ false) ⊎ (NoIdle database old × NoneFree database old))
+    × (new ≡ queued old slot database)
+AcquireStep slot database acquire.Holding old new =
+    (is_holding (slice_get old.claims slot) ≡ true) × (new ≡ old)
 -- the step would need a number past the last
-AcquireStep old slot database acquire.Exhausted new = MayTake old slot database true × NoIdle old database × SomeFree old database × (old.next_permit ≡ 2 ^ 64) × (new ≡ old)
+AcquireStep slot database acquire.Exhausted old new =
+    MayTake slot database true old × NoIdle database old × SomeFree database old
+    × (old.next_permit ≡ 2 ^ 64) × (new ≡ old)
 -- its pass is judged by the node
-AcquireStep old slot database acquire.Stale new = ⊥
+AcquireStep slot database acquire.Stale old new = ⊥
 
 -- the place that a permit names is kept for this very permit, and for the client of this slot
-abbrev pub IsOpen : PoolView → PermitRecord → ℕ → Type 0
-IsOpen v permit slot = place_at v permit.at ≡ Some (place.Open permit slot)
+abbrev pub IsOpen : PermitRecord → ℕ → PoolView → Type 0
+IsOpen permit slot v = place_at v permit.at ≡ Some (place.Open permit slot)
 
 -- no place is kept for the permit
-abbrev pub StalePermit : PoolView → PermitRecord → Type 0
-StalePermit v permit = (slot : ℕ) → place_at v permit.at ≢ Some (place.Open permit slot)
+abbrev pub StalePermit : PermitRecord → PoolView → Type 0
+StalePermit permit v = (slot : ℕ) → place_at v permit.at ≢ Some (place.Open permit slot)
+
+-- the tickets of a new link
+abbrev pub new_hold : OpenTickets
+new_hold = record { tickets = 0; condemned = false }
+
+-- a new link, with this key
+abbrev pub new_link : LinkRecord → List ℕ → Link
+new_link lease key = record { details = lease; key = key; state = state.Idle; hold = new_hold }
 
 -- a link at the permit's place, with the client of the slot
-pub record GoesUp (old : PoolView) (permit : PermitRecord) (key : List ℕ) (lease : LinkRecord) (new : PoolView) : Type 0 where
+pub record GoesUp (permit : PermitRecord) (key : List ℕ) (lease : LinkRecord) (old new : PoolView) : Type 0 where
   pub slot : ℕ
-  pub kept : IsOpen old permit slot
+  pub kept : IsOpen permit slot old
   pub left : old.next_link < 2 ^ 64
-  pub says : lease ≡ record { peer = old.peer; incarnation = old.incarnation; link = old.next_link; at = permit.at }
-  pub after : new ≡ record (with_claim (with_place old permit.at (place.Link record { details = lease; key = key; state = state.Held slot; hold = record { tickets = 0; condemned = false } })) slot (claim.Link permit.at)) { next_link = old.next_link + 1 }
+  pub says : lease ≡ record {
+    peer = old.peer;
+    incarnation = old.incarnation;
+    link = old.next_link;
+    at = permit.at;
+  }
+  pub after : new ≡ record (lend old permit.at slot (new_link lease key)) { next_link = old.next_link + 1 }
 
 -- a link is open
-abbrev pub UpStep : {S : Type 0} → PoolView → PermitRecord → List ℕ → UpReply LinkRecord PermitRecord S → PoolView → Type 0
-UpStep old permit key (up.Up lease) new = GoesUp old permit key lease new
-UpStep old permit key (up.Exhausted again stream) new = (again ≡ permit) × ((slot : ℕ) × IsOpen old permit slot) × (old.next_link ≡ 2 ^ 64) × (new ≡ old)
-UpStep old permit key (up.Stale stream) new = StalePermit old permit × (new ≡ old)
+abbrev pub UpStep : {S : Type 0} → PermitRecord → List ℕ → UpReply LinkRecord PermitRecord S → PoolView → PoolView → Type 0
+UpStep permit key (up.Up lease) old new = GoesUp permit key lease old new
+UpStep permit key (up.Exhausted again stream) old new =
+    (again ≡ permit) × ((slot : ℕ) × IsOpen permit slot old) × (old.next_link ≡ 2 ^ 64) × (new ≡ old)
+UpStep permit key (up.Stale stream) old new = StalePermit permit old × (new ≡ old)
 -- the pools come to no end
-UpStep old permit key (up.AtEnd stream) new = ⊥
+UpStep permit key (up.AtEnd stream) old new = ⊥
 
 -- a link couldn't be opened
-abbrev pub UpFailedStep : PoolView → PermitRecord → UpFailedReply → PoolView → Type 0
-UpFailedStep old permit failing.Freed new = (slot : ℕ) × IsOpen old permit slot × (new ≡ with_claim (with_place old permit.at place.Free) slot claim.Nothing)
-UpFailedStep old permit failing.Stale new = StalePermit old permit × (new ≡ old)
+abbrev pub UpFailedStep : PermitRecord → UpFailedReply → PoolView → PoolView → Type 0
+UpFailedStep permit failing.Freed old new =
+    (slot : ℕ) × IsOpen permit slot old × (new ≡ give_back old permit.at slot place.Free)
+UpFailedStep permit failing.Stale old new = StalePermit permit old × (new ≡ old)
 -- no number is needed
-UpFailedStep old permit failing.Exhausted new = ⊥
+UpFailedStep permit failing.Exhausted old new = ⊥
 
 -- the link that a lease names is at its place, and with the client of this slot
-pub record IsHeld (v : PoolView) (lease : LinkRecord) (link : Link) (slot : ℕ) : Type 0 where
+pub record IsHeld (lease : LinkRecord) (link : Link) (slot : ℕ) (v : PoolView) : Type 0 where
   pub at : place_at v lease.at ≡ Some (place.Link link)
   pub says : link.details ≡ lease
   pub held : link.state ≡ state.Held slot
 
 -- no held link is the lease's
-abbrev pub StaleLease : PoolView → LinkRecord → Type 0
-StaleLease v lease = (link : Link) (slot : ℕ) → IsHeld v lease link slot → ⊥
+abbrev pub StaleLease : LinkRecord → PoolView → Type 0
+StaleLease lease v = (link : Link) (slot : ℕ) → IsHeld lease link slot v → ⊥
 
 -- a link is given back
-abbrev pub ReleaseStep : {S : Type 0} → PoolView → LinkRecord → ReleaseReply S → PoolView → Type 0
-ReleaseStep old lease release.Idle new = (link : Link) × (slot : ℕ) × IsHeld old lease link slot × (link.hold.condemned ≡ false) × (link.hold.tickets ≡ 0)
-    × (new ≡ with_claim (with_place old lease.at (place.Link (record link { state = state.Idle }))) slot claim.Nothing)
-ReleaseStep old lease release.Quarantined new = (link : Link) × (slot : ℕ) × IsHeld old lease link slot × (link.hold.condemned ≡ false) × (0 < link.hold.tickets)
-    × (new ≡ with_claim (with_place old lease.at (place.Link (record link { state = state.Quarantined }))) slot claim.Nothing)
-ReleaseStep old lease (release.Closed stream) new = (link : Link) × (slot : ℕ) × IsHeld old lease link slot × (link.hold.condemned ≡ true)
-    × (new ≡ with_claim (with_place old lease.at place.Free) slot claim.Nothing)
-ReleaseStep old lease (release.Stale stream) new = StaleLease old lease × (new ≡ old)
+abbrev pub ReleaseStep : {S : Type 0} → LinkRecord → ReleaseReply S → PoolView → PoolView → Type 0
+ReleaseStep lease release.Idle old new =
+    (link : Link) × (slot : ℕ) × IsHeld lease link slot old
+    × (link.hold.condemned ≡ false) × (link.hold.tickets ≡ 0)
+    × (new ≡ give_back old lease.at slot (place.Link (in_state state.Idle link)))
+ReleaseStep lease release.Quarantined old new =
+    (link : Link) × (slot : ℕ) × IsHeld lease link slot old
+    × (link.hold.condemned ≡ false) × (0 < link.hold.tickets)
+    × (new ≡ give_back old lease.at slot (place.Link (in_state state.Quarantined link)))
+ReleaseStep lease (release.Closed stream) old new =
+    (link : Link) × (slot : ℕ) × IsHeld lease link slot old × (link.hold.condemned ≡ true)
+    × (new ≡ give_back old lease.at slot place.Free)
+ReleaseStep lease (release.Stale stream) old new = StaleLease lease old × (new ≡ old)
 -- no number is needed
-ReleaseStep old lease (release.Exhausted stream) new = ⊥
+ReleaseStep lease (release.Exhausted stream) old new = ⊥
 
 -- a link is closed
-abbrev pub CloseStep : {S : Type 0} → PoolView → LinkRecord → CloseReply S → PoolView → Type 0
-CloseStep old lease (close.Closed stream) new = (link : Link) × (slot : ℕ) × IsHeld old lease link slot × (new ≡ with_claim (with_place old lease.at place.Free) slot claim.Nothing)
-CloseStep old lease (close.Stale stream) new = StaleLease old lease × (new ≡ old)
+abbrev pub CloseStep : {S : Type 0} → LinkRecord → CloseReply S → PoolView → PoolView → Type 0
+CloseStep lease (close.Closed stream) old new =
+    (link : Link) × (slot : ℕ) × IsHeld lease link slot old × (new ≡ give_back old lease.at slot place.Free)
+CloseStep lease (close.Stale stream) old new = StaleLease lease old × (new ≡ old)
 -- no number is needed
-CloseStep old lease (close.Exhausted stream) new = ⊥
+CloseStep lease (close.Exhausted stream) old new = ⊥
 
 -- the client of a slot leaves
-abbrev pub LeaveStep : PoolView → ℕ → LeaveReply → PoolView → Type 0
-LeaveStep old slot leave.Left new = (is_holding (slice_get old.claims slot) ≡ false) × (new ≡ unqueued old slot)
-LeaveStep old slot leave.Holding new = (is_holding (slice_get old.claims slot) ≡ true) × (new ≡ old)
+abbrev pub LeaveStep : ℕ → LeaveReply → PoolView → PoolView → Type 0
+LeaveStep slot leave.Left old new =
+    (is_holding (slice_get old.claims slot) ≡ false) × (new ≡ unqueued old slot)
+LeaveStep slot leave.Holding old new =
+    (is_holding (slice_get old.claims slot) ≡ true) × (new ≡ old)
 
 -- a link with these tickets
 abbrev pub with_hold : Link → OpenTickets → Link
 with_hold link hold = record link { hold = hold }
 
 -- the link that the client of the slot has
-abbrev pub HasLink : PoolView → ℕ → LinkPlace → Link → Type 0
-HasLink v slot at link = (slice_get v.claims slot ≡ Some (claim.Link at)) × (place_at v at ≡ Some (place.Link link))
+abbrev pub HasLink : ℕ → LinkPlace → Link → PoolView → Type 0
+HasLink slot at link v =
+    (slice_get v.claims slot ≡ Some (claim.Link at)) × (place_at v at ≡ Some (place.Link link))
+
+-- a link's tickets, once one more is open
+abbrev pub one_more : OpenTickets → OpenTickets
+one_more hold = record hold { tickets = hold.tickets + 1 }
 
 -- one more ticket is open, of the very link that the client has
-pub record Serves (old : PoolView) (slot : ℕ) (ticket : TicketRecord) (database : ℕ) (key : List ℕ) (new : PoolView) : Type 0 where
+pub record Serves (slot : ℕ) (ticket : TicketRecord) (database : ℕ) (key : List ℕ) (old new : PoolView) : Type 0 where
   pub at : LinkPlace
   pub link : Link
-  pub has : HasLink old slot at link
+  pub has : HasLink slot at link old
   pub few : link.hold.tickets < 65535
   pub left : old.next_ticket < 2 ^ 64
-  pub says : ticket ≡ record { peer = old.peer; incarnation = old.incarnation; number = old.next_ticket; link = link.details.link; at = at }
+  pub says : ticket ≡ record {
+    peer = old.peer;
+    incarnation = old.incarnation;
+    number = old.next_ticket;
+    link = link.details.link;
+    at = at;
+  }
   pub of : (database ≡ at.database) × (key ≡ link.key)
-  pub after : new ≡ record (with_place old at (place.Link (with_hold link (record link.hold { tickets = link.hold.tickets + 1 })))) { next_ticket = old.next_ticket + 1 }
+  pub after : new ≡ record (with_place old at (place.Link (with_hold link (one_more link.hold))))
+      { next_ticket = old.next_ticket + 1 }
 
 -- a cancel request for the client of a slot
-abbrev pub ServeStep : PoolView → ℕ → ServeReply TicketRecord → PoolView → Type 0
-ServeStep old slot (serve.Serve ticket database key) new = Serves old slot ticket database key new
-ServeStep old slot serve.NoLink new = ((at : LinkPlace) → slice_get old.claims slot ≢ Some (claim.Link at)) × (new ≡ old)
-ServeStep old slot serve.Busy new = ((at : LinkPlace) × (link : Link) × HasLink old slot at link × (link.hold.tickets ≡ 65535)) × (new ≡ old)
-ServeStep old slot serve.Exhausted new = ((at : LinkPlace) × (link : Link) × HasLink old slot at link × (link.hold.tickets < 65535)) × (old.next_ticket ≡ 2 ^ 64) × (new ≡ old)
+abbrev pub ServeStep : ℕ → ServeReply TicketRecord → PoolView → PoolView → Type 0
+ServeStep slot (serve.Serve ticket database key) old new = Serves slot ticket database key old new
+ServeStep slot serve.NoLink old new =
+    ((at : LinkPlace) → slice_get old.claims slot ≢ Some (claim.Link at)) × (new ≡ old)
+ServeStep slot serve.Busy old new =
+    ((at : LinkPlace) × (link : Link) × HasLink slot at link old × (link.hold.tickets ≡ 65535))
+    × (new ≡ old)
+ServeStep slot serve.Exhausted old new =
+    ((at : LinkPlace) × (link : Link) × HasLink slot at link old × (link.hold.tickets < 65535))
+    × (old.next_ticket ≡ 2 ^ 64) × (new ≡ old)
 
 -- what the link of a ticket says
 abbrev pub link_of : TicketRecord → LinkRecord
-link_of ticket = record { peer = ticket.peer; incarnation = ticket.incarnation; link = ticket.link; at = ticket.at }
+link_of ticket = record {
+  peer = ticket.peer;
+  incarnation = ticket.incarnation;
+  link = ticket.link;
+  at = ticket.at;
+}
 
 -- a ticket's link is at its place, and has an open ticket
-pub record IsTicket (v : PoolView) (ticket : TicketRecord) (link : Link) : Type 0 where
+pub record IsTicket (ticket : TicketRecord) (link : Link) (v : PoolView) : Type 0 where
   pub at : place_at v ticket.at ≡ Some (place.Link link)
   pub says : link.details ≡ link_of ticket
   pub some : 0 < link.hold.tickets
 
 -- no link with an open ticket is the ticket's
-abbrev pub StaleTicket : PoolView → TicketRecord → Type 0
-StaleTicket v ticket = (link : Link) → IsTicket v ticket link → ⊥
+abbrev pub StaleTicket : TicketRecord → PoolView → Type 0
+StaleTicket ticket v = (link : Link) → IsTicket ticket link v → ⊥
 
 -- a link's tickets, once one has ended cleanly, and once one has failed
 abbrev pub one_less : OpenTickets → OpenTickets
@@ -220,39 +289,58 @@ abbrev pub one_failed : OpenTickets → OpenTickets
 one_failed hold = record { tickets = hold.tickets - 1; condemned = true }
 
 -- a cancel request has ended cleanly
-abbrev pub EndedStep : PoolView → TicketRecord → EndedReply → PoolView → Type 0
-EndedStep old ticket ended.Freed new = (link : Link) × IsTicket old ticket link × (link.state ≡ state.Quarantined) × (link.hold.tickets ≡ 1)
-    × (new ≡ with_place old ticket.at (place.Link (record (with_hold link (one_less link.hold)) { state = state.Idle })))
-EndedStep old ticket ended.Counted new = (link : Link) × IsTicket old ticket link × ((link.state ≢ state.Quarantined) ⊎ (1 < link.hold.tickets))
+abbrev pub EndedStep : TicketRecord → EndedReply → PoolView → PoolView → Type 0
+EndedStep ticket ended.Freed old new =
+    (link : Link) × IsTicket ticket link old × (link.state ≡ state.Quarantined) × (link.hold.tickets ≡ 1)
+    × (new ≡ with_place old ticket.at (place.Link (in_state state.Idle (with_hold link (one_less link.hold)))))
+EndedStep ticket ended.Counted old new =
+    (link : Link) × IsTicket ticket link old × ((link.state ≢ state.Quarantined) ⊎ (1 < link.hold.tickets))
     × (new ≡ with_place old ticket.at (place.Link (with_hold link (one_less link.hold))))
-EndedStep old ticket ended.Stale new = StaleTicket old ticket × (new ≡ old)
+EndedStep ticket ended.Stale old new = StaleTicket ticket old × (new ≡ old)
 -- no number is needed
-EndedStep old ticket ended.Exhausted new = ⊥
+EndedStep ticket ended.Exhausted old new = ⊥
 
 -- a cancel request hasn't ended cleanly
-abbrev pub FailedStep : {S : Type 0} → PoolView → TicketRecord → FailedReply S → PoolView → Type 0
-FailedStep old ticket failed.Condemned new = (link : Link) × (slot : ℕ) × IsTicket old ticket link × (link.state ≡ state.Held slot)
+abbrev pub FailedStep : {S : Type 0} → TicketRecord → FailedReply S → PoolView → PoolView → Type 0
+FailedStep ticket failed.Condemned old new =
+    (link : Link) × (slot : ℕ) × IsTicket ticket link old × (link.state ≡ state.Held slot)
     × (new ≡ with_place old ticket.at (place.Link (with_hold link (one_failed link.hold))))
-FailedStep old ticket (failed.Closed stream) new = (link : Link) × IsTicket old ticket link × (link.state ≡ state.Quarantined) × (new ≡ with_place old ticket.at place.Free)
-FailedStep old ticket failed.Stale new = StaleTicket old ticket × (new ≡ old)
+FailedStep ticket (failed.Closed stream) old new =
+    (link : Link) × IsTicket ticket link old × (link.state ≡ state.Quarantined)
+    × (new ≡ with_place old ticket.at place.Free)
+FailedStep ticket failed.Stale old new = StaleTicket ticket old × (new ≡ old)
 -- no number is needed
-FailedStep old ticket failed.Exhausted new = ⊥
+FailedStep ticket failed.Exhausted old new = ⊥
 
--- pools in which nothing is, and for which nobody waits
+-- a pool of this size with nothing at any place, for which nobody waits, and so many may
+abbrev pub empty_pool : ℕ → ℕ → DatabasePool
+empty_pool size room = record { places = replicate size place.Free; waiting = []; room = room }
+
+-- the pools with nothing at any place, and nobody who waits
 abbrev pub emptied : List DatabasePool → List DatabasePool
-emptied [] = []
-emptied (pool ∷ pools) = record pool { places = replicate (length pool.places) place.Free; waiting = [] } ∷ emptied pools
+emptied pools = map (λ pool. empty_pool (length pool.places) pool.room) pools
 
 -- a new start: the next incarnation, in which nothing is open; numbers aren't set back
-abbrev pub RestartStep : PoolView → RestartReply → PoolView → Type 0
-RestartStep old restart.Restarted new = new ≡ record old { incarnation = old.incarnation + 1; pools = emptied old.pools; claims = replicate (length old.claims) claim.Nothing } × (old.incarnation + 1 < 2 ^ 64)
-RestartStep old restart.Exhausted new = (old.incarnation + 1 ≡ 2 ^ 64) × (new ≡ old)
+abbrev pub RestartStep : RestartReply → PoolView → PoolView → Type 0
+RestartStep restart.Restarted old new = (new ≡ record old {
+  incarnation = old.incarnation + 1;
+  pools = emptied old.pools;
+  claims = replicate (length old.claims) claim.Nothing;
+}) × (old.incarnation + 1 < 2 ^ 64)
+RestartStep restart.Exhausted old new = (old.incarnation + 1 ≡ 2 ^ 64) × (new ≡ old)
 
 -- the pools of these sizes
 abbrev pub empty_pools : List ℕ → ℕ → List DatabasePool
-empty_pools [] slots = []
-empty_pools (size ∷ sizes) slots = record { places = replicate size place.Free; waiting = []; room = slots } ∷ empty_pools sizes slots
+empty_pools sizes slots = map (λ size. empty_pool size slots) sizes
 
 -- the pools of a node that was just made
 abbrev pub fresh : ℕ → List ℕ → ℕ → PoolView
-fresh peer sizes slots = record { peer = peer; incarnation = 0; pools = empty_pools sizes slots; claims = replicate slots claim.Nothing; next_link = 0; next_permit = 0; next_ticket = 0 }
+fresh peer sizes slots = record {
+  peer = peer;
+  incarnation = 0;
+  pools = empty_pools sizes slots;
+  claims = replicate slots claim.Nothing;
+  next_link = 0;
+  next_permit = 0;
+  next_ticket = 0;
+}

@@ -1,6 +1,5 @@
 -- What is told of an answer once its values are in a client's hands: what a lease or a permit says, and of a stream
 -- nothing (own).
-use Rattle.std.specs.Prelude.{◌≡◌}
 use Rattle.lease.specs.LinkValue.{LinkValue}
 use Rattle.lease.specs.declared.link_record.LinkRecord.{LinkRecord}
 use Rattle.lease.specs.declared.permit.PermitRecord.{PermitRecord}
@@ -16,7 +15,8 @@ use Rattle.link_pool.specs.declared.replies.FailedReply.{FailedReply}
 use Rattle.link_pool.specs.declared.replies.FailedReply.TheVariants as failed
 
 -- asking for a link
-abbrev pub acquire_said : {S : Type 0} → AcquireReply (LinkValue S) PermitRecord → AcquireReply LinkRecord PermitRecord
+abbrev pub acquire_said : {S : Type 0}
+    → AcquireReply (LinkValue S) PermitRecord → AcquireReply LinkRecord PermitRecord
 acquire_said (acquire.Got lease) = acquire.Got lease.details
 acquire_said (acquire.Open permit) = acquire.Open permit
 acquire_said acquire.Waiting = acquire.Waiting
@@ -25,7 +25,8 @@ acquire_said acquire.Exhausted = acquire.Exhausted
 acquire_said acquire.Stale = acquire.Stale
 
 -- a link is open
-abbrev pub up_said : {S : Type 0} → UpReply (LinkValue S) PermitRecord S → UpReply LinkRecord PermitRecord (Unit {0})
+abbrev pub up_said : {S : Type 0}
+    → UpReply (LinkValue S) PermitRecord S → UpReply LinkRecord PermitRecord (Unit {0})
 up_said (up.Up lease) = up.Up lease.details
 up_said (up.Exhausted permit stream) = up.Exhausted permit tt
 up_said (up.Stale stream) = up.Stale tt
@@ -51,24 +52,3 @@ failed_said failed.Condemned = failed.Condemned
 failed_said (failed.Closed stream) = failed.Closed tt
 failed_said failed.Stale = failed.Stale
 failed_said failed.Exhausted = failed.Exhausted
-
--- the stream that closing a link hands back
-abbrev pub closed_stream : {S : Type 0} → CloseReply S → S
-closed_stream (close.Closed stream) = stream
-closed_stream (close.Stale stream) = stream
-closed_stream (close.Exhausted stream) = stream
-
--- a stream that is handed back is the lease's
-abbrev pub FromLease : {S : Type 0} → S → ReleaseReply S → Type 0
-FromLease own release.Idle = Unit {0}
-FromLease own release.Quarantined = Unit {0}
-FromLease own (release.Closed stream) = stream ≡ own
-FromLease own (release.Stale stream) = stream ≡ own
-FromLease own (release.Exhausted stream) = stream ≡ own
-
--- the stream that was handed in is the lease's, or is handed back
-abbrev pub UpStream : {S : Type 0} → S → UpReply (LinkValue S) PermitRecord S → Type 0
-UpStream own (up.Up lease) = lease.stream ≡ own
-UpStream own (up.Exhausted permit stream) = stream ≡ own
-UpStream own (up.Stale stream) = stream ≡ own
-UpStream own (up.AtEnd stream) = stream ≡ own

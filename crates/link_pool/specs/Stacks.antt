@@ -1,25 +1,21 @@
--- The stacks of a pool's free places and of its idle links.
-use Rattle.std.specs.Prelude.{ℕ, suc, ◌==◌, ◌≡◌, ◌≢◌, ◌<◌, ◌+◌, Bool, true, false, List, [], ◌∷◌, Option, Some, None, length, slice_get, slice_index, if◌then◌else◌}
-use Rattle.link_pool.specs.declared.place.Place.{Place}
-use Rattle.link_pool.specs.declared.place.Place.TheVariants as place
+-- The stack of a pool's idle links, and the place in its queue.
+use Rattle.std.specs.Prelude.{ℕ, suc, ◌==◌, ◌≡◌, ◌+◌, Bool, true, false, List, [], ◌∷◌, ◌++◌, Option, Some, length, slice_get, if◌then◌else◌}
+use Rattle.link_pool.specs.OnePlace.{times}
 
--- whether a place is free
-abbrev pub is_free : Option Place → Bool
-is_free None = false
-is_free (Some place.Free) = true
-is_free (Some (place.Open permit slot)) = false
-is_free (Some (place.Link link)) = false
-
--- how many places are of a kind
-abbrev pub how_many : (Option Place → Bool) → List Place → ℕ
+-- how many are of a kind
+abbrev pub how_many : {X : Type 0} → (Option X → Bool) → List X → ℕ
 how_many kind [] = 0
-how_many kind (place ∷ places) = (if kind (Some place) then 1 else 0) + how_many kind places
+how_many kind (x ∷ xs) = (if kind (Some x) then 1 else 0) + how_many kind xs
 
--- the stack has each place of this kind, no other, and none twice
-pub record IsStack (kind : Option Place → Bool) (places : List Place) (listed : List ℕ) : Type 0 where
-  pub sound : (i : ℕ) → i < length listed → kind (slice_get places (slice_index listed i)) ≡ true
-  pub distinct : (i j : ℕ) → i < j → j < length listed → slice_index listed i ≢ slice_index listed j
-  pub counted : length listed ≡ how_many kind places
+-- the stack has the place of each of this kind once, and no other
+pub record IsStack {X : Type 0} (kind : Option X → Bool) (xs : List X) (stack : List ℕ) : Type 0 where
+  pub once : (i : ℕ) → times i stack ≡ (if kind (slice_get xs i) then 1 else 0)
+  pub counted : length stack ≡ how_many kind xs
+
+-- the stack, and this place last, if it is of the kind
+abbrev pub put_on : Bool → ℕ → List ℕ → List ℕ
+put_on true place stack = stack ++ place ∷ []
+put_on false place stack = stack
 
 -- where a slot stands in a queue: how many stand before it
 abbrev pub place_of : ℕ → List ℕ → ℕ

@@ -1,231 +1,161 @@
-//! The links of one database: its places, which of them are free and which have an idle link, and who waits.
-ghost use Rattle.std.specs.Prelude.{vec_capacity, ◌≡◌, ◌<◌, ◌≤◌, ℕ, ◌∷◌, [], ◌++◌, true, false, Some, None, length, slice_get, replicate, IfOk};
+//! The links of one database: its places, which of them have an idle link, and who waits.
+ghost use Rattle.std.specs.Prelude.{vec_capacity, ◌≡◌, ◌≢◌, ◌<◌, ◌≤◌, ℕ, [], true, false, Some, IfSome, IfNone, IfOk, length, slice_get, option_map, replicate};
+ghost use Rattle.link_pool.specs.declared.entry.Entry.{Entry as EntryOf};
+ghost use Rattle.link_pool.specs.declared.entry.Entry.TheVariants as entry;
 ghost use Rattle.link_pool.specs.declared.place.Place.TheVariants as place;
-ghost use Rattle.link_pool.specs.declared.place.LinkState.TheVariants as state;
-ghost use Rattle.link_pool.specs.PoolStep.{is_first, is_idle, with_hold};
-ghost use Rattle.link_pool.specs.Pool.{others};
-ghost use Rattle.link_pool.specs.Streams.{with_client};
-ghost use Rattle.link_pool.specs.Stacks.{IsStack, is_free, place_of};
-ghost use Rattle.link_pool.specs.DatabaseStep.{at_place, permit_at, TakesIdle, Opens};
+ghost use Rattle.link_pool.specs.PoolStep.{is_first, is_idle};
+ghost use Rattle.link_pool.specs.Pool.{others, behind};
+ghost use Rattle.link_pool.specs.Stacks.{put_on, place_of as place_in_queue};
+ghost use Rattle.link_pool.specs.Entries.{place_of, idle_entry, settled, leaving, with_entry, freed, new_links, TakesIdle, IsLowest};
 
-use crate::kept::Kept;
-use crate::place::{Link, Place};
-use lease::{IdleLink, Lease, LinkPlace, PermitRecord, QuarantinedLink};
+use crate::entry::Entry;
+use crate::place::{LinkState, Place};
+use lease::Lease;
 use pg_ids::SlotNo;
 use quarantine::Hold;
 use std::alloc::{AllocError, Global};
 use std::collections::VecDeque;
 use std::marker::Model;
 
-/// The links of one database.
+/// The links of one database. No place below `lowest` is free.
 #[derive(Drop)]
 pub(crate) struct DatabaseLinks<S> {
-    places: Vec<Kept<S>>,
-    free: Vec<u16>,
+    entries: Vec<Entry<S>>,
+    lowest: u16,
     idle: Vec<u16>,
     waiting: VecDeque<SlotNo>,
 }
 
 impl<S> Model for DatabaseLinks<S> {
-    ghost use Rattle.std.specs.Prelude.{◌≤◌, vec_len, vec_capacity};
+    ghost use Rattle.std.specs.Prelude.{ℕ, ◌≢◌, ◌<◌, ◌≤◌, Some, slice_get, vec_len, vec_capacity};
     ghost use Rattle.std.specs.VecDeque.{deque_capacity};
-    ghost use Rattle.link_pool.specs.Pool.{DatabasePool};
-    ghost use Rattle.link_pool.specs.PoolStep.{is_idle};
-    ghost use Rattle.link_pool.specs.Stacks.{IsStack, is_free};
+    ghost use Rattle.link_pool.specs.declared.entry.Entry.TheVariants as entry;
+    ghost use Rattle.link_pool.specs.Entries.{Entries, idle_entry};
+    ghost use Rattle.link_pool.specs.Stacks.{IsStack};
 
-    ghost Value = { DatabasePool };
+    ghost Value = { Entries S };
 
-    ghost view = { λ p. record { places = p.places.items; waiting = p.waiting.items; room = deque_capacity p.waiting } };
+    ghost view = { λ p. record { entries = p.entries.items; waiting = p.waiting.items; room = deque_capacity p.waiting } };
 
-    ghost invariant = { λ p. (vec_len p.places ≤ 65535) × (vec_len p.places ≤ vec_capacity p.free) × (vec_len p.places ≤ vec_capacity p.idle)
-        × IsStack is_free p.places.items p.free.items × IsStack is_idle p.places.items p.idle.items };
+    ghost invariant = { λ p. (vec_len p.entries ≤ 65535) × (vec_len p.entries ≤ vec_capacity p.idle)
+        × IsStack idle_entry p.entries.items p.idle.items
+        × ((i : ℕ) → i < p.lowest → slice_get p.entries.items i ≢ Some entry.Free) };
 }
 
-/// The permit with this place of its database.
-pub(crate) fn permit_at(permit: &PermitRecord, index: u16) -> PermitRecord
-    ensures { result ≡ permit_at permit.now index }
+// So many free places.
+fn free_places<S: Drop>(entries: &mut Vec<Entry<S>>, size: u16)
+    requires none { entries.old.items ≡ [] }
+    requires room { size ≤ vec_capacity entries.old }
+    ensures { entries.new.items ≡ replicate size entry.Free }
 {
-    PermitRecord {
-        peer: permit.peer,
-        incarnation: permit.incarnation,
-        number: permit.number,
-        at: LinkPlace {
-            database: permit.at.database,
-            index,
-        },
+    for _index in 0..size {
+        entries.push_reserved(Entry::Free);
     }
 }
 
-// Lists so many free places, the last one first.
-fn list_free<S: Drop>(places: &mut Vec<Kept<S>>, free: &mut Vec<u16>, size: u16)
-    requires places { places.old.items ≡ [] }
-    requires free { free.old.items ≡ [] }
-    requires room { size ≤ vec_capacity places.old }
-    requires free_room { size ≤ vec_capacity free.old }
-    ensures places { places.new.items ≡ replicate size place.Free }
-    ensures listed { IsStack is_free (replicate size place.Free) free.new.items }
-    ensures capacity { vec_capacity free.new ≡ vec_capacity free.old }
+// The first free place from this one on, and as many as there are places where none is free.
+fn first_free<S: Drop>(entries: &Vec<Entry<S>>, from: u16) -> u16
+    requires few { length entries.now.items ≤ 65535 }
+    ensures passed { (i : ℕ) → from ≤ i → i < result → slice_get entries.now.items i ≢ Some entry.Free }
+    ensures free { result < length entries.now.items → slice_get entries.now.items result ≡ Some entry.Free }
 {
-    for index in (0..size).rev() {
-        places.push_reserved(Kept::free());
-        free.push_reserved(index);
+    let mut at = from;
+    while let Some(entry) = entries.get(at as usize) {
+        if entry.is_free() {
+            break;
+        }
+        at += 1;
     }
+    at
 }
 
 impl<S: Drop> DatabaseLinks<S> {
     // As many free places as the size, at most 65,535, for whose links so many slots may wait. It takes all the
     // memory that the database needs.
     pub(crate) fn new(alloc: Global, size: u16, slots: u32) -> Result<DatabaseLinks<S>, AllocError>
-        ensures { IfOk result (λ links. links ≡ record { places = replicate size place.Free; waiting = []; room = slots }) }
+        ensures { IfOk result (λ links. links ≡ new_links size slots) }
     {
-        let mut places = Vec::with_capacity(alloc, size as usize)?;
-        let mut free = Vec::with_capacity(alloc, size as usize)?;
+        let mut entries = Vec::with_capacity(alloc, size as usize)?;
         let idle = Vec::with_capacity(alloc, size as usize)?;
         let waiting = VecDeque::with_capacity(alloc, slots as usize)?;
-        list_free(&mut places, &mut free, size);
+        free_places(&mut entries, size);
         Ok(DatabaseLinks {
-            places,
-            free,
+            entries,
+            lowest: 0,
             idle,
             waiting,
         })
     }
 
-    // Nothing stands at any place, and nobody waits. The streams of links that no client has are dropped.
+    // Nothing is at any place, and nobody waits. The streams of links that no client has are dropped.
     pub(crate) fn empty(&mut self)
-        ensures { self.new ≡ record self.old { places = replicate (length self.old.places) place.Free; waiting = [] } }
+        ensures { self.new ≡ freed self.old }
     {
-        let size = self.places.len() as u16;
-        self.places.clear();
-        self.free.clear();
+        let size = self.entries.len() as u16;
+        self.entries.clear();
+        self.lowest = 0;
         self.idle.clear();
         self.waiting.clear();
-        list_free(&mut self.places, &mut self.free, size);
+        free_places(&mut self.entries, size);
     }
 
-    // What stands at a place.
+    // What is at a place.
     pub(crate) fn place(&self, index: u16) -> Option<Place>
-        ensures { result ≡ slice_get self.now.places index }
+        ensures { result ≡ option_map place_of (slice_get self.now.entries index) }
     {
-        let kept = self.places.get(index as usize)?;
-        Some(kept.place())
+        let entry = self.entries.get(index as usize)?;
+        Some(entry.place())
     }
 
-    // Whether a link is idle.
-    pub(crate) fn has_idle(&self) -> bool
-        ensures some { result ≡ true → (index : ℕ) × (is_idle (slice_get self.now.places index) ≡ true) }
-        ensures none { result ≡ false → (index : ℕ) → is_idle (slice_get self.now.places index) ≡ false }
+    // The lowest free place, if one is free.
+    pub(crate) fn lowest_free(&mut self) -> Option<u16>
+        ensures free { IfSome result (λ index. IsLowest self.old.entries index) }
+        ensures none { IfNone result ((i : ℕ) → slice_get self.old.entries i ≢ Some entry.Free) }
+        ensures same { self.new ≡ self.old }
     {
-        !self.idle.is_empty()
+        self.lowest = first_free(&self.entries, self.lowest);
+        if (self.lowest as usize) < self.entries.len() {
+            Some(self.lowest)
+        } else {
+            None
+        }
     }
 
-    // Whether a place is free.
-    pub(crate) fn has_free(&self) -> bool
-        ensures some { result ≡ true → (index : ℕ) × (is_free (slice_get self.now.places index) ≡ true) }
-        ensures none { result ≡ false → (index : ℕ) → is_free (slice_get self.now.places index) ≡ false }
-    {
-        !self.free.is_empty()
-    }
-
-    // A client gets an idle link.
-    pub(crate) fn take_idle(&mut self, slot: SlotNo) -> Lease<S>
-        requires { (index : ℕ) × (is_idle (slice_get self.old.places index) ≡ true) }
-        ensures { TakesIdle self.old slot result.details self.new }
+    // The client of a slot gets an idle link, if one is idle.
+    pub(crate) fn take_idle(&mut self, slot: SlotNo) -> Option<Lease<S>>
+        ensures taken { IfSome result (λ lease. TakesIdle slot lease self.old self.new) }
+        ensures none { IfNone result ((i : ℕ) → idle_entry (slice_get self.old.entries i) ≡ false) }
+        ensures same { IfNone result (self.new ≡ self.old) }
     {
         let Some(index) = self.idle.pop() else {
-            unreachable!()
+            return None;
         };
-        let kept = &mut self.places[index as usize];
-        let Place::Link(link) = kept.place() else {
-            unreachable!()
-        };
-        kept.hold(link, slot)
+        let entry = &mut self.entries[index as usize];
+        entry.lend(slot)
     }
 
-    // A free place is kept for a client, by the permit that is made for it. Its index is answered.
-    pub(crate) fn open(&mut self, permit: &PermitRecord, slot: SlotNo) -> u16
-        requires { (index : ℕ) × (is_free (slice_get self.old.places index) ≡ true) }
-        ensures { Opens self.old permit.now slot result self.new }
+    // This is at a place from now on, at which no idle link was.
+    pub(crate) fn put(&mut self, index: u16, entry: Entry<S>)
+        requires there { index < length self.old.entries }
+        requires not_idle { idle_entry (slice_get self.old.entries index) ≡ false }
+        ensures { self.new ≡ with_entry index entry self.old }
     {
-        let Some(index) = self.free.pop() else {
-            unreachable!()
-        };
-        let place = Place::Open(permit_at(permit, index), slot);
-        let kept = &mut self.places[index as usize];
-        kept.set(place);
-        index
+        let place = entry.place();
+        self.entries[index as usize] = entry;
+        list(place, index, &mut self.idle, &mut self.lowest);
     }
 
-    // What a client has at a place changes.
-    pub(crate) fn put(&mut self, index: u16, place: Place)
-        requires old { with_client (slice_get self.old.places index) ≡ true }
-        requires new { with_client (Some place) ≡ true }
-        ensures { self.new ≡ at_place self.old index place }
+    // The link of a place, which isn't idle, has these tickets. The stream of one that leaves the place is returned.
+    pub(crate) fn settle(&mut self, index: u16, hold: Hold) -> Option<S>
+        requires there { index < length self.old.entries }
+        requires not_idle { idle_entry (slice_get self.old.entries index) ≡ false }
+        ensures { (was : EntryOf S) → slice_get self.old.entries index ≡ Some was
+            → (result ≡ leaving hold was) × (self.new ≡ with_entry index (settled hold was) self.old) }
     {
-        let kept = &mut self.places[index as usize];
-        kept.set(place);
-    }
-
-    // What a client had at a place is gone.
-    pub(crate) fn free(&mut self, index: u16)
-        requires { with_client (slice_get self.old.places index) ≡ true }
-        ensures { self.new ≡ at_place self.old index place.Free }
-    {
-        let kept = &mut self.places[index as usize];
-        kept.set(Place::Free);
-        self.free.push_reserved(index);
-    }
-
-    // The client's link is free for others.
-    pub(crate) fn rest(&mut self, index: u16, link: Link, idle: IdleLink<S>)
-        requires old { with_client (slice_get self.old.places index) ≡ true }
-        requires says { idle.details ≡ link.details }
-        ensures { self.new ≡ at_place self.old index (place.Link (record link { state = state.Idle })) }
-    {
-        let kept = &mut self.places[index as usize];
-        kept.rest(link, idle);
-        self.idle.push_reserved(index);
-    }
-
-    // The client's link waits for cancel requests.
-    pub(crate) fn quarantine(&mut self, index: u16, link: Link, quarantined: QuarantinedLink<S>)
-        requires old { with_client (slice_get self.old.places index) ≡ true }
-        requires says { quarantined.details ≡ link.details }
-        ensures { self.new ≡ at_place self.old index (place.Link (record link { state = state.Quarantined })) }
-    {
-        let kept = &mut self.places[index as usize];
-        kept.quarantine(link, quarantined);
-    }
-
-    // The tickets of the link of a place change.
-    pub(crate) fn set_hold(&mut self, index: u16, link: Link, hold: Hold)
-        requires { slice_get self.old.places index ≡ Some (place.Link link) }
-        ensures { self.new ≡ at_place self.old index (place.Link (with_hold link hold)) }
-    {
-        let kept = &mut self.places[index as usize];
-        kept.set_hold(link, hold);
-    }
-
-    // The quarantined link of a place is free for others, with these tickets.
-    pub(crate) fn clear(&mut self, index: u16, link: Link, hold: Hold)
-        requires was { slice_get self.old.places index ≡ Some (place.Link link) }
-        requires quarantined { link.state ≡ state.Quarantined }
-        ensures { self.new ≡ at_place self.old index (place.Link (record (with_hold link hold) { state = state.Idle })) }
-    {
-        let kept = &mut self.places[index as usize];
-        kept.clear(link, hold);
-        self.idle.push_reserved(index);
-    }
-
-    // The quarantined link of a place leaves it, and its stream is handed back.
-    pub(crate) fn close(&mut self, index: u16, link: Link) -> S
-        requires was { slice_get self.old.places index ≡ Some (place.Link link) }
-        requires quarantined { link.state ≡ state.Quarantined }
-        ensures { self.new ≡ at_place self.old index place.Free }
-    {
-        let kept = &mut self.places[index as usize];
-        let stream = kept.close(link);
-        self.free.push_reserved(index);
+        let entry = &mut self.entries[index as usize];
+        let stream = entry.settle(hold);
+        let place = entry.place();
+        list(place, index, &mut self.idle, &mut self.lowest);
         stream
     }
 
@@ -242,7 +172,7 @@ impl<S: Drop> DatabaseLinks<S> {
     // The slot waits, behind all others.
     pub(crate) fn join_queue(&mut self, slot: SlotNo)
         requires { length self.old.waiting < self.old.room }
-        ensures { self.new ≡ record self.old { waiting = self.old.waiting ++ slot ∷ [] } }
+        ensures { self.new ≡ record self.old { waiting = behind slot self.old.waiting } }
     {
         self.waiting.push_back_reserved(slot);
     }
@@ -258,9 +188,28 @@ impl<S: Drop> DatabaseLinks<S> {
     }
 }
 
+// What is at a place from now on is listed, where it is idle or free.
+fn list(what: Place, index: u16, idle: &mut Vec<u16>, lowest: &mut u16)
+    requires { is_idle (Some what) ≡ true → length idle.old.items < vec_capacity idle.old }
+    ensures idle { idle.new.items ≡ put_on (is_idle (Some what)) index idle.old.items }
+    ensures capacity { vec_capacity idle.new ≡ vec_capacity idle.old }
+    ensures lowest { lowest.new ≤ lowest.old }
+    ensures free { what ≡ place.Free → lowest.new ≤ index }
+{
+    match what {
+        Place::Free => *lowest = index.min(*lowest),
+        Place::Link(link) => {
+            if let LinkState::Idle = link.state {
+                idle.push_reserved(index);
+            }
+        }
+        Place::Open(_, _) => {}
+    }
+}
+
 // How many stand before the slot. The queue's first is found at once.
 fn place_of(waiting: &VecDeque<SlotNo>, slot: SlotNo) -> usize
-    ensures { result ≡ place_of slot waiting.now.items }
+    ensures { result ≡ place_in_queue slot waiting.now.items }
 {
     let mut at = 0;
     while at < waiting.len() {

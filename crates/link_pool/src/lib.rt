@@ -3,7 +3,7 @@
 #![tactic(auto)]
 
 mod database_links;
-mod kept;
+mod entry;
 mod next_number;
 mod place;
 mod pool;
@@ -16,6 +16,3 @@ pub use replies::{
     AcquireReply, CloseReply, EndedReply, FailedReply, LeaveReply, ReleaseReply, RestartReply,
     ServeReply, UpFailedReply, UpReply,
 };
-
-#[cfg(test)]
-mod tests;

@@ -1,4 +1,4 @@
-//! What stands in a place of a pool, and what a client has there.
+//! What is at a place of a pool, and what a client has there.
 ghost use Rattle.std.specs.Prelude.{◌≡◌, ◌≢◌, ℕ, true, false, Some, IfSome, IfNone};
 ghost use Rattle.lease.specs.declared.link_place.LinkPlace.{LinkPlace as LinkPlaceOf};
 ghost use Rattle.link_pool.specs.declared.place.Claim.TheVariants as claim;
@@ -23,7 +23,7 @@ pub enum LinkState {
 /// An open link.
 #[derive(Clone, Copy, Debug, PartialEq, Eq)]
 pub struct Link {
-    /// What its lease says: node, incarnation, number and place.
+    /// The node, incarnation, number and place, as its lease says them.
     pub details: LinkRecord,
     /// The key by which its server cancels.
     pub key: ServerKey,
@@ -34,15 +34,22 @@ pub struct Link {
 }
 
 impl Link {
-    /// The place of the link.
-    pub fn at(&self) -> LinkPlace
+    // The place of the link.
+    pub(crate) fn at(&self) -> LinkPlace
         ensures { result ≡ self.now.details.at }
     {
         self.details.at
     }
 
-    /// The slot of the client that has the link, if one has.
-    pub fn holder(&self) -> Option<SlotNo>
+    // Its tickets.
+    pub(crate) fn hold(&self) -> Hold
+        ensures { result ≡ self.now.hold }
+    {
+        self.hold
+    }
+
+    // The slot of the client that has the link, if one has.
+    pub(crate) fn holder(&self) -> Option<SlotNo>
         ensures held { IfSome result (λ slot. self.now.state ≡ state.Held slot) }
         ensures not_held { IfNone result ((slot : ℕ) → self.now.state ≢ state.Held slot) }
     {
@@ -52,8 +59,8 @@ impl Link {
         }
     }
 
-    /// Whether the link waits for cancel requests.
-    pub fn is_quarantined(&self) -> bool
+    // Whether the link waits for cancel requests.
+    pub(crate) fn is_quarantined(&self) -> bool
         ensures yes { result ≡ true → self.now.state ≡ state.Quarantined }
         ensures no { result ≡ false → self.now.state ≢ state.Quarantined }
     {
@@ -89,8 +96,8 @@ pub enum Claim {
 }
 
 impl Claim {
-    /// The database for which the client waits, if it does.
-    pub fn waiting(&self) -> Option<DatabaseNo>
+    // The database for which the client waits, if it does.
+    pub(crate) fn waiting(&self) -> Option<DatabaseNo>
         ensures waiting { IfSome result (λ database. self.now ≡ claim.Waiting database) }
         ensures not_waiting { IfNone result ((database : ℕ) → self.now ≢ claim.Waiting database) }
     {
@@ -100,8 +107,8 @@ impl Claim {
         }
     }
 
-    /// Whether the client has a link or a permit.
-    pub fn is_holding(&self) -> bool
+    // Whether the client has a link or a permit.
+    pub(crate) fn is_holding(&self) -> bool
         ensures { result ≡ is_holding (Some self.now) }
     {
         match self {
@@ -110,8 +117,8 @@ impl Claim {
         }
     }
 
-    /// The place of the link that the client has, if it has one.
-    pub fn link(&self) -> Option<LinkPlace>
+    // The place of the link that the client has, if it has one.
+    pub(crate) fn link(&self) -> Option<LinkPlace>
         ensures link { IfSome result (λ at. self.now ≡ claim.Link at) }
         ensures no_link { IfNone result ((at : LinkPlaceOf) → self.now ≢ claim.Link at) }
     {

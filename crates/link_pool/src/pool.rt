@@ -1,16 +1,19 @@
 //! The pools of a node, and the parts of its steps that change them.
-ghost use Rattle.std.specs.Prelude.{replicate, ◌≡◌, ◌<◌, Some, IfOk, length, slice_get};
-ghost use Rattle.link_pool.specs.declared.place.Place.TheVariants as place;
+ghost use Rattle.std.specs.Prelude.{replicate, ◌≡◌, ◌<◌, true, IfOk, length, map, slice_get};
 ghost use Rattle.link_pool.specs.declared.place.Claim.TheVariants as claim;
-ghost use Rattle.link_pool.specs.Pool.{PoolView, place_at};
+ghost use Rattle.link_pool.specs.Entries.{stream_of, freed};
+ghost use Rattle.link_pool.specs.Pool.{place_at};
 ghost use Rattle.link_pool.specs.OnePlace.{IsPool};
-ghost use Rattle.link_pool.specs.PoolStep.{fresh, RestartStep, emptied};
+ghost use Rattle.link_pool.specs.PoolStep.{fresh, RestartStep};
+ghost use Rattle.link_pool.specs.Parts.{is_bare, with_client, Stores};
+ghost use Rattle.link_pool.specs.Streams.{AreStored, NothingStored, RestartStreams};
 
 mod asking;
 mod links;
 mod tickets;
 
 use crate::database_links::DatabaseLinks;
+use crate::entry::Entry;
 use crate::next_number::NextNumber;
 use crate::place::{Claim, Place};
 use crate::replies::RestartReply;
@@ -32,16 +35,15 @@ pub struct Pool<S> {
 }
 
 impl<S> Model for Pool<S> {
-    ghost use Rattle.link_pool.specs.Pool.{PoolView};
-
-    ghost Value = { PoolView };
-
+    ghost use Rattle.link_pool.specs.Streams.{PoolValue};
     ghost use Rattle.link_pool.specs.OnePlace.{IsPool};
     ghost use Rattle.link_pool.specs.PoolOf.{pool_of};
 
+    ghost Value = { PoolValue S };
+
     ghost view = { pool_of };
 
-    ghost invariant = { λ p. IsPool (pool_of p) };
+    ghost invariant = { λ p. IsPool (pool_of p).view };
 }
 
 impl<S: Drop> Pool<S> {
@@ -53,7 +55,8 @@ impl<S: Drop> Pool<S> {
         pool_sizes: &[u16],
         slots: u32,
     ) -> Result<Pool<S>, AllocError>
-        ensures { IfOk result (λ pool. pool ≡ fresh me pool_sizes.now slots) }
+        ensures view { IfOk result (λ pool. pool.view ≡ fresh me pool_sizes.now slots) }
+        ensures streams { IfOk result (λ pool. NothingStored pool.stored) }
     {
         let mut pools = Vec::with_capacity(alloc, pool_sizes.len())?;
         for &size in pool_sizes {
@@ -71,9 +74,10 @@ impl<S: Drop> Pool<S> {
         })
     }
 
-    /// What stands at a place, where there is such a place.
+    /// What is at a place, where there is such a place.
     pub fn place(&self, at: LinkPlace) -> Option<Place>
-        ensures { result ≡ place_at self.now at }
+        ensures value { result ≡ place_at self.now.view at }
+        ensures whole { IsPool self.now.view }
     {
         let pool = self.pools.get(at.database.get() as usize)?;
         pool.place(at.index)
@@ -81,23 +85,41 @@ impl<S: Drop> Pool<S> {
 
     /// What the client of a slot has, where there is such a slot.
     pub fn claim(&self, slot: SlotNo) -> Option<Claim>
-        ensures { result ≡ slice_get self.now.claims slot }
+        ensures value { result ≡ slice_get self.now.view.claims slot }
+        ensures whole { IsPool self.now.view }
     {
         self.claims.get(slot.get() as usize).copied()
     }
 
     /// The number of times that the pools were started anew, and so what their values carry.
     pub fn incarnation(&self) -> u64
-        ensures value { result ≡ self.now.incarnation }
-        ensures whole { IsPool self.now }
+        ensures value { result ≡ self.now.view.incarnation }
+        ensures whole { IsPool self.now.view }
+        ensures streams { AreStored self.now }
     {
         self.incarnation
+    }
+
+    // What is at a place that has no stream changes, and so what the client has that had the place, or gets it.
+    fn change(&mut self, at: &LinkPlace, slot: SlotNo, entry: Entry<S>)
+        requires bare { is_bare (place_at self.old.view at.now) ≡ true }
+        requires slot { slot < length self.old.view.claims }
+        requires whole { IsPool (with_client self.old.view at.now slot entry) }
+        ensures view { self.new.view ≡ with_client self.old.view at.now slot entry }
+        ensures streams { Stores at.now (stream_of entry) self.old.stored self.new.stored }
+        ensures whole { IsPool self.new.view }
+    {
+        self.claims[slot.get() as usize] = entry.claim(at);
+        let pool = &mut self.pools[at.database.get() as usize];
+        pool.put(at.index, entry);
     }
 
     /// A new start: the next incarnation, in which nobody has anything. The streams of idle and quarantined links
     /// are dropped; numbers go on.
     pub fn restart(&mut self) -> RestartReply
-        ensures { RestartStep self.old result self.new }
+        ensures step { RestartStep result self.old.view self.new.view }
+        ensures streams { RestartStreams result self.old.stored self.new.stored }
+        ensures whole { IsPool self.new.view }
     {
         let Some(next) = self.incarnation.checked_add(1) else {
             return RestartReply::Exhausted;
@@ -111,7 +133,7 @@ impl<S: Drop> Pool<S> {
 
 // Empties each pool.
 fn empty_all<S: Drop>(pools: &mut Vec<DatabaseLinks<S>>)
-    ensures { pools.new.items ≡ emptied pools.old.items }
+    ensures { pools.new.items ≡ map freed pools.old.items }
 {
     for database in 0..pools.len() {
         let pool = &mut pools[database];

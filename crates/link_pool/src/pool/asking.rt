@@ -1,19 +1,16 @@
 //! Clients that ask for a link, wait for one, and leave.
-ghost use Rattle.std.specs.Prelude.{◌≡◌, ◌≢◌, ◌<◌, ◌+◌, ◌^◌, ℕ, true, false, Some, None, IfSome, IsNone, IfNone, ◌↔◌, length, slice_get, ◌++◌, ◌∷◌, []};
-ghost use Rattle.lease.specs.declared.link_place.LinkPlace.{LinkPlace as LinkPlaceOf};
-ghost use Rattle.link_pool.specs.declared.place.Place.TheVariants as place;
+ghost use Rattle.std.specs.Prelude.{◌≡◌, ◌≢◌, ◌<◌, ℕ, false, Some, None, IfSome, IfNone, length, slice_get};
 ghost use Rattle.link_pool.specs.declared.place.Claim.TheVariants as claim;
-ghost use Rattle.link_pool.specs.Pool.{place_at, queue_at, with_queue, with_claim, unqueued, queued};
+ghost use Rattle.link_pool.specs.declared.place.Place.TheVariants as place;
+ghost use Rattle.link_pool.specs.Pool.{place_at, queue_at, with_queue, with_claim, unqueued, queued, behind};
 ghost use Rattle.link_pool.specs.OnePlace.{IsPool};
-ghost use Rattle.link_pool.specs.PoolStep.{is_holding, is_first, is_idle, NoIdle, AcquireStep, LeaveStep};
-ghost use Rattle.lease.specs.declared.permit.PermitRecord.{PermitRecord as PermitOf};
-ghost use Rattle.link_pool.specs.Stacks.{is_free};
-ghost use Rattle.link_pool.specs.Parts.{TakesLink, KeepsPlace};
+ghost use Rattle.link_pool.specs.PoolStep.{is_holding, is_first, nth_of, NoIdle, NoneFree, IsLowestFree, Gets, AcquireStep, LeaveStep};
+ghost use Rattle.link_pool.specs.Streams.{Takes, AcquireStreams};
 ghost use Rattle.link_pool.specs.Said.{acquire_said};
 
 use super::Pool;
-use crate::database_links::permit_at;
-use crate::place::{Claim, Link};
+use crate::entry::Entry;
+use crate::place::Claim;
 use crate::replies::{AcquireReply, LeaveReply};
 use lease::{Lease, LinkPlace, Permit, PermitRecord};
 use pg_ids::{DatabaseNo, SlotNo};
@@ -21,10 +18,9 @@ use pg_ids::{DatabaseNo, SlotNo};
 impl<S: Drop> Pool<S> {
     // Whether the client of a slot has a link or a permit.
     fn is_holding(&self, slot: SlotNo) -> bool
-        ensures value { result ≡ is_holding (slice_get self.now.claims slot) }
-        ensures whole { IsPool self.now }
+        ensures value { result ≡ is_holding (slice_get self.now.view.claims slot) }
+        ensures whole { IsPool self.now.view }
     {
-        let _peer = &self.peer;
         match self.claim(slot) {
             Some(claim) => claim.is_holding(),
             None => false,
@@ -33,7 +29,9 @@ impl<S: Drop> Pool<S> {
 
     // The client of a slot no longer waits, if it did.
     fn leave_queue(&mut self, slot: SlotNo)
-        ensures { self.new ≡ unqueued self.old slot }
+        ensures view { self.new.view ≡ unqueued self.old.view slot }
+        ensures streams { self.new.stored ≡ self.old.stored }
+        ensures whole { IsPool self.new.view }
     {
         let Some(claim) = self.claim(slot) else {
             return;
@@ -48,9 +46,13 @@ impl<S: Drop> Pool<S> {
 
     // The client of a slot waits, behind all others of its database.
     fn join_queue(&mut self, slot: SlotNo, database: DatabaseNo)
-        requires nothing { slice_get self.old.claims slot ≡ Some claim.Nothing }
-        requires database { database < length self.old.pools }
-        ensures { self.new ≡ with_claim (with_queue self.old database (λ waiting. waiting ++ slot ∷ [])) slot (claim.Waiting database) }
+        requires slot { slot < length self.old.view.claims }
+        requires nothing { slice_get self.old.view.claims slot ≡ Some claim.Nothing }
+        requires database { database < length self.old.view.pools }
+        ensures view { self.new.view
+            ≡ with_claim (with_queue self.old.view database (behind slot)) slot (claim.Waiting database) }
+        ensures streams { self.new.stored ≡ self.old.stored }
+        ensures whole { IsPool self.new.view }
     {
         let pool = &mut self.pools[database.get() as usize];
         pool.join_queue(slot);
@@ -59,7 +61,9 @@ impl<S: Drop> Pool<S> {
 
     /// The client of a slot leaves, if it has no link and no permit: it no longer waits.
     pub fn leave(&mut self, slot: SlotNo) -> LeaveReply
-        ensures { LeaveStep self.old slot result self.new }
+        ensures step { LeaveStep slot result self.old.view self.new.view }
+        ensures streams { self.new.stored ≡ self.old.stored }
+        ensures whole { IsPool self.new.view }
     {
         if self.is_holding(slot) {
             return LeaveReply::Holding;
@@ -68,97 +72,61 @@ impl<S: Drop> Pool<S> {
         LeaveReply::Left
     }
 
-    // The client of a slot gets an idle link of the database.
-    fn take_idle(&mut self, slot: SlotNo, database: DatabaseNo) -> Lease<S>
-        requires nothing { slice_get self.old.claims slot ≡ Some claim.Nothing }
-        requires idle { (index : ℕ) × (is_idle (place_at self.old record { database = database; index = index }) ≡ true) }
-        ensures { TakesLink self.old slot database result.details self.new }
+    // The client of a slot, which has nothing or waits for this database, gets an idle link of it, if one is idle.
+    fn take_idle(&mut self, slot: SlotNo, database: DatabaseNo) -> Option<Lease<S>>
+        requires slot { slot < length self.old.view.claims }
+        requires database { database < length self.old.view.pools }
+        requires waits { (other : ℕ) → slice_get self.old.view.claims slot ≡ Some (claim.Waiting other) → other ≡ database }
+        requires free { is_holding (slice_get self.old.view.claims slot) ≡ false }
+        ensures got { IfSome result (λ lease. Gets slot database lease.details self.old.view self.new.view) }
+        ensures stream { IfSome result (λ lease. Takes lease.details.at lease.stream self.old.stored self.new.stored) }
+        ensures none { IfNone result (NoIdle database self.old.view) }
+        ensures same { IfNone result (self.new ≡ self.old) }
+        ensures whole { IsPool self.new.view }
     {
         let pool = &mut self.pools[database.get() as usize];
-        let lease = pool.take_idle(slot);
-        self.claims[slot.get() as usize] = Claim::Link(lease.details().at);
-        lease
-    }
-
-    // What the permit with this number says, but for its place.
-    fn permit(&self, database: DatabaseNo, number: u64) -> PermitRecord
-        ensures { result ≡ record { peer = self.now.peer; incarnation = self.now.incarnation; number = number; at = record { database = database; index = 0 } } }
-    {
-        PermitRecord {
-            peer: self.peer,
-            incarnation: self.incarnation,
-            number,
-            at: LinkPlace { database, index: 0 },
-        }
-    }
-
-    // A free place of the database is kept for the client of a slot, by the permit with this number.
-    fn open(&mut self, slot: SlotNo, database: DatabaseNo, number: u64) -> Permit
-        requires nothing { slice_get self.old.claims slot ≡ Some claim.Nothing }
-        requires free { (index : ℕ) × (is_free (place_at self.old record { database = database; index = index }) ≡ true) }
-        requires given { number < self.old.next_permit }
-        requires new { (at : LinkPlaceOf) (permit : PermitOf) (other : ℕ) → place_at self.old at ≡ Some (place.Open permit other) → permit.number ≢ number }
-        ensures { KeepsPlace self.old slot database number result self.new }
-    {
-        let unplaced = self.permit(database, number);
-        let pool = &mut self.pools[database.get() as usize];
-        let index = pool.open(&unplaced, slot);
-        self.claims[slot.get() as usize] = Claim::Open(LinkPlace { database, index });
-        Permit::new(permit_at(&unplaced, index))
-    }
-
-    // The number of the next permit.
-    fn give_permit(&mut self) -> Option<u64>
-        ensures none_left { IsNone result ↔ (self.old.next_permit ≡ 2 ^ 64) }
-        ensures given { IfSome result (λ n. (n ≡ self.old.next_permit) × (n < 2 ^ 64) × (self.new ≡ record self.old { next_permit = self.old.next_permit + 1 })) }
-        ensures unchanged { IfNone result (self.new ≡ self.old) }
-    {
-        let Some(number) = self.next_permit.give() else {
+        let Some(lease) = pool.take_idle(slot) else {
             return None;
         };
-        Some(number)
+        pool.leave_queue(slot);
+        self.claims[slot.get() as usize] = Claim::Link(lease.details().at);
+        Some(lease)
+    }
+
+    // The lowest free place of the database, if one is free.
+    fn lowest_free(&mut self, database: DatabaseNo) -> Option<LinkPlace>
+        requires { database < length self.old.view.pools }
+        ensures free { IfSome result (λ at. IsLowestFree self.old.view at × (at.database ≡ database)) }
+        ensures none { IfNone result (NoneFree database self.old.view) }
+        ensures same { self.new ≡ self.old }
+        ensures whole { IsPool self.new.view }
+    {
+        let pool = &mut self.pools[database.get() as usize];
+        let Some(index) = pool.lowest_free() else {
+            return None;
+        };
+        Some(LinkPlace { database, index })
     }
 
     // Whether nobody waits before the slot for the database.
     fn is_first(&self, slot: SlotNo, database: DatabaseNo) -> bool
-        requires { database < length self.now.pools }
-        ensures { result ≡ is_first slot (queue_at self.now database) }
+        requires { database < length self.now.view.pools }
+        ensures { result ≡ is_first slot (queue_at self.now.view database) }
     {
         let pool = &self.pools[database.get() as usize];
         pool.is_first(slot)
     }
 
-    // Whether a link of the database is idle.
-    fn has_idle(&self, database: DatabaseNo) -> bool
-        requires { database < length self.now.pools }
-        ensures some { result ≡ true → (index : ℕ) × (is_idle (place_at self.now record { database = database; index = index }) ≡ true) }
-        ensures none { result ≡ false → NoIdle self.now database }
-    {
-        let pool = &self.pools[database.get() as usize];
-        pool.has_idle()
-    }
-
-    // Whether a place of the database is free.
-    fn has_free(&self, database: DatabaseNo) -> bool
-        requires { database < length self.now.pools }
-        ensures some { result ≡ true → (index : ℕ) × (is_free (place_at self.now record { database = database; index = index }) ≡ true) }
-        ensures none { result ≡ false → (index : ℕ) → is_free (place_at self.now record { database = database; index = index }) ≡ false }
-    {
-        let pool = &self.pools[database.get() as usize];
-        pool.has_free()
-    }
-
     // The client of a slot waits, if it doesn't yet.
     fn wait(&mut self, slot: SlotNo, database: DatabaseNo)
-        requires slot { slot < length self.old.claims }
-        requires database { database < length self.old.pools }
-        requires not_holding { is_holding (slice_get self.old.claims slot) ≡ false }
-        ensures { self.new ≡ queued self.old slot database }
+        requires slot { slot < length self.old.view.claims }
+        requires database { database < length self.old.view.pools }
+        requires not_holding { is_holding (slice_get self.old.view.claims slot) ≡ false }
+        ensures view { self.new.view ≡ queued self.old.view slot database }
+        ensures streams { self.new.stored ≡ self.old.stored }
+        ensures whole { IsPool self.new.view }
     {
-        let Some(claim) = self.claim(slot) else {
-            return;
-        };
-        if claim.waiting().is_none() {
+        if let Some(Claim::Nothing) = self.claim(slot) {
             self.join_queue(slot, database);
         }
     }
@@ -166,10 +134,12 @@ impl<S: Drop> Pool<S> {
     /// The client of a slot, which waits for no other database, asks for a link of this one. It gets an idle one,
     /// if nobody waits before it; else the leave to open one, if a place is free; else it waits.
     pub fn acquire(&mut self, slot: SlotNo, database: DatabaseNo) -> AcquireReply<Lease<S>, Permit>
-        requires slot { slot < length self.old.claims }
-        requires database { database < length self.old.pools }
-        requires waits { (other : ℕ) → slice_get self.old.claims slot ≡ Some (claim.Waiting other) → other ≡ database }
-        ensures { AcquireStep self.old slot database (acquire_said result) self.new }
+        requires slot { slot < length self.old.view.claims }
+        requires database { database < length self.old.view.pools }
+        requires waits { (other : ℕ) → slice_get self.old.view.claims slot ≡ Some (claim.Waiting other) → other ≡ database }
+        ensures step { AcquireStep slot database (acquire_said result) self.old.view self.new.view }
+        ensures streams { AcquireStreams result self.old.stored self.new.stored }
+        ensures whole { IsPool self.new.view }
     {
         if self.is_holding(slot) {
             return AcquireReply::Holding;
@@ -178,18 +148,28 @@ impl<S: Drop> Pool<S> {
             self.wait(slot, database);
             return AcquireReply::Waiting;
         }
-        if self.has_idle(database) {
-            self.leave_queue(slot);
-            return AcquireReply::Got(self.take_idle(slot, database));
+        if let Some(lease) = self.take_idle(slot, database) {
+            return AcquireReply::Got(lease);
         }
-        if !self.has_free(database) {
+        let Some(at) = self.lowest_free(database) else {
             self.wait(slot, database);
             return AcquireReply::Waiting;
-        }
-        let Some(number) = self.give_permit() else {
+        };
+        let Some(number) = self.next_permit.give() else {
             return AcquireReply::Exhausted;
         };
         self.leave_queue(slot);
-        AcquireReply::Open(self.open(slot, database, number))
+        let permit = Permit::new(PermitRecord {
+            peer: self.peer,
+            incarnation: self.incarnation,
+            number,
+            at,
+        });
+        let kept = Entry::Open {
+            permit: permit.details(),
+            slot,
+        };
+        self.change(&permit.details().at, slot, kept);
+        AcquireReply::Open(permit)
     }
 }

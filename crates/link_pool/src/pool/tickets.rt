@@ -1,14 +1,15 @@
 //! Cancel requests that are on their way, and how they end.
-ghost use Rattle.std.specs.Prelude.{◌≡◌, ◌≢◌, ◌<◌, ◌≤◌, ◌+◌, ◌^◌, false, Some, None, IfSome, IsNone, IfNone, ◌↔◌, slice_get};
+ghost use Rattle.std.specs.Prelude.{◌≡◌, ◌≢◌, ◌≤◌, Some, is_some, IfSome, IfNone, slice_get};
 ghost use Rattle.lease.specs.declared.link_place.LinkPlace.{LinkPlace as LinkPlaceOf};
 ghost use Rattle.link_pool.specs.declared.place.Place.TheVariants as place;
 ghost use Rattle.link_pool.specs.declared.place.LinkState.TheVariants as state;
 ghost use Rattle.link_pool.specs.declared.place.Claim.TheVariants as claim;
 ghost use Rattle.link_pool.specs.declared.place.Link.{Link as LinkOf};
 ghost use Rattle.link_pool.specs.Pool.{place_at, with_place};
-ghost use Rattle.link_pool.specs.OnePlace.{LinkFits, StateFits};
-ghost use Rattle.link_pool.specs.PoolStep.{with_hold, IsTicket, StaleTicket, EndedStep, FailedStep, ServeStep};
-ghost use Rattle.link_pool.specs.Parts.{IsLent};
+ghost use Rattle.link_pool.specs.OnePlace.{IsPool, LinkFits};
+ghost use Rattle.link_pool.specs.PoolStep.{IsTicket, StaleTicket, EndedStep, FailedStep, ServeStep};
+ghost use Rattle.link_pool.specs.Parts.{IsLent, Leaves, settled_place, is_leaving};
+ghost use Rattle.link_pool.specs.Streams.{FailedStreams};
 ghost use Rattle.link_pool.specs.Said.{failed_said};
 
 use super::Pool;
@@ -19,44 +20,28 @@ use pg_ids::SlotNo;
 use quarantine::Hold;
 
 impl<S: Drop> Pool<S> {
-    // The tickets of a link change.
-    fn set_hold(&mut self, at: LinkPlace, link: Link, hold: Hold)
-        requires was { place_at self.old at ≡ Some (place.Link link) }
+    // A link that isn't idle has these tickets. If it is quarantined, then it is idle once none is open, and it
+    // leaves the pool once it is condemned: its stream is returned.
+    fn settle(&mut self, link: &Link, hold: Hold) -> Option<S>
+        requires was { place_at self.old.view link.now.details.at ≡ Some (place.Link link.now) }
+        requires not_idle { link.now.state ≢ state.Idle }
         requires few { hold.tickets ≤ 65535 }
-        requires fits { StateFits link.state hold }
-        ensures { self.new ≡ with_place self.old at (place.Link (with_hold link hold)) }
+        ensures view { self.new.view
+            ≡ with_place self.old.view link.now.details.at (settled_place hold (place.Link link.now)) }
+        ensures streams { Leaves link.now.details.at result self.old.stored self.new.stored }
+        ensures leaves { is_some result ≡ is_leaving hold (place.Link link.now) }
+        ensures whole { IsPool self.new.view }
     {
-        let pool = &mut self.pools[at.database.get() as usize];
-        pool.set_hold(at.index, link, hold);
-    }
-
-    // The last ticket of a quarantined link has ended.
-    fn clear(&mut self, at: LinkPlace, link: Link, hold: Hold)
-        requires was { place_at self.old at ≡ Some (place.Link link) }
-        requires quarantined { link.state ≡ state.Quarantined }
-        requires none { (hold.tickets ≡ 0) × (hold.condemned ≡ false) }
-        ensures { self.new ≡ with_place self.old at (place.Link (record (with_hold link hold) { state = state.Idle })) }
-    {
-        let pool = &mut self.pools[at.database.get() as usize];
-        pool.clear(at.index, link, hold);
-    }
-
-    // A ticket of a quarantined link has failed.
-    fn close_quarantined(&mut self, at: LinkPlace, link: Link) -> S
-        requires was { place_at self.old at ≡ Some (place.Link link) }
-        requires quarantined { link.state ≡ state.Quarantined }
-        ensures { self.new ≡ with_place self.old at place.Free }
-    {
-        let pool = &mut self.pools[at.database.get() as usize];
-        pool.close(at.index, link)
+        let pool = &mut self.pools[link.details.at.database.get() as usize];
+        pool.settle(link.details.at.index, hold)
     }
 
     // The link of a ticket, if it has an open ticket.
     fn of_ticket(&self, ticket: &TicketRecord) -> Option<Link>
-        ensures found { IfSome result (λ link. IsTicket self.now ticket.now link × LinkFits self.now ticket.now.at link) }
-        ensures stale { IfNone result (StaleTicket self.now ticket.now) }
+        ensures found { IfSome result (λ link. IsTicket ticket.now link self.now.view × LinkFits self.now.view ticket.now.at link) }
+        ensures stale { IfNone result (StaleTicket ticket.now self.now.view) }
+        ensures whole { IsPool self.now.view }
     {
-        let _peer = &self.peer;
         let Some(Place::Link(link)) = self.place(ticket.at) else {
             return None;
         };
@@ -74,44 +59,44 @@ impl<S: Drop> Pool<S> {
 
     /// A cancel request has ended cleanly.
     pub fn ended(&mut self, ticket: Ticket) -> EndedReply
-        ensures { EndedStep self.old ticket result self.new }
+        ensures step { EndedStep ticket result self.old.view self.new.view }
+        ensures streams { self.new.stored ≡ self.old.stored }
+        ensures whole { IsPool self.new.view }
     {
-        let ticket = ticket.spend();
-        let Some(link) = self.of_ticket(&ticket) else {
+        let Some(link) = self.of_ticket(&ticket.spend()) else {
             return EndedReply::Stale;
         };
-        let mut hold = link.hold;
+        let mut hold = link.hold();
         hold.clean_end();
+        let _none = self.settle(&link, hold);
         if link.is_quarantined() && hold.tickets() == 0 {
-            self.clear(ticket.at, link, hold);
             EndedReply::Freed
         } else {
-            self.set_hold(ticket.at, link, hold);
             EndedReply::Counted
         }
     }
 
     /// A cancel request hasn't ended cleanly.
     pub fn failed(&mut self, ticket: Ticket) -> FailedReply<S>
-        ensures { FailedStep self.old ticket (failed_said result) self.new }
+        ensures step { FailedStep ticket (failed_said result) self.old.view self.new.view }
+        ensures streams { FailedStreams ticket.at result self.old.stored self.new.stored }
+        ensures whole { IsPool self.new.view }
     {
-        let ticket = ticket.spend();
-        let Some(link) = self.of_ticket(&ticket) else {
+        let Some(link) = self.of_ticket(&ticket.spend()) else {
             return FailedReply::Stale;
         };
-        if link.is_quarantined() {
-            return FailedReply::Closed(self.close_quarantined(ticket.at, link));
-        }
-        let mut hold = link.hold;
+        let mut hold = link.hold();
         hold.fail();
-        self.set_hold(ticket.at, link, hold);
-        FailedReply::Condemned
+        match self.settle(&link, hold) {
+            Some(stream) => FailedReply::Closed(stream),
+            None => FailedReply::Condemned,
+        }
     }
 
     // The link of a place, if there is one.
     fn link_at(&self, at: LinkPlace) -> Option<Link>
-        ensures link { IfSome result (λ link. place_at self.now at ≡ Some (place.Link link)) }
-        ensures none { IfNone result ((link : LinkOf) → place_at self.now at ≢ Some (place.Link link)) }
+        ensures link { IfSome result (λ link. place_at self.now.view at ≡ Some (place.Link link)) }
+        ensures none { IfNone result ((link : LinkOf) → place_at self.now.view at ≢ Some (place.Link link)) }
     {
         let Some(Place::Link(link)) = self.place(at) else {
             return None;
@@ -121,10 +106,10 @@ impl<S: Drop> Pool<S> {
 
     // The link that the client of a slot has.
     fn lent(&self, slot: SlotNo) -> Option<Link>
-        ensures lent { IfSome result (λ link. IsLent self.now slot link.details.at link) }
-        ensures none { IfNone result ((at : LinkPlaceOf) → slice_get self.now.claims slot ≢ Some (claim.Link at)) }
+        ensures lent { IfSome result (λ link. IsLent slot link.details.at link self.now.view) }
+        ensures none { IfNone result ((at : LinkPlaceOf) → slice_get self.now.view.claims slot ≢ Some (claim.Link at)) }
+        ensures whole { IsPool self.now.view }
     {
-        let _peer = &self.peer;
         let Some(claim) = self.claim(slot) else {
             return None;
         };
@@ -132,26 +117,20 @@ impl<S: Drop> Pool<S> {
             return None;
         };
         let Some(link) = self.link_at(at) else {
-            unreachable!()
+            return None;
         };
         Some(link)
     }
 
-    // The number of the next ticket.
-    fn give_ticket(&mut self) -> Option<u64>
-        ensures none_left { IsNone result ↔ (self.old.next_ticket ≡ 2 ^ 64) }
-        ensures given { IfSome result (λ n. (n ≡ self.old.next_ticket) × (n < 2 ^ 64) × (self.new ≡ record self.old { next_ticket = self.old.next_ticket + 1 })) }
-        ensures unchanged { IfNone result (self.new ≡ self.old) }
-    {
-        let Some(number) = self.next_ticket.give() else {
-            return None;
-        };
-        Some(number)
-    }
-
     // What the ticket with this number says of a link.
     fn ticket(&self, number: u64, link: &Link) -> TicketRecord
-        ensures { result ≡ record { peer = self.now.peer; incarnation = self.now.incarnation; number = number; link = link.now.details.link; at = link.now.details.at } }
+        ensures { result ≡ record {
+          peer = self.now.view.peer;
+          incarnation = self.now.view.incarnation;
+          number = number;
+          link = link.now.details.link;
+          at = link.now.details.at;
+        } }
     {
         TicketRecord {
             peer: self.peer,
@@ -164,22 +143,22 @@ impl<S: Drop> Pool<S> {
 
     /// A cancel request for the client of a slot: it goes to the server of the link that this very client has.
     pub fn serve(&mut self, slot: SlotNo) -> ServeReply<Ticket>
-        ensures { ServeStep self.old slot result self.new }
+        ensures step { ServeStep slot result self.old.view self.new.view }
+        ensures streams { self.new.stored ≡ self.old.stored }
+        ensures whole { IsPool self.new.view }
     {
         let Some(link) = self.lent(slot) else {
             return ServeReply::NoLink;
         };
-        let mut hold = link.hold;
+        let mut hold = link.hold();
         let Ok(()) = hold.open_ticket() else {
             return ServeReply::Busy;
         };
-        let Some(number) = self.give_ticket() else {
+        let Some(number) = self.next_ticket.give() else {
             return ServeReply::Exhausted;
         };
-        let ticket = self.ticket(number, &link);
-        let database = link.at().database;
-        let key = link.key;
-        self.set_hold(link.at(), link, hold);
-        ServeReply::Serve(Ticket::new(ticket), database, key)
+        let _none = self.settle(&link, hold);
+        let ticket = Ticket::new(self.ticket(number, &link));
+        ServeReply::Serve(ticket, link.at().database, link.key)
     }
 }

@@ -1,87 +1,44 @@
-use Rattle.std.proofs.Common.{◌≡◌, ℕ, true, false, Some, slice_get, ◌+◌, sym, ap, arith, ◌∙◌}
+use Rattle.std.proofs.Common.{◌≡◌, ◌<◌, ◌+◌, ◌^◌, true, false, Some, length, slice_get, ap, subst, sym, ◌∙◌, arith, refl}
 use Rattle.lease.specs.declared.link_place.LinkPlace.{LinkPlace}
 use Rattle.lease.specs.declared.permit.PermitRecord.{PermitRecord}
 use Rattle.link_pool.specs.declared.place.Place.TheVariants as place
-use Rattle.link_pool.specs.declared.place.LinkState.TheVariants as state
 use Rattle.link_pool.specs.declared.place.Claim.TheVariants as claim
-use Rattle.link_pool.specs.Pool.{PoolView, place_at, queue_at, with_place, with_claim, unqueued}
-use Rattle.link_pool.specs.PoolStep.{is_idle, is_holding, is_first}
-use Rattle.link_pool.specs.Stacks.{is_free}
-use Rattle.link_pool.proofs.Asking.{place_unqueued, nothing_unqueued, given_unqueued, peer_unqueued, incarnation_unqueued, permit_given}
+use Rattle.link_pool.specs.Pool.{PoolView, place_at, with_place, with_claim, unqueued}
+use Rattle.link_pool.specs.PoolOf.{pool_of}
+use Rattle.link_pool.specs.OnePlace.{IsPool}
+use Rattle.link_pool.specs.PoolStep.{is_holding}
+use Rattle.link_pool.specs.Parts.{is_bare}
+use Rattle.link_pool.proofs.Asking.{place_unqueued, kept_unqueued, opened}
 use Rattle.link_pool.proofs.pool.Pool.acquire.Goals as goal
 
-pub take_idle-requires-clause-idle : goal.take_idle-requires-clause-idle
-take_idle-requires-clause-idle g c =
-    let some = c.has_idle.ensures.some c.if-has_idle.true in
-    let k : LinkPlace = record { database = c.args.database; index = some.0 } in
-    (some.0, ap (λ (w : PoolView). is_idle (place_at w k)) c.leave_queue.ensures ∙ ap is_idle (place_unqueued c.args.self.now c.args.slot k) ∙ some.1)
+pub change-requires-clause-bare : goal.change-requires-clause-bare
+change-requires-clause-bare g c =
+    let v : PoolView = (pool_of c.self.inside).view in
+    let w : PoolView = record v { next_permit = c.give.new.self } in
+    let at : LinkPlace = c.in-Some-lowest_free.at in
+    let is = c.self.view_is ∙ c.lowest_free.ensures.same in
+    let free : place_at v at ≡ Some place.Free = subst (λ p. place_at p.view at ≡ Some place.Free) (sym is) c.in-Some-lowest_free.ensures.free.0.free in
+    let at_is : c.details-2.result.at ≡ at = ap (λ (p : PermitRecord). p.at) (c.details-2.ensures ∙ c.new-permit.ensures) in
+    ap is_bare (ap (place_at c.leave_queue.new.self.view) at_is ∙ ap (λ x. place_at x at) c.leave_queue.ensures.view ∙ place_unqueued w c.args.slot at ∙ free)
 
-pub returns-then-has_idle : goal.returns-then-has_idle
-returns-then-has_idle g c =
-    let taken = c.take_idle.ensures in
-    let at : LinkPlace = c.take_idle.result.details.at in
-    let free : is_holding (slice_get c.args.self.now.claims c.args.slot) ≡ false = sym c.is_holding.ensures.value ∙ c.if-is_holding.false in
-    let first : is_first c.args.slot (queue_at c.args.self.now c.args.database) ≡ true = sym c.is_first.ensures ∙ c.if-not-is_first.false in (
-      (free, first),
-      record {
-        link = taken.link;
-        was = sym (place_unqueued c.args.self.now c.args.slot at) ∙ sym (ap (λ (w : PoolView). place_at w at) c.leave_queue.ensures) ∙ taken.was;
-        idle = taken.idle;
-        says = taken.says;
-        of = taken.of;
-        after = taken.after ∙ ap (λ (w : PoolView). with_claim (with_place w at (place.Link (record taken.link { state = state.Held c.args.slot }))) c.args.slot (claim.Link at)) c.leave_queue.ensures;
-      },
-    )
-
-pub open-requires-clause-nothing : goal.open-requires-clause-nothing
-open-requires-clause-nothing g c =
-    let given = c.in-Some.ensures.given in
-    let v : PoolView = record c.args.self.now { next_permit = c.args.self.now.next_permit + 1 } in
-    let out : c.leave_queue-2.new.self ≡ unqueued v c.args.slot = c.leave_queue-2.ensures ∙ ap (λ (w : PoolView). unqueued w c.args.slot) given.2 in
-    let free : is_holding (slice_get c.args.self.now.claims c.args.slot) ≡ false = sym c.is_holding.ensures.value ∙ c.if-is_holding.false in
-    ap (λ (w : PoolView). slice_get w.claims c.args.slot) out ∙ nothing_unqueued v c.args.slot c.requires.slot free
-
-pub open-requires-clause-free : goal.open-requires-clause-free
-open-requires-clause-free g c =
-    let given = c.in-Some.ensures.given in
-    let v : PoolView = record c.args.self.now { next_permit = c.args.self.now.next_permit + 1 } in
-    let out : c.leave_queue-2.new.self ≡ unqueued v c.args.slot = c.leave_queue-2.ensures ∙ ap (λ (w : PoolView). unqueued w c.args.slot) given.2 in
-    let some = c.has_free.ensures.some c.if-not-has_free.false in
-    let k : LinkPlace = record { database = c.args.database; index = some.0 } in
-    (some.0, ap (λ (w : PoolView). is_free (place_at w k)) out ∙ ap is_free (place_unqueued v c.args.slot k) ∙ some.1)
-
-pub open-requires-clause-new : goal.open-requires-clause-new
-open-requires-clause-new g c = λ at permit other e same.
-    let given = c.in-Some.ensures.given in
-    let v : PoolView = record c.args.self.now { next_permit = c.args.self.now.next_permit + 1 } in
-    let out : c.leave_queue-2.new.self ≡ unqueued v c.args.slot = c.leave_queue-2.ensures ∙ ap (λ (w : PoolView). unqueued w c.args.slot) given.2 in
-    let was : place_at c.args.self.now at ≡ Some (place.Open permit other) = sym (place_unqueued v c.args.slot at) ∙ sym (ap (λ (w : PoolView). place_at w at) out) ∙ e in
-    let below = permit_given c.args.self.now at permit other c.is_holding.ensures.whole was in
+pub change-requires-clause-whole : goal.change-requires-clause-whole
+change-requires-clause-whole g c =
+    let v : PoolView = (pool_of c.self.inside).view in
+    let n = c.give.new.self in
+    let w : PoolView = record v { next_permit = n } in
+    let slot = c.args.slot in
+    let at : LinkPlace = c.in-Some-lowest_free.at in
+    let is = c.self.view_is ∙ c.lowest_free.ensures.same in
+    let was = is ∙ c.in_default.ensures.same in
+    let free : place_at v at ≡ Some place.Free = subst (λ p. place_at p.view at ≡ Some place.Free) (sym is) c.in-Some-lowest_free.ensures.free.0.free in
+    let idle : is_holding (slice_get v.claims slot) ≡ false = subst (λ p. is_holding (slice_get p.view.claims slot) ≡ false) (sym was) (sym c.is_holding.ensures.value ∙ c.if-is_holding.false) in
+    let some : slot < length v.claims = subst (λ p. slot < length p.view.claims) (sym was) c.requires.slot in
+    let given = c.in-Some-give.ensures.given in
+    let below = given.1 in
     let number = given.0 in
-    omega (arith, below, number, same)
-
-pub returns : goal.returns
-returns g c =
-    let given = c.in-Some.ensures.given in
-    let v : PoolView = record c.args.self.now { next_permit = c.args.self.now.next_permit + 1 } in
-    let out : c.leave_queue-2.new.self ≡ unqueued v c.args.slot = c.leave_queue-2.ensures ∙ ap (λ (w : PoolView). unqueued w c.args.slot) given.2 in
-    let kept = c.open.ensures in
-    let at : LinkPlace = c.open.result.at in
-    let free : is_holding (slice_get c.args.self.now.claims c.args.slot) ≡ false = sym c.is_holding.ensures.value ∙ c.if-is_holding.false in
-    let first : is_first c.args.slot (queue_at c.args.self.now c.args.database) ≡ true = sym c.is_first.ensures ∙ c.if-not-is_first.false in
-    let few = given.1 in
-    let number = given.0 in (
-      (free, first),
-      c.has_idle.ensures.none c.if-has_idle.false,
-      record {
-        free = sym (place_unqueued v c.args.slot at) ∙ sym (ap (λ (w : PoolView). place_at w at) out) ∙ kept.free;
-        of = kept.of;
-        left = omega (arith, few, number);
-        says = kept.says
-            ∙ ap {B = PermitRecord} (λ (w : PoolView). record { peer = w.peer; incarnation = w.incarnation; number = c.in-Some.number; at = at }) out
-            ∙ ap {B = PermitRecord} (λ (p : ℕ). record { peer = p; incarnation = (unqueued v c.args.slot).incarnation; number = c.in-Some.number; at = at }) (peer_unqueued v c.args.slot)
-            ∙ ap {B = PermitRecord} (λ (i : ℕ). record { peer = c.args.self.now.peer; incarnation = i; number = c.in-Some.number; at = at }) (incarnation_unqueued v c.args.slot)
-            ∙ ap {B = PermitRecord} (λ (n : ℕ). record { peer = c.args.self.now.peer; incarnation = c.args.self.now.incarnation; number = n; at = at }) number;
-        after = kept.after ∙ ap (λ (w : PoolView). with_claim (with_place w at (place.Open c.open.result c.args.slot)) c.args.slot (claim.Open at)) (out ∙ given_unqueued c.args.self.now c.args.slot (c.args.self.now.next_permit + 1));
-      },
-    )
+    let permit : PermitRecord = record { peer = v.peer; incarnation = v.incarnation; number = v.next_permit; at = at } in
+    let says : c.new-permit.result ≡ permit = c.new-permit.ensures
+    ∙ ap {B = PermitRecord} (λ (x : PoolView). record { peer = x.peer; incarnation = x.incarnation; number = c.in-Some-give.number; at = at }) (ap (λ p. p.view) c.self-2.view_is ∙ c.leave_queue.ensures.view ∙ kept_unqueued w slot)
+    ∙ ap {B = PermitRecord} (λ x. record { peer = v.peer; incarnation = v.incarnation; number = x; at = at }) number in
+    let after = opened v slot n permit c.self.invariant some idle free (omega (arith, below, number)) given.2 refl in
+    rw (c.leave_queue.ensures.view, c.details.ensures, c.details-2.ensures, says) after

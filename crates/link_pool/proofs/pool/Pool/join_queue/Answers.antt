@@ -1,47 +1,40 @@
-use Rattle.std.proofs.Common.{rules, ◌≡◌, ◌<◌, ℕ, ◌∷◌, [], ◌++◌, Some, length, slice_get, slice_set, vec_len, sym, ap, subst, arith, ◌∙◌, List}
-use Rattle.std.proofs.lemmas.Option.{slice_get_within, slice_get-get_or}
+use Rattle.std.proofs.Common.{rules, ◌≡◌, ◌<◌, Some, length, slice_get, vec_len, sym, subst, arith, refl}
+use Rattle.std.proofs.lemmas.Option.{slice_get_within}
 use Rattle.link_pool.specs.declared.place.Claim.TheVariants as claim
-use Rattle.link_pool.specs.Pool.{DatabasePool, PoolView, with_queue, with_claim}
+use Rattle.link_pool.specs.Entries.{pool_in}
+use Rattle.link_pool.specs.Pool.{PoolView, behind}
 use Rattle.link_pool.specs.PoolOf.{pool_of}
-use Rattle.link_pool.specs.OnePlace.{IsPool}
-use Rattle.link_pool.proofs.Queues.{joined, queue_set, room_to_wait}
+use Rattle.link_pool.proofs.Entries.{read_pool, pool_seen, wrote_queue, kept_streams}
+use Rattle.link_pool.proofs.Queues.{joined, room_to_wait}
 use Rattle.link_pool.proofs.pool.Pool.join_queue.Goals as goal
 
 pub join_queue-requires : goal.join_queue-requires
 join_queue-requires g c =
-    let v : PoolView = pool_of c.self.inside in
-    let h : slice_get v.claims c.args.slot ≡ Some claim.Nothing = subst (λ (w : PoolView). slice_get w.claims c.args.slot ≡ Some claim.Nothing) (sym c.self.view_is) c.requires.nothing in
-    let within : c.args.database < length v.pools = subst (λ (w : PoolView). c.args.database < length w.pools) (sym c.self.view_is) c.requires.database in
-    let there : slice_get v.pools c.args.database ≡ Some c.index_mut-pool.result.now = subst (λ (n : ℕ). slice_get v.pools n ≡ Some c.index_mut-pool.result.now) c.get.ensures (slice_get-get_or v.pools c.get.result c.index_mut-pool.result.now (rw c.get.ensures within) ∙ ap Some (sym c.index_mut-pool.ensures.value)) in
-    room_to_wait v c.args.database c.args.slot c.index_mut-pool.result.now c.self.invariant there h
-
-pub index_mut-requires : goal.index_mut-requires
-index_mut-requires g c =
-    let v : PoolView = pool_of c.self.inside in
-    let h : slice_get v.claims c.args.slot ≡ Some claim.Nothing = subst (λ (w : PoolView). slice_get w.claims c.args.slot ≡ Some claim.Nothing) (sym c.self.view_is) c.requires.nothing in
-    let within : c.args.database < length v.pools = subst (λ (w : PoolView). c.args.database < length w.pools) (sym c.self.view_is) c.requires.database in
-    let few = slice_get_within v.claims c.args.slot claim.Nothing h in
-    let len : vec_len c.self.inside.claims ≡ length c.self.inside.claims.items = search rules in
-    let slot = c.get-2.ensures in
-    omega (arith, few, len, slot)
+    let pools = c.self.inside.pools.items in
+    let d = c.args.database in
+    let v : PoolView = (pool_of c.self.inside).view in
+    let h : slice_get v.claims c.args.slot ≡ Some claim.Nothing = subst (λ w. slice_get w.view.claims c.args.slot ≡ Some claim.Nothing) (sym c.self.view_is) c.requires.nothing in
+    let there = read_pool pools d c.get.result c.index_mut-pool.result.now c.get.ensures (subst (λ w. d < length w.view.pools) (sym c.self.view_is) c.requires.database) c.index_mut-pool.ensures.value in
+    room_to_wait v d c.args.slot (pool_in c.index_mut-pool.result.now) c.self.invariant (pool_seen pools d c.index_mut-pool.result.now there) h
 
 pub invariant_of-self : goal.invariant_of-self
 invariant_of-self g c =
-    let v : PoolView = pool_of c.self.inside in
-    let h : slice_get v.claims c.args.slot ≡ Some claim.Nothing = subst (λ (w : PoolView). slice_get w.claims c.args.slot ≡ Some claim.Nothing) (sym c.self.view_is) c.requires.nothing in
-    let within : c.args.database < length v.pools = subst (λ (w : PoolView). c.args.database < length w.pools) (sym c.self.view_is) c.requires.database in
-    let there : slice_get v.pools c.args.database ≡ Some c.index_mut-pool.result.now = subst (λ (n : ℕ). slice_get v.pools n ≡ Some c.index_mut-pool.result.now) c.get.ensures (slice_get-get_or v.pools c.get.result c.index_mut-pool.result.now (rw c.get.ensures within) ∙ ap Some (sym c.index_mut-pool.ensures.value)) in
-    let pools = queue_set v c.args.database c.get.result c.index_mut-pool.result.now c.join_queue.new.self (λ waiting. waiting ++ c.args.slot ∷ []) c.get.ensures (rw c.get.ensures within) c.index_mut-pool.ensures.value c.join_queue.ensures in
-    let after = joined v c.args.database c.args.slot c.index_mut-pool.result.now c.self.invariant there h in
-    subst (λ (ps : List DatabasePool). IsPool (record v { pools = ps; claims = slice_set v.claims c.get-2.result (claim.Waiting c.args.database) })) (sym pools)
-    (subst (λ (s : ℕ). IsPool (record (with_queue v c.args.database (λ waiting. waiting ++ c.args.slot ∷ [])) { claims = slice_set v.claims s (claim.Waiting c.args.database) })) (sym c.get-2.ensures) after)
+    let pools = c.self.inside.pools.items in
+    let d = c.args.database in
+    let v : PoolView = (pool_of c.self.inside).view in
+    let h : slice_get v.claims c.args.slot ≡ Some claim.Nothing = subst (λ w. slice_get w.view.claims c.args.slot ≡ Some claim.Nothing) (sym c.self.view_is) c.requires.nothing in
+    let there = read_pool pools d c.get.result c.index_mut-pool.result.now c.get.ensures (subst (λ w. d < length w.view.pools) (sym c.self.view_is) c.requires.database) c.index_mut-pool.ensures.value in
+    let queue = wrote_queue pools d c.get.result c.index_mut-pool.result.now c.join_queue.new.self (behind c.args.slot) c.get.ensures there c.join_queue.ensures in
+    rw (queue, c.get-2.ensures) (joined v d c.args.slot (pool_in c.index_mut-pool.result.now) c.self.invariant (pool_seen pools d c.index_mut-pool.result.now there) h)
 
 pub returns : goal.returns
 returns g c =
-    let v : PoolView = pool_of c.self.inside in
-    let h : slice_get v.claims c.args.slot ≡ Some claim.Nothing = subst (λ (w : PoolView). slice_get w.claims c.args.slot ≡ Some claim.Nothing) (sym c.self.view_is) c.requires.nothing in
-    let within : c.args.database < length v.pools = subst (λ (w : PoolView). c.args.database < length w.pools) (sym c.self.view_is) c.requires.database in
-    let there : slice_get v.pools c.args.database ≡ Some c.index_mut-pool.result.now = subst (λ (n : ℕ). slice_get v.pools n ≡ Some c.index_mut-pool.result.now) c.get.ensures (slice_get-get_or v.pools c.get.result c.index_mut-pool.result.now (rw c.get.ensures within) ∙ ap Some (sym c.index_mut-pool.ensures.value)) in
-    let pools = queue_set v c.args.database c.get.result c.index_mut-pool.result.now c.join_queue.new.self (λ waiting. waiting ++ c.args.slot ∷ []) c.get.ensures (rw c.get.ensures within) c.index_mut-pool.ensures.value c.join_queue.ensures in
-    subst (λ (w : PoolView). record v { pools = slice_set v.pools c.get.result c.join_queue.new.self; claims = slice_set v.claims c.get-2.result (claim.Waiting c.args.database) } ≡ with_claim (with_queue w c.args.database (λ waiting. waiting ++ c.args.slot ∷ [])) c.args.slot (claim.Waiting c.args.database)) c.self.view_is
-    (ap (λ (ps : List DatabasePool). record v { pools = ps; claims = slice_set v.claims c.get-2.result (claim.Waiting c.args.database) }) pools ∙ ap (λ (s : ℕ). record (with_queue v c.args.database (λ waiting. waiting ++ c.args.slot ∷ [])) { claims = slice_set v.claims s (claim.Waiting c.args.database) }) c.get-2.ensures)
+    let pools = c.self.inside.pools.items in
+    let d = c.args.database in
+    let there = read_pool pools d c.get.result c.index_mut-pool.result.now c.get.ensures (subst (λ w. d < length w.view.pools) (sym c.self.view_is) c.requires.database) c.index_mut-pool.ensures.value in
+    let queue = wrote_queue pools d c.get.result c.index_mut-pool.result.now c.join_queue.new.self (behind c.args.slot) c.get.ensures there c.join_queue.ensures in
+    record {
+      view = rw (← c.self.view_is, queue, c.get-2.ensures) refl;
+      streams = rw (← c.self.view_is) (kept_streams pools d c.get.result c.index_mut-pool.result.now c.join_queue.new.self (behind c.args.slot) c.get.ensures there c.join_queue.ensures);
+      whole = invariant_of-self g c;
+    }

@@ -1,5 +1,5 @@
-use Rattle.std.proofs.Common.{◌≡◌, ◌≤◌, length, take, vec_capacity, vec_len}
-use Rattle.link_pool.specs.PoolStep.{empty_pools}
+use Rattle.std.proofs.Common.{◌≡◌, ◌≤◌, length, map, take, vec_capacity, vec_len}
+use Rattle.link_pool.specs.Entries.{new_links}
 use Rattle.link_pool.proofs.pool.Pool.new.Given as goal
 
 -- the pools so far are those of the sizes so far
@@ -8,5 +8,5 @@ invariant-loop-size g l =
     record {
       room : length l.pool_sizes ≤ vec_capacity l.pools;
       count : vec_len l.pools ≡ l.size-index;
-      made : l.pools.items ≡ empty_pools (take l.size-index l.pool_sizes) l.slots;
+      made : l.pools.items ≡ map (λ size. new_links size l.slots) (take l.size-index l.pool_sizes);
     }

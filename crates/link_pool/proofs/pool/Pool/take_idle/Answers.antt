@@ -1,57 +1,80 @@
-use Rattle.std.proofs.Common.{◌≡◌, ◌<◌, ℕ, true, Some, length, slice_get, slice_set, sym, ap, subst, ◌∙◌, List}
+use Rattle.std.proofs.Common.{rules, ◌≡◌, ◌<◌, ℕ, false, None, Some, length, map, slice_get, slice_set, sym, ap, subst, ◌∙◌, refl}
 use Rattle.lease.specs.declared.link_place.LinkPlace.{LinkPlace}
 use Rattle.lease.specs.declared.link_record.LinkRecord.{LinkRecord}
-use Rattle.link_pool.specs.PoolStep.{is_idle}
-use Rattle.link_pool.specs.declared.place.Place.{Place}
+use Rattle.link_pool.specs.declared.entry.Entry.TheVariants as entry
 use Rattle.link_pool.specs.declared.place.Place.TheVariants as place
+use Rattle.link_pool.specs.declared.place.Link.{Link}
 use Rattle.link_pool.specs.declared.place.LinkState.TheVariants as state
 use Rattle.link_pool.specs.declared.place.Claim.TheVariants as claim
-use Rattle.link_pool.specs.Pool.{DatabasePool, PoolView, place_at, with_place, with_claim}
+use Rattle.link_pool.specs.Entries.{pool_in}
+use Rattle.link_pool.specs.Pool.{PoolView, place_at, unqueued, in_state, lend}
 use Rattle.link_pool.specs.PoolOf.{pool_of}
+use Rattle.link_pool.specs.PoolStep.{new_hold, nth_of, is_holding, NoIdle, Gets}
 use Rattle.link_pool.specs.OnePlace.{IsPool}
-use Rattle.link_pool.proofs.Handing.{placed, its_place, got, read_at, idle_within}
+use Rattle.link_pool.specs.Streams.{Takes}
+use Rattle.link_pool.proofs.Asking.{place_unqueued, nothing_unqueued, whole_unqueued, served}
+use Rattle.link_pool.proofs.Entries.{read_pool, seen, not_idle_at, pool_seen, entry_at, entry_in, wrote_both, wrote_both_streams, moves}
+use Rattle.link_pool.proofs.Handing.{its_place, got}
 use Rattle.link_pool.proofs.pool.Pool.take_idle.Goals as goal
 
-pub invariant_of-self : goal.invariant_of-self
-invariant_of-self g c =
-    let v : PoolView = pool_of c.self.inside in
-    let taken = c.take_idle-lease.ensures in
-    let had : slice_get v.claims c.args.slot ≡ Some claim.Nothing = subst (λ (w : PoolView). slice_get w.claims c.args.slot ≡ Some claim.Nothing) (sym c.self.view_is) c.requires.nothing in
-    let some = subst (λ (w : PoolView). (index : ℕ) × (is_idle (place_at w record { database = c.args.database; index = index }) ≡ true)) (sym c.self.view_is) c.requires.idle in
-    let within : c.get.result < length v.pools = rw c.get.ensures (idle_within v c.args.database some.0 some.1) in
-    let at : LinkPlace = record { database = c.args.database; index = taken.index } in
-    let was : place_at v at ≡ Some (place.Link taken.link) = read_at v at c.get.result c.index_mut-pool.result.now (place.Link taken.link) c.get.ensures within c.index_mut-pool.ensures.value taken.was in
-    let said : c.take_idle-lease.result.details.at ≡ at = ap (λ (r : LinkRecord). r.at) (sym taken.says) ∙ its_place v at taken.link c.self.invariant was in
-    let p : Place = place.Link (record taken.link { state = state.Held c.args.slot }) in
-    let pools = placed v at p c.get.result c.index_mut-pool.result.now c.take_idle-lease.new.self c.get.ensures within c.index_mut-pool.ensures.value taken.after in
-    let told : c.details.result.at ≡ at = ap (λ (r : LinkRecord). r.at) c.details.ensures ∙ said in
-    let after = got v at taken.link c.args.slot c.self.invariant was taken.idle had in
-    subst (λ (ps : List DatabasePool). IsPool (record v { pools = ps; claims = slice_set v.claims c.get-2.result (claim.Link c.details.result.at) })) (sym pools)
-    (subst (λ (s : ℕ). IsPool (record (with_place v at p) { claims = slice_set v.claims s (claim.Link c.details.result.at) })) (sym c.get-2.ensures)
-    (subst (λ (k : LinkPlace). IsPool (record (with_place v at p) { claims = slice_set v.claims c.args.slot (claim.Link k) })) (sym told) after))
+pub returns-in_default-clause-none : goal.returns-in_default-clause-none
+returns-in_default-clause-none g c =
+    let pools = c.self.inside.pools.items in
+    let d = c.args.database in
+    let there = read_pool pools d c.get.result c.index_mut-pool.result.now c.get.ensures (subst (λ w. d < length w.view.pools) (sym c.self.view_is) c.requires.database) c.index_mut-pool.ensures.value in
+    subst (λ w. NoIdle d w.view) c.self.view_is (λ i. not_idle_at pools (nth_of d i) c.index_mut-pool.result.now there (c.in_default.ensures.none i))
+
+pub invariant_of-self-2 : goal.invariant_of-self-2
+invariant_of-self-2 g c =
+    let pools = c.self.inside.pools.items in
+    let d = c.args.database in
+    let slot = c.args.slot in
+    let v : PoolView = (pool_of c.self.inside).view in
+    let there = read_pool pools d c.get.result c.index_mut-pool.result.now c.get.ensures (subst (λ w. d < length w.view.pools) (sym c.self.view_is) c.requires.database) c.index_mut-pool.ensures.value in
+    let taken = c.in-Some.ensures.taken in
+    let lease = c.in-Some.lease in
+    let at : LinkPlace = nth_of d taken.index in
+    let link : Link = record { details = lease.details; key = taken.key; state = state.Idle; hold = new_hold } in
+    let was = seen pools at c.index_mut-pool.result.now (entry.Idle lease taken.key) there taken.was in
+    let said : c.details.result.at ≡ at = ap (λ (r : LinkRecord). r.at) c.details.ensures ∙ its_place v at link c.self.invariant was in
+    let free : is_holding (slice_get v.claims slot) ≡ false = subst (λ w. is_holding (slice_get w.view.claims slot) ≡ false) (sym c.self.view_is) c.requires.free in
+    let some : slot < length v.claims = subst (λ w. slot < length w.view.claims) (sym c.self.view_is) c.requires.slot in
+    let own = subst (λ w. (other : ℕ) → slice_get w.view.claims slot ≡ Some (claim.Waiting other) → other ≡ d) (sym c.self.view_is) c.requires.waits in
+    let both = wrote_both pools at c.get.result c.index_mut-pool.result.now c.leave_queue.new.self (entry.Held lease.details taken.key new_hold slot) slot c.get.ensures there (c.leave_queue.ensures ∙ rw taken.after refl) in
+    let after = served v at (place.Link (in_state (state.Held slot) link)) slot (claim.Link at) (pool_in c.index_mut-pool.result.now) c.self.invariant free some own (pool_seen pools d c.index_mut-pool.result.now there) in
+    rw (both, c.get-2.ensures, said) (subst IsPool (sym after) (got (unqueued v slot) at link slot (whole_unqueued v slot c.self.invariant) (place_unqueued v slot at ∙ was) refl (nothing_unqueued v slot some free)))
 
 pub returns : goal.returns
 returns g c =
-    let v : PoolView = pool_of c.self.inside in
-    let taken = c.take_idle-lease.ensures in
-    let had : slice_get v.claims c.args.slot ≡ Some claim.Nothing = subst (λ (w : PoolView). slice_get w.claims c.args.slot ≡ Some claim.Nothing) (sym c.self.view_is) c.requires.nothing in
-    let some = subst (λ (w : PoolView). (index : ℕ) × (is_idle (place_at w record { database = c.args.database; index = index }) ≡ true)) (sym c.self.view_is) c.requires.idle in
-    let within : c.get.result < length v.pools = rw c.get.ensures (idle_within v c.args.database some.0 some.1) in
-    let at : LinkPlace = record { database = c.args.database; index = taken.index } in
-    let was : place_at v at ≡ Some (place.Link taken.link) = read_at v at c.get.result c.index_mut-pool.result.now (place.Link taken.link) c.get.ensures within c.index_mut-pool.ensures.value taken.was in
-    let said : c.take_idle-lease.result.details.at ≡ at = ap (λ (r : LinkRecord). r.at) (sym taken.says) ∙ its_place v at taken.link c.self.invariant was in
-    let p : Place = place.Link (record taken.link { state = state.Held c.args.slot }) in
-    let pools = placed v at p c.get.result c.index_mut-pool.result.now c.take_idle-lease.new.self c.get.ensures within c.index_mut-pool.ensures.value taken.after in
-    let told : c.details.result.at ≡ at = ap (λ (r : LinkRecord). r.at) c.details.ensures ∙ said in
+    let pools = c.self.inside.pools.items in
+    let d = c.args.database in
+    let slot = c.args.slot in
+    let v : PoolView = (pool_of c.self.inside).view in
+    let there = read_pool pools d c.get.result c.index_mut-pool.result.now c.get.ensures (subst (λ w. d < length w.view.pools) (sym c.self.view_is) c.requires.database) c.index_mut-pool.ensures.value in
+    let taken = c.in-Some.ensures.taken in
+    let lease = c.in-Some.lease in
+    let at : LinkPlace = nth_of d taken.index in
+    let link : Link = record { details = lease.details; key = taken.key; state = state.Idle; hold = new_hold } in
+    let was = seen pools at c.index_mut-pool.result.now (entry.Idle lease taken.key) there taken.was in
+    let place_is = its_place v at link c.self.invariant was in
+    let said : c.details.result.at ≡ at = ap (λ (r : LinkRecord). r.at) c.details.ensures ∙ place_is in
+    let free : is_holding (slice_get v.claims slot) ≡ false = subst (λ w. is_holding (slice_get w.view.claims slot) ≡ false) (sym c.self.view_is) c.requires.free in
+    let some : slot < length v.claims = subst (λ w. slot < length w.view.claims) (sym c.self.view_is) c.requires.slot in
+    let own = subst (λ w. (other : ℕ) → slice_get w.view.claims slot ≡ Some (claim.Waiting other) → other ≡ d) (sym c.self.view_is) c.requires.waits in
+    let both = wrote_both pools at c.get.result c.index_mut-pool.result.now c.leave_queue.new.self (entry.Held lease.details taken.key new_hold slot) slot c.get.ensures there (c.leave_queue.ensures ∙ rw taken.after refl) in
+    let after = served v at (place.Link (in_state (state.Held slot) link)) slot (claim.Link at) (pool_in c.index_mut-pool.result.now) c.self.invariant free some own (pool_seen pools d c.index_mut-pool.result.now there) in
+    let lies = wrote_both_streams pools at c.get.result c.index_mut-pool.result.now c.leave_queue.new.self (entry.Held lease.details taken.key new_hold slot) slot c.get.ensures there (c.leave_queue.ensures ∙ rw taken.after refl) in
     record {
-      link = taken.link;
-      was = subst (λ (w : PoolView). place_at w c.take_idle-lease.result.details.at ≡ Some (place.Link taken.link)) c.self.view_is (ap (place_at v) said ∙ was);
-      idle = taken.idle;
-      says = taken.says;
-      of = ap (λ (k : LinkPlace). k.database) said;
-      after = subst (λ (w : PoolView). record v { pools = slice_set v.pools c.get.result c.take_idle-lease.new.self; claims = slice_set v.claims c.get-2.result (claim.Link c.details.result.at) } ≡ with_claim (with_place w c.take_idle-lease.result.details.at p) c.args.slot (claim.Link c.take_idle-lease.result.details.at)) c.self.view_is
-          (ap (λ (ps : List DatabasePool). record v { pools = ps; claims = slice_set v.claims c.get-2.result (claim.Link c.details.result.at) }) pools
-          ∙ ap (λ (s : ℕ). record (with_place v at p) { claims = slice_set v.claims s (claim.Link c.details.result.at) }) c.get-2.ensures
-          ∙ ap (λ (k : LinkPlace). with_claim (with_place v at p) c.args.slot (claim.Link k)) told
-          ∙ ap (λ (k : LinkPlace). with_claim (with_place v k p) c.args.slot (claim.Link k)) (sym said));
+      got = rw (← c.self.view_is, both, c.get-2.ensures, said) (record {
+        link = link;
+        was = ap (place_at v) place_is ∙ was;
+        idle = refl;
+        says = refl;
+        of = ap (λ (k : LinkPlace). k.database) place_is;
+        after = after ∙ ap (λ k. lend (unqueued v slot) k slot link) (sym place_is);
+      });
+      stream = rw (← c.self.view_is, lies, place_is) (moves pools at (entry.Idle lease taken.key) None (ap (λ o. entry_in o taken.index) there ∙ taken.was));
+      none = tt;
+      same = tt;
+      whole = invariant_of-self-2 g c;
     }

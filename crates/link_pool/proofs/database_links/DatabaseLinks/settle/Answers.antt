@@ -1,0 +1,43 @@
+use Rattle.std.proofs.Common.{rules, ◌≡◌, ◌<◌, false, Some, length, slice_get, get_or, vec_len, sym, ap, subst, arith, ◌∙◌, refl}
+use Rattle.std.proofs.lemmas.Option.{slice_get-get_or, same_Some}
+use Rattle.link_pool.specs.declared.entry.Entry.TheVariants as entry
+use Rattle.link_pool.specs.Entries.{place_of, idle_entry, settled, leaving, with_entry}
+use Rattle.link_pool.proofs.Changes.{was_read}
+use Rattle.link_pool.proofs.Stacking.{not_each, relisted, below}
+use Rattle.link_pool.proofs.database_links.DatabaseLinks.settle.Goals as goal
+
+pub list-requires : goal.list-requires
+list-requires g c =
+    let entries = c.self.inside.entries.items in
+    let within : c.args.index < length entries = subst (λ p. c.args.index < length p.entries) (sym c.self.view_is) c.requires.there in
+    let out : idle_entry (slice_get entries c.args.index) ≡ false = subst (λ p. idle_entry (slice_get p.entries c.args.index) ≡ false) (sym c.self.view_is) c.requires.not_idle in
+    let was = was_read entries c.args.index c.args.index c.index_mut-entry.result.now refl within c.index_mut-entry.ensures.value in
+    let few = not_each idle_entry entries c.args.index c.index_mut-entry.result.now was (ap idle_entry (sym was) ∙ out) in
+    let counted = c.self.invariant.2.counted in
+    let room = c.self.invariant.1 in
+    let len : vec_len c.self.inside.entries ≡ length entries = search rules in
+    λ is. omega (arith, few, counted, room, len)
+
+pub invariant_of-self : goal.invariant_of-self
+invariant_of-self g c =
+    let entries = c.self.inside.entries.items in
+    let within : c.args.index < length entries = subst (λ p. c.args.index < length p.entries) (sym c.self.view_is) c.requires.there in
+    let out : idle_entry (slice_get entries c.args.index) ≡ false = subst (λ p. idle_entry (slice_get p.entries c.args.index) ≡ false) (sym c.self.view_is) c.requires.not_idle in
+    let was = was_read entries c.args.index c.args.index c.index_mut-entry.result.now refl within c.index_mut-entry.ensures.value in
+    let room = c.self.invariant.1 in
+    let capacity = c.list.ensures.capacity in
+    rw (c.list.ensures.idle, c.place-place.ensures) (
+      c.self.invariant.0,
+      omega (arith, room, capacity),
+      relisted idle_entry entries c.self.inside.idle.items c.args.index c.index_mut-entry.result.now c.settle-stream.new.self was (ap idle_entry (sym was) ∙ out) c.self.invariant.2,
+      below entries c.args.index c.self.inside.lowest c.list.new.lowest c.settle-stream.new.self within c.list.ensures.lowest (λ e. c.list.ensures.free (c.place-place.ensures ∙ ap place_of e)) c.self.invariant.3,
+    )
+
+pub returns : goal.returns
+returns g c = λ was h.
+    let entries = c.self.inside.entries.items in
+    let within : c.args.index < length entries = subst (λ p. c.args.index < length p.entries) (sym c.self.view_is) c.requires.there in
+    let read = was_read entries c.args.index c.args.index c.index_mut-entry.result.now refl within c.index_mut-entry.ensures.value in
+    let there : slice_get entries c.args.index ≡ Some was = subst (λ p. slice_get p.entries c.args.index ≡ Some was) (sym c.self.view_is) h in
+    let is : c.index_mut-entry.result.now ≡ was = same_Some c.index_mut-entry.result.now was (sym read ∙ there) in
+    (c.settle-stream.ensures.stream ∙ ap (leaving c.args.hold) is, rw (c.settle-stream.ensures.entry, is, ← c.self.view_is) refl)

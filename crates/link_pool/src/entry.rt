@@ -1,0 +1,166 @@
+//! What a pool keeps at one place: the link with its stream, where no client has that.
+ghost use Rattle.std.specs.Prelude.{◌≡◌, ◌≢◌, true, false};
+ghost use Rattle.link_pool.specs.declared.entry.Entry.TheVariants as entry;
+ghost use Rattle.link_pool.specs.Entries.{place_of, claim_of, settled, leaving, idle_link, lent};
+
+use crate::place::{Claim, Link, LinkState, Place};
+use lease::{IdleLink, Lease, LinkPlace, LinkRecord, PermitRecord, QuarantinedLink};
+use pg_ids::{ServerKey, SlotNo};
+use quarantine::{Hold, HoldState};
+
+/// One place of a pool.
+#[derive(Drop)]
+pub(crate) enum Entry<S> {
+    /// Nothing is there.
+    Free,
+    /// It is kept for the link that the client of this slot opens by this permit.
+    Open {
+        permit: PermitRecord,
+        slot: SlotNo,
+    },
+    /// The client of this slot has the link.
+    Held {
+        details: LinkRecord,
+        key: ServerKey,
+        hold: Hold,
+        slot: SlotNo,
+    },
+    /// The link is free for any client.
+    Idle {
+        link: IdleLink<S>,
+        key: ServerKey,
+    },
+    /// The link waits for cancel requests to end.
+    Quarantined {
+        link: QuarantinedLink<S>,
+        key: ServerKey,
+        hold: Hold,
+    },
+}
+
+impl<S: Drop> Entry<S> {
+    pub(crate) fn place(&self) -> Place
+        ensures { result ≡ place_of self.now }
+    {
+        let link = match self {
+            Entry::Free => return Place::Free,
+            Entry::Open { permit, slot } => return Place::Open(*permit, *slot),
+            Entry::Held {
+                details,
+                key,
+                hold,
+                slot,
+            } => Link {
+                details: *details,
+                key: *key,
+                state: LinkState::Held(*slot),
+                hold: *hold,
+            },
+            Entry::Idle { link, key } => Link {
+                details: link.details(),
+                key: *key,
+                state: LinkState::Idle,
+                hold: Hold::new(),
+            },
+            Entry::Quarantined { link, key, hold } => Link {
+                details: link.details(),
+                key: *key,
+                state: LinkState::Quarantined,
+                hold: *hold,
+            },
+        };
+        Place::Link(link)
+    }
+
+    pub(crate) fn is_free(&self) -> bool
+        ensures yes { result ≡ true → self.now ≡ entry.Free }
+        ensures no { result ≡ false → self.now ≢ entry.Free }
+    {
+        match self {
+            Entry::Free => true,
+            Entry::Open { .. }
+            | Entry::Held { .. }
+            | Entry::Idle { .. }
+            | Entry::Quarantined { .. } => false,
+        }
+    }
+
+    // What the client has, by what is at this place, if a client has something here.
+    pub(crate) fn claim(&self, at: &LinkPlace) -> Claim
+        ensures { result ≡ claim_of at.now self.now }
+    {
+        match self {
+            Entry::Open { .. } => Claim::Open(*at),
+            Entry::Held { .. } => Claim::Link(*at),
+            Entry::Free | Entry::Idle { .. } | Entry::Quarantined { .. } => Claim::Nothing,
+        }
+    }
+
+    // The client of a slot gets the link, if it is idle.
+    pub(crate) fn lend(&mut self, slot: SlotNo) -> Option<Lease<S>>
+        ensures lease { result ≡ idle_link self.old }
+        ensures entry { self.new ≡ lent slot self.old }
+    {
+        match std::mem::replace(self, Entry::Free) {
+            Entry::Idle { link, key } => {
+                *self = Entry::Held {
+                    details: link.details(),
+                    key,
+                    hold: Hold::new(),
+                    slot,
+                };
+                Some(link.hold())
+            }
+            other => {
+                *self = other;
+                None
+            }
+        }
+    }
+
+    // The link has these tickets. If it is quarantined, then it is free for others once none is open, and it leaves
+    // its place once it is condemned: its stream is returned.
+    pub(crate) fn settle(&mut self, to: Hold) -> Option<S>
+        ensures stream { result ≡ leaving to self.old }
+        ensures entry { self.new ≡ settled to self.old }
+    {
+        match std::mem::replace(self, Entry::Free) {
+            Entry::Held {
+                details,
+                key,
+                hold: _,
+                slot,
+            } => {
+                *self = Entry::Held {
+                    details,
+                    key,
+                    hold: to,
+                    slot,
+                };
+                None
+            }
+            Entry::Quarantined { link, key, hold: _ } => match to.state() {
+                HoldState::Clear => {
+                    *self = Entry::Idle {
+                        link: link.free(),
+                        key,
+                    };
+                    None
+                }
+                HoldState::Waiting(_) => {
+                    *self = Entry::Quarantined {
+                        link,
+                        key,
+                        hold: to,
+                    };
+                    None
+                }
+                HoldState::Condemned => Some(link.close()),
+            },
+            other => {
+                *self = other;
+                None
+            }
+        }
+    }
+}
