@@ -1,7 +1,9 @@
-pub mod Agreement
+pub mod Places
+pub mod Live
 pub mod Sizes
 pub mod Owning
+pub mod Clients
 pub mod Keeping
 pub mod LinkSteps
 pub mod Standing
-pub mod Leaving
+pub mod ClientSteps

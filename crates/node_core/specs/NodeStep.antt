@@ -1,6 +1,7 @@
--- The steps of a node (own; PgBouncer manual, transaction pooling and `[peers]`): which reply a call may get, and what
--- it leaves. Free is which free slot is next, which idle link is got, and which free place is kept.
-use Rattle.std.specs.Prelude.{ℕ, ◌≡◌, ◌≢◌, ◌==◌, ◌&&◌, ◌+◌, ◌<◌, ◌^◌, Bool, true, false, List, Option, Some, None, Result, Ok, Err, length, replicate, slice_get, slice_set}
+-- The steps of a node (own; PgBouncer manual, transaction pooling and `[peers]`): which reply a
+-- call may get, and the state that it leaves. Free is which free slot is next, which idle link is
+-- got, and which free place is kept.
+use Rattle.std.specs.Prelude.{ℕ, ◌≡◌, ◌≢◌, ◌+◌, ◌<◌, ◌^◌, Bool, true, false, List, Option, Some, None, Result, Ok, Err, length, replicate, slice_get, slice_set}
 use Rattle.pg_ids.specs.declared.client_key.ClientKey.{ClientKey}
 use Rattle.pg_ids.specs.Key.{IsKey, key_bytes}
 use Rattle.key_table.specs.Slots.{Issues, Frees, IsNext, IsFree}
@@ -15,6 +16,7 @@ use Rattle.link_pool.specs.declared.place.Claim.{Claim}
 use Rattle.link_pool.specs.declared.place.Claim.TheVariants as claim
 use Rattle.link_pool.specs.declared.replies.AcquireReply.{AcquireReply}
 use Rattle.link_pool.specs.declared.replies.AcquireReply.TheVariants as acquire
+use Rattle.link_pool.specs.declared.replies.ServeReply.{ServeReply}
 use Rattle.link_pool.specs.declared.replies.ServeReply.TheVariants as serve
 use Rattle.link_pool.specs.declared.replies.RestartReply.{RestartReply}
 use Rattle.link_pool.specs.declared.replies.RestartReply.TheVariants as restart
@@ -25,8 +27,8 @@ use Rattle.cancel_router.specs.declared.table_view.Standing.{Standing}
 use Rattle.cancel_router.specs.declared.table_view.Standing.TheVariants.{Without, Holds}
 use Rattle.cancel_router.specs.declared.decision.Route.{Route}
 use Rattle.cancel_router.specs.declared.decision.Route.TheVariants as route_to
-use Rattle.node_core.specs.View.{NodeView}
-use Rattle.node_core.specs.declared.node_view.Client.{Client}
+use Rattle.node_core.specs.View.{NodeView, NodeValue, IsClient}
+use Rattle.node_core.specs.declared.client.Client.{Client}
 use Rattle.node_core.specs.declared.refusal.JoinRefusal.{JoinRefusal}
 use Rattle.node_core.specs.declared.refusal.JoinRefusal.TheVariants as join
 use Rattle.node_core.specs.declared.refusal.CancelRefusal.TheVariants as cancel
@@ -37,30 +39,26 @@ use Rattle.node_core.specs.declared.exchange.Order.TheVariants as order
 use Rattle.node_core.specs.declared.exchange.Exchange.{Exchange}
 use Rattle.node_core.specs.declared.exchange.Exchange.TheVariants.{Join, Leave, Acquire, Up, UpFailed, Release, Close, Cancel, Ended, Failed, Restart}
 
--- a place of the slots has the client of the pass with this number
-abbrev pub has_pass : Option (Option Client) → ℕ → Bool
-has_pass None number = false
-has_pass (Some None) number = false
-has_pass (Some (Some client)) number = client.pass == number
+-- a pass is its slot's: its node and its incarnation are this one, and its number is that of the
+-- slot's client
+pub record IsPass (v : NodeView) (pass : PassRecord) (client : Client) : Type 0 where
+  pub own : (pass.key.peer ≡ v.me) × (pass.incarnation ≡ v.links.incarnation)
+  pub there : IsClient v pass.key.slot client
+  pub number : client.pass ≡ pass.number
 
--- whether a pass is its slot's: its node and its incarnation are this one, and so is the slot's pass number
-abbrev pub stands : NodeView → PassRecord → Bool
-stands v pass = (pass.key.peer == v.me) && (pass.incarnation == v.links.incarnation) && has_pass (slice_get v.clients pass.key.slot) pass.number
+-- the pass is no slot's
+abbrev pub StalePass : NodeView → PassRecord → Type 0
+StalePass v pass = (client : Client) → IsPass v pass client → ⊥
 
 -- how the client stands that has the link of a place
 abbrev pub holding : Option Place → Standing
-holding None = Without
-holding (Some place.Free) = Without
-holding (Some (place.Open permit slot)) = Without
 holding (Some (place.Link link)) = Holds link.details.link
+holding other = Without
 
 -- how a client stands, by what it has
 abbrev pub standing_by : PoolView → Option Claim → Standing
-standing_by links None = Without
-standing_by links (Some claim.Nothing) = Without
-standing_by links (Some (claim.Waiting database)) = Without
-standing_by links (Some (claim.Open at)) = Without
 standing_by links (Some (claim.Link at)) = holding (place_at links at)
+standing_by links other = Without
 
 -- how the client of a slot stands
 abbrev pub standing_in : NodeView → ℕ → Standing
@@ -71,99 +69,131 @@ abbrev pub LinksStep : (PoolView → PoolView → Type 0) → NodeView → NodeV
 LinksStep Step old new = Step old.links new.links × (new ≡ record old { links = new.links })
 
 -- a client of this database gets the next slot, and a pass with the next number
-pub record Joins (old : NodeView) (database secret : ℕ) (pass : PassRecord) (new : NodeView) : Type 0 where
+pub record Joins (database secret : ℕ) (pass : PassRecord) (old new : NodeView) : Type 0 where
   pub number : (pass.number ≡ old.next_pass) × (old.next_pass < 2 ^ 64)
   pub incarnation : pass.incarnation ≡ old.links.incarnation
   pub slot : Issues old.keys secret pass.key new.keys
   pub next : IsNext new.keys.secrets new.keys.next
   pub after : new ≡ record old {
     keys = new.keys;
-    clients = slice_set old.clients pass.key.slot (Some record { database = database; pass = pass.number });
+    clients = slice_set old.clients pass.key.slot
+        (Some record { database = database; pass = pass.number });
     next_pass = old.next_pass + 1;
   }
 
 -- joining
-abbrev pub JoinStep : NodeView → ℕ → ℕ → Result PassRecord JoinRefusal → NodeView → Type 0
-JoinStep old database secret (Ok pass) new = Joins old database secret pass new
+abbrev pub JoinStep : ℕ → ℕ → Result PassRecord JoinRefusal → NodeView → NodeView → Type 0
+JoinStep database secret (Ok pass) old new = Joins database secret pass old new
 -- no slot is free
-JoinStep old database secret (Err join.Full) new =
+JoinStep database secret (Err join.Full) old new =
     ((slot : ℕ) → slice_get old.keys.secrets slot ≢ Some None) × (new ≡ old)
 -- a slot is free, and no number is left for the pass
-JoinStep old database secret (Err join.Exhausted) new =
+JoinStep database secret (Err join.Exhausted) old new =
     ((slot : ℕ) × IsFree old.keys.secrets slot) × (old.next_pass ≡ 2 ^ 64) × (new ≡ old)
 
 -- the slot of a pass is free again and out of the queue, and no other changes
-pub record Leaves (old : NodeView) (pass : PassRecord) (new : NodeView) : Type 0 where
+pub record Leaves (pass : PassRecord) (old new : NodeView) : Type 0 where
   pub slot : Frees old.keys pass.key.slot new.keys
   pub next : IsNext new.keys.secrets new.keys.next
-  pub after : new ≡ record old { keys = new.keys; clients = slice_set old.clients pass.key.slot None; links = unqueued old.links pass.key.slot }
+  pub after : new ≡ record old {
+    keys = new.keys;
+    clients = slice_set old.clients pass.key.slot None;
+    links = unqueued old.links pass.key.slot;
+  }
+
+-- the pass is its slot's, whose client has a link or a permit, or has none
+abbrev pub IsLeaving : NodeView → PassRecord → Bool → Type 0
+IsLeaving v pass holding = (client : Client)
+    × IsPass v pass client × (pool.is_holding (slice_get v.links.claims pass.key.slot) ≡ holding)
 
 -- leaving
-abbrev pub LeaveStep : NodeView → PassRecord → LeaveReply PassRecord → NodeView → Type 0
-LeaveStep old pass Left new =
-    (stands old pass ≡ true) × (pool.is_holding (slice_get old.links.claims pass.key.slot) ≡ false) × Leaves old pass new
+abbrev pub LeaveStep : PassRecord → LeaveReply PassRecord → NodeView → NodeView → Type 0
+LeaveStep pass Left old new = IsLeaving old pass false × Leaves pass old new
 -- the client has a link or a permit
-LeaveStep old pass (Holding again) new =
-    (stands old pass ≡ true) × (pool.is_holding (slice_get old.links.claims pass.key.slot) ≡ true) × (again ≡ pass) × (new ≡ old)
-LeaveStep old pass Stale new = (stands old pass ≡ false) × (new ≡ old)
+LeaveStep pass (Holding again) old new = IsLeaving old pass true × (again ≡ pass) × (new ≡ old)
+LeaveStep pass Stale old new = StalePass old pass × (new ≡ old)
 -- no number is needed to leave
-LeaveStep old pass Exhausted new = ⊥
+LeaveStep pass Exhausted old new = ⊥
+
+-- what asking for a link returns, of a link what its lease says
+abbrev pub Asked : Type 0
+Asked = AcquireReply LinkRecord PermitRecord
 
 -- the client of a pass asks for a link of its own database
-pub record Asks (old : NodeView) (pass : PassRecord) (reply : AcquireReply LinkRecord PermitRecord) (new : NodeView) : Type 0 where
-  pub standing : stands old pass ≡ true
+pub record Asks (pass : PassRecord) (reply : Asked) (old new : NodeView) : Type 0 where
   pub client : Client
-  pub there : slice_get old.clients pass.key.slot ≡ Some (Some client)
-  pub step : LinksStep (λ before after. pool.AcquireStep before pass.key.slot client.database reply after) old new
+  pub is : IsPass old pass client
+  pub step : LinksStep (pool.AcquireStep pass.key.slot client.database reply) old new
 
 -- asking for a link
-abbrev pub AcquireStep : NodeView → PassRecord → AcquireReply LinkRecord PermitRecord → NodeView → Type 0
-AcquireStep old pass acquire.Stale new = (stands old pass ≡ false) × (new ≡ old)
-AcquireStep old pass reply new = Asks old pass reply new
+abbrev pub AcquireStep : PassRecord → Asked → NodeView → NodeView → Type 0
+AcquireStep pass acquire.Stale old new = StalePass old pass × (new ≡ old)
+AcquireStep pass reply old new = Asks pass reply old new
+
+-- a ticket for the link that the client of a slot has, or the reason why there is none
+abbrev pub Serves : ℕ → ServeReply TicketRecord → NodeView → NodeView → Type 0
+Serves slot reply old new = LinksStep (pool.ServeStep slot reply) old new
 
 -- the order that a route gives, for the client of this slot where it is sent to a link
 abbrev pub Orders : ℕ → Route → Order TicketRecord → NodeView → NodeView → Type 0
-Orders slot (route_to.Forward peer key) (order.Forward to packet) old new = (to ≡ peer) × (packet ≡ cancel_request (key_bytes key)) × (new ≡ old)
-Orders slot (route_to.Refused reason) (order.Refused refusal) old new = (refusal ≡ cancel.Route reason) × (new ≡ old)
+Orders slot (route_to.Forward peer key) (order.Forward to packet) old new =
+    (to ≡ peer) × (packet ≡ cancel_request (key_bytes key)) × (new ≡ old)
+Orders slot (route_to.Refused reason) (order.Refused refusal) old new =
+    (refusal ≡ cancel.Route reason) × (new ≡ old)
 -- one more ticket of that very link is open
 Orders slot (route_to.Send link) (order.Serve ticket database key) old new =
-    (ticket.link ≡ link) × LinksStep (λ before after. pool.ServeStep before slot (serve.Serve ticket database key) after) old new
+    (ticket.link ≡ link) × Serves slot (serve.Serve ticket database key) old new
 -- as many tickets of the link are open as may be
-Orders slot (route_to.Send link) (order.Refused cancel.Busy) old new = LinksStep (λ before after. pool.ServeStep before slot serve.Busy after) old new
+Orders slot (route_to.Send link) (order.Refused cancel.Busy) old new =
+    Serves slot serve.Busy old new
 -- no number is left for the ticket
-Orders slot (route_to.Send link) (order.Refused cancel.Exhausted) old new = LinksStep (λ before after. pool.ServeStep before slot serve.Exhausted after) old new
+Orders slot (route_to.Send link) (order.Refused cancel.Exhausted) old new =
+    Serves slot serve.Exhausted old new
 Orders slot way given old new = ⊥
 
+-- where a request with this key goes
+abbrev pub route_of : NodeView → ClientKey → Route
+route_of v key = route v.me v.peers v.keys (standing_in v) key
+
 -- a cancel request, by the one key that these bytes are
-pub record CancelStep (old : NodeView) (bytes : List ℕ) (given : Order TicketRecord) (new : NodeView) : Type 0 where
+pub record Cancels (bytes : List ℕ) (given : Order TicketRecord) (old new : NodeView) : Type 0 where
   pub key : ClientKey
   pub spelled : IsKey key × (key_bytes key ≡ bytes)
-  pub order_is : Orders key.slot (route old.me old.peers old.keys (standing_in old) key) given old new
+  pub order_is : Orders key.slot (route_of old key) given old new
 
 -- a new incarnation: no slot is live, and there is no link
 pub record Restarts (old new : NodeView) : Type 0 where
-  pub links : pool.RestartStep old.links restart.Restarted new.links
+  pub links : pool.RestartStep restart.Restarted old.links new.links
   pub peer : new.keys.peer ≡ old.keys.peer
   pub free : new.keys.secrets ≡ replicate (length old.keys.secrets) None
   pub next : IsNext new.keys.secrets new.keys.next
-  pub after : new ≡ record old { keys = new.keys; clients = replicate (length old.clients) None; links = new.links }
+  pub after : new ≡ record old {
+    keys = new.keys;
+    clients = replicate (length old.clients) None;
+    links = new.links;
+  }
 
 -- a new start
-abbrev pub RestartStep : NodeView → RestartReply → NodeView → Type 0
-RestartStep old restart.Restarted new = Restarts old new
+abbrev pub RestartStep : RestartReply → NodeView → NodeView → Type 0
+RestartStep restart.Restarted old new = Restarts old new
 -- no number is left for the incarnation
-RestartStep old restart.Exhausted new = pool.RestartStep old.links restart.Exhausted new.links × (new ≡ old)
+RestartStep restart.Exhausted old new =
+    pool.RestartStep restart.Exhausted old.links new.links × (new ≡ old)
 
 -- from old, the node may give this call its reply and go on to new
 abbrev pub NodeStep : NodeView → Exchange → NodeView → Type 0
-NodeStep old (Join database secret reply) new = JoinStep old database secret reply new
-NodeStep old (Leave pass reply) new = LeaveStep old pass reply new
-NodeStep old (Acquire pass reply) new = AcquireStep old pass reply new
-NodeStep old (Up permit key reply) new = LinksStep (λ before after. pool.UpStep before permit key reply after) old new
-NodeStep old (UpFailed permit reply) new = LinksStep (λ before after. pool.UpFailedStep before permit reply after) old new
-NodeStep old (Release lease reply) new = LinksStep (λ before after. pool.ReleaseStep before lease reply after) old new
-NodeStep old (Close lease reply) new = LinksStep (λ before after. pool.CloseStep before lease reply after) old new
-NodeStep old (Cancel bytes reply) new = CancelStep old bytes reply new
-NodeStep old (Ended ticket reply) new = LinksStep (λ before after. pool.EndedStep before ticket reply after) old new
-NodeStep old (Failed ticket reply) new = LinksStep (λ before after. pool.FailedStep before ticket reply after) old new
-NodeStep old (Restart reply) new = RestartStep old reply new
+NodeStep old (Join database secret reply) new = JoinStep database secret reply old new
+NodeStep old (Leave pass reply) new = LeaveStep pass reply old new
+NodeStep old (Acquire pass reply) new = AcquireStep pass reply old new
+NodeStep old (Up permit key reply) new = LinksStep (pool.UpStep permit key reply) old new
+NodeStep old (UpFailed permit reply) new = LinksStep (pool.UpFailedStep permit reply) old new
+NodeStep old (Release lease reply) new = LinksStep (pool.ReleaseStep lease reply) old new
+NodeStep old (Close lease reply) new = LinksStep (pool.CloseStep lease reply) old new
+NodeStep old (Cancel bytes reply) new = Cancels bytes reply old new
+NodeStep old (Ended ticket reply) new = LinksStep (pool.EndedStep ticket reply) old new
+NodeStep old (Failed ticket reply) new = LinksStep (pool.FailedStep ticket reply) old new
+NodeStep old (Restart reply) new = RestartStep reply old new
+
+-- a node with its streams takes the step of this call
+abbrev pub IsStep : {S : Type 0} → Exchange → NodeValue S → NodeValue S → Type 0
+IsStep call old new = NodeStep old.view call new.view

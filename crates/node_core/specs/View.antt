@@ -1,17 +1,19 @@
 -- The view of a node (own).
-use Rattle.std.specs.Prelude.{ℕ, ◌≡◌, ◌<◌, ◌≤◌, ◌^◌, List, Option, Some, None, length, map, slice_get, replicate}
+use Rattle.std.specs.Prelude.{ℕ, ◌≡◌, ◌<◌, ◌≤◌, ◌^◌, List, Option, Some, None, is_some, length, map, slice_get, replicate}
 use Rattle.key_table.specs.Slots.{Slots, IsNext}
 use Rattle.ini_config.specs.Node.{NodeSettings}
 use Rattle.link_pool.specs.declared.place.Claim.{Claim}
 use Rattle.link_pool.specs.declared.place.Claim.TheVariants as claim
-use Rattle.link_pool.specs.Pool.{DatabasePool, PoolView}
-use Rattle.link_pool.specs.OnePlace.{IsPool}
+use Rattle.link_pool.specs.Pool.{PoolView}
+use Rattle.link_pool.specs.OnePlace.{IsPool, sizes, WithinSizes}
 use Rattle.link_pool.specs.PoolStep.{fresh}
-use Rattle.node_core.specs.declared.node_view.Client.{Client}
+use Rattle.link_pool.specs.Streams.{PoolValue}
+use Rattle.node_core.specs.declared.client.Client.{Client}
 
--- A node's own number and its peers; the pool size of each database, by its place; the slots, with the secret of
--- each live one, and the next; by slot the client of each live one, with its database and its pass's number; the
--- number of the next pass; and the links: the incarnation, each place, who has it, who waits, and the next numbers.
+-- A node's own number and its peers; the pool size of each database, by its place; the slots, with
+-- the secret of each live one, and the next; by slot the client of each live one, with its database
+-- and its pass's number; the number of the next pass; and the links: the incarnation, each place,
+-- who has it, who waits, and the next numbers.
 pub record NodeView : Type 0 where
   pub me : ℕ
   pub peers : List ℕ
@@ -21,20 +23,24 @@ pub record NodeView : Type 0 where
   pub next_pass : ℕ
   pub links : PoolView
 
+-- A node's view with the streams: by database and place that of the link which is idle or
+-- quarantined there.
+pub record NodeValue (S : Type 0) : Type 0 where
+  pub view : NodeView
+  pub stored : List (List (Option S))
+
+-- the links with their streams
+abbrev pub links_of : {S : Type 0} → NodeValue S → PoolValue S
+links_of node = record { view = node.view.links; stored = node.stored }
+
 -- the client at a place of the slots
 abbrev pub client_at : Option (Option Client) → Option Client
 client_at None = None
 client_at (Some client) = client
 
--- a slot has a secret exactly where it has a client
-abbrev pub Agree : Option (Option ℕ) → Option (Option Client) → Type 0
-Agree None None = Unit {0}
-Agree (Some None) (Some None) = Unit {0}
-Agree (Some (Some secret)) (Some (Some client)) = Unit {0}
-Agree None (Some client) = ⊥
-Agree (Some secret) None = ⊥
-Agree (Some None) (Some (Some client)) = ⊥
-Agree (Some (Some secret)) (Some None) = ⊥
+-- the slot is live, and this is its client
+abbrev pub IsClient : NodeView → ℕ → Client → Type 0
+IsClient v slot client = slice_get v.clients slot ≡ Some (Some client)
 
 -- what a client has is of its own database
 abbrev pub IsOwn : Client → Claim → Type 0
@@ -51,23 +57,36 @@ Has (Some (Some client)) (Some had) = IsOwn client had
 Has None (Some had) = ⊥
 Has (Some client) None = ⊥
 
--- the places of each pool
-abbrev pub sizes : List DatabasePool → List ℕ
-sizes pools = map (λ pool. length pool.places) pools
+-- what is true of every node's view, besides what is true of its links
+pub record IsNode (v : NodeView) : Type 0 where
+  pub own : (v.keys.peer ≡ v.me) × (v.links.peer ≡ v.me)
+  pub next : IsNext v.keys.secrets v.keys.next
+  -- a slot has a secret exactly where it has a client
+  pub live : map is_some v.keys.secrets ≡ map is_some v.clients
+  pub has : (slot : ℕ) → Has (slice_get v.clients slot) (slice_get v.links.claims slot)
+  -- a client's database is one of the node's, and its pass has a number that was given
+  pub clients : (slot : ℕ) (client : Client) → IsClient v slot client
+      → (client.database < length v.pools) × (client.pass < v.next_pass)
+  -- no two live slots have one pass
+  pub passes : (slot other : ℕ) (a b : Client) → IsClient v slot a → IsClient v other b
+      → a.pass ≡ b.pass → slot ≡ other
+  -- each pool has as many places as its size
+  pub sized : sizes v.links.pools ≡ v.pools
+  pub numbers : v.next_pass ≤ 2 ^ 64
 
 -- what is true of every node's view
 pub record IsView (v : NodeView) : Type 0 where
-  pub own : (v.keys.peer ≡ v.me) × (v.links.peer ≡ v.me)
-  pub next : IsNext v.keys.secrets v.keys.next
-  pub live : (slot : ℕ) → Agree (slice_get v.keys.secrets slot) (slice_get v.clients slot)
-  pub has : (slot : ℕ) → Has (slice_get v.clients slot) (slice_get v.links.claims slot)
-  pub databases : (slot : ℕ) (client : Client) → slice_get v.clients slot ≡ Some (Some client) → client.database < length v.pools
-  pub sized : sizes v.links.pools ≡ v.pools
+  pub node : IsNode v
   pub places : IsPool v.links
-  pub numbers : v.next_pass ≤ 2 ^ 64
+  -- links and permits of a database are at most as many as its pool size
+  pub within : WithinSizes v.pools v.links
 
--- a node that was just made of its settings: nobody is logged in, no link is open, and the first numbers are given
--- next
+-- the pool size of each database
+abbrev pub pool_sizes : NodeSettings → List ℕ
+pool_sizes settings = map (λ d. d.pool_size) settings.databases
+
+-- a node that was just made of its settings: nobody is logged in, no link is open, and the first
+-- numbers are given next
 pub record IsFresh (settings : NodeSettings) (v : NodeView) : Type 0 where
   pub own : v.keys.peer ≡ settings.peer_id
   pub free : v.keys.secrets ≡ replicate settings.max_client_conn None
@@ -75,9 +94,9 @@ pub record IsFresh (settings : NodeSettings) (v : NodeView) : Type 0 where
   pub fields : v ≡ record {
     me = settings.peer_id;
     peers = map (λ p. p.number) settings.peers;
-    pools = map (λ d. d.pool_size) settings.databases;
+    pools = pool_sizes settings;
     keys = v.keys;
     clients = replicate settings.max_client_conn None;
     next_pass = 0;
-    links = fresh settings.peer_id (map (λ d. d.pool_size) settings.databases) settings.max_client_conn;
+    links = fresh settings.peer_id (pool_sizes settings) settings.max_client_conn;
   }

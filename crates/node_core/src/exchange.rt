@@ -7,7 +7,7 @@ use link_pool::{
 };
 use pg_ids::{DatabaseNo, PeerNo, Secret, ServerKey};
 
-/// What leaving answers. `P` is the pass that is handed back: a `Pass`, or what it says.
+/// What leaving returns. `P` is the pass that is handed back: a `Pass`, or what it says.
 #[derive(Clone, Copy, Debug, PartialEq, Eq)]
 pub enum LeaveReply<P> {
     /// The slot is free again.
@@ -23,7 +23,8 @@ pub enum LeaveReply<P> {
 /// What a cancel request makes a node do. `T` is a `Ticket`, or what it says.
 #[derive(Clone, Copy, Debug, PartialEq, Eq)]
 pub enum Order<T> {
-    /// Carry a CancelRequest with this key to the server of this database, and tell its end by the ticket.
+    /// Carry a CancelRequest with this key to the server of this database, and report its end by
+    /// the ticket.
     Serve(T, DatabaseNo, ServerKey),
     /// Carry this CancelRequest to this peer.
     Forward(PeerNo, [u8; 16]),
@@ -31,7 +32,8 @@ pub enum Order<T> {
     Refused(CancelRefusal),
 }
 
-/// A call of a node, with the reply that it got. Of what was handed in or out it has what that says.
+/// A call of a node, with the reply that it got. Of a value that was handed in or out it has what
+/// that says.
 #[derive(Clone, Copy, Debug, PartialEq, Eq)]
 pub enum Exchange {
     /// A client of this database asked for a slot with this secret.

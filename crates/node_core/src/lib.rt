@@ -1,12 +1,14 @@
-//! The state of one pooler and its eleven steps, each of which is made whole: joining and leaving clients, the
-//! links that they hold or wait for, the orders that cancel requests give, and new starts.
+//! The state of one pooler and its eleven steps, each of which is made whole: joining and leaving
+//! clients, the links that they hold or wait for, the orders that cancel requests give, and new
+//! starts.
 #![tactic(auto)]
 
+mod client;
 mod exchange;
 mod node;
-mod node_view;
 mod refusal;
 
+pub use client::Client;
 pub use exchange::{Exchange, LeaveReply, Order};
 pub use lease::{
     Lease, LinkPlace, LinkRecord, Pass, PassRecord, Permit, PermitRecord, Ticket, TicketRecord,
@@ -16,9 +18,5 @@ pub use link_pool::{
     UpReply,
 };
 pub use node::NodeCore;
-pub use node_view::{Client, View};
 pub use pg_ids::DatabaseNo;
-pub use refusal::{CancelRefusal, JoinRefusal};
-
-#[cfg(test)]
-mod tests;
+pub use refusal::{CancelRefusal, JoinRefusal, StepRefusal};

@@ -1,138 +1,135 @@
-//! A node, and its steps.
-ghost use Rattle.std.specs.Prelude.{◌≡◌, ◌<◌, IfOk, length};
-ghost use Rattle.link_pool.specs.Said.{acquire_said, up_said, release_said, close_said, failed_said, closed_stream, FromLease, UpStream};
-ghost use Rattle.node_core.specs.View.{NodeView, IsView, IsFresh};
-ghost use Rattle.node_core.specs.declared.exchange.Exchange.{Exchange};
-ghost use Rattle.node_core.specs.NodeStep.{NodeStep};
+//! A node: what can be read of its state, and its steps by subject.
+ghost use Rattle.std.specs.Prelude.{◌≡◌, IfOk, slice_get};
+ghost use Rattle.link_pool.specs.Streams.{NothingStored, AreStored, RestartStreams};
+ghost use Rattle.node_core.specs.View.{IsView, IsFresh, client_at, links_of};
+ghost use Rattle.node_core.specs.declared.exchange.Exchange.TheVariants as call;
+ghost use Rattle.node_core.specs.NodeStep.{IsStep};
 
-use crate::exchange::{LeaveReply, Order};
-use crate::node_view::View;
-use crate::refusal::JoinRefusal;
+mod cancels;
+mod clients;
+mod links;
+
+use crate::client::Client;
 use ini_config::Settings;
-use lease::{Lease, Pass, Permit, Ticket};
-use link_pool::{
-    AcquireReply, CloseReply, EndedReply, FailedReply, ReleaseReply, RestartReply, UpFailedReply,
-    UpReply,
-};
-use pg_ids::{DatabaseNo, Secret, ServerKey};
+use key_table::KeyTable;
+use link_pool::{NextNumber, Pool, RestartReply};
+use pg_ids::{PeerNo, SlotNo};
 use std::alloc::{AllocError, Global};
 use std::marker::Model;
 
-/// A node's state, which changes by its steps alone. `S` is the stream of a link to a server. No step takes memory.
+/// A node's state, which changes by its steps alone. `S` is the stream of a link to a server. No
+/// step takes memory.
 #[derive(Drop)]
 pub struct NodeCore<S> {
-    view: View<S>,
+    me: PeerNo,
+    peers: Vec<PeerNo>,
+    pools: Vec<u16>,
+    keys: KeyTable,
+    clients: Vec<Option<Client>>,
+    next_pass: NextNumber,
+    links: Pool<S>,
 }
 
 impl<S> Model for NodeCore<S> {
-    ghost use Rattle.node_core.specs.View.{NodeView};
+    ghost use Rattle.node_core.specs.View.{NodeValue, IsNode};
+    ghost use Rattle.node_core.specs.ViewOf.{node_of};
 
-    ghost Value = { NodeView };
+    ghost Value = { NodeValue S };
 
-    ghost view = { λ core. core.view };
+    ghost view = { node_of };
+
+    ghost invariant = { λ v. IsNode (node_of v).view };
 }
 
 impl<S: Drop> NodeCore<S> {
-    /// A node with these settings, at which nobody is logged in: its number, its peers and their order, the pool
-    /// size of each database, and a slot for each client. It takes all the memory that the node needs.
+    /// A node with these settings, at which nobody is logged in: its number, its peers and their
+    /// order, the pool size of each database, and a slot for each client. It takes all the memory
+    /// that the node needs.
     pub fn new(alloc: Global, settings: &Settings) -> Result<NodeCore<S>, AllocError>
-        ensures { IfOk result (λ core. IsFresh settings.now core) }
+        ensures fresh { IfOk result (λ core. IsFresh settings.now core.view) }
+        ensures streams { IfOk result (λ core. NothingStored core.stored) }
     {
+        let me = settings.peer_id();
+        let limit = settings.max_client_conn();
+        let pools = settings.pool_sizes(alloc)?;
+        let links = Pool::new(alloc, me, &pools, limit)?;
         Ok(NodeCore {
-            view: View::new(alloc, settings)?,
+            me,
+            peers: settings.peer_numbers(alloc)?,
+            pools,
+            keys: KeyTable::new(alloc, me, limit)?,
+            clients: vec![in alloc; None; limit as usize]?,
+            next_pass: NextNumber::new(),
+            links,
         })
     }
 
-    /// What the state is.
-    pub fn view(&self) -> &View<S>
-        ensures view { result.now ≡ self.now }
-        ensures whole { IsView self.now }
+    /// The node's own number.
+    pub fn me(&self) -> PeerNo
+        ensures { result ≡ self.now.view.me }
     {
-        let view = &self.view;
-        view.known();
-        view
+        self.me
     }
 
-    /// A client of this database logs in: the next slot becomes live with this secret.
-    pub fn join(&mut self, database: DatabaseNo, secret: Secret) -> Result<Pass, JoinRefusal>
-        requires { database < length self.old.pools }
-        ensures { NodeStep self.old (Exchange.Join database secret result) self.new }
+    /// The numbers of its peers, in the order of its settings.
+    pub fn peers(&self) -> &[PeerNo]
+        ensures { result.now ≡ self.now.view.peers }
     {
-        self.view.join(database, secret)
+        self.peers.as_slice()
     }
 
-    /// The client of a pass leaves, if it has no link and no permit: its slot is free again.
-    pub fn leave(&mut self, pass: Pass) -> LeaveReply<Pass>
-        ensures { NodeStep self.old (Exchange.Leave pass result) self.new }
+    /// The pool size of each database, by its place.
+    pub fn pool_sizes(&self) -> &[u16]
+        ensures { result.now ≡ self.now.view.pools }
     {
-        self.view.leave(pass)
+        self.pools.as_slice()
     }
 
-    /// The client of a pass asks for a link of its database. It gets an idle one, if nobody waits before it; else
-    /// the leave to open one, if the pool isn't full; else it waits.
-    pub fn acquire(&mut self, pass: &Pass) -> AcquireReply<Lease<S>, Permit>
-        ensures { NodeStep self.old (Exchange.Acquire pass.now (acquire_said result)) self.new }
+    /// The number of times that the node was started anew, which its values carry.
+    pub fn incarnation(&self) -> u64
+        ensures value { result ≡ self.now.view.links.incarnation }
+        // This is true of every node: a stream is stored exactly where a link is idle or
+        // quarantined.
+        ensures whole { IsView self.now.view }
+        ensures streams { AreStored (links_of self.now) }
     {
-        self.view.acquire(&pass.details())
+        self.links.incarnation()
     }
 
-    /// A link is open, over this stream, and its server cancels by this key: the permit's client has it.
-    pub fn up(&mut self, permit: Permit, stream: S, key: ServerKey) -> UpReply<Lease<S>, Permit, S>
-        ensures step { NodeStep self.old (Exchange.Up permit key (up_said result)) self.new }
-        ensures stream { UpStream stream result }
+    /// The slot that the next client gets, and none where each slot is live.
+    pub fn next_slot(&self) -> Option<SlotNo>
+        ensures { result ≡ self.now.view.keys.next }
     {
-        self.view.up(permit, stream, key)
+        self.keys.next_slot()
     }
 
-    /// A link couldn't be opened: its place is free.
-    pub fn up_failed(&mut self, permit: Permit) -> UpFailedReply
-        ensures { NodeStep self.old (Exchange.UpFailed permit result) self.new }
+    /// The client of a slot, and none where the slot isn't live.
+    pub fn client(&self, slot: SlotNo) -> Option<Client>
+        ensures { result ≡ client_at (slice_get self.now.view.clients slot) }
     {
-        self.view.up_failed(permit)
+        self.clients.get(slot.get() as usize).copied().flatten()
     }
 
-    /// A client gives its link back.
-    pub fn release(&mut self, lease: Lease<S>) -> ReleaseReply<S>
-        ensures step { NodeStep self.old (Exchange.Release lease.details (release_said result)) self.new }
-        ensures stream { FromLease lease.stream result }
+    /// The links, and what each client has of them.
+    pub fn links(&self) -> &Pool<S>
+        ensures { result.now ≡ links_of self.now }
     {
-        self.view.release(lease)
+        &self.links
     }
 
-    /// A link leaves the pool.
-    pub fn close(&mut self, lease: Lease<S>) -> CloseReply<S>
-        ensures step { NodeStep self.old (Exchange.Close lease.details (close_said result)) self.new }
-        ensures stream { closed_stream result ≡ lease.stream }
-    {
-        self.view.close(lease)
-    }
-
-    /// A cancel request with these eight key bytes comes.
-    pub fn cancel(&mut self, key: &[u8; 8]) -> Order<Ticket>
-        ensures { NodeStep self.old (Exchange.Cancel key.now result) self.new }
-    {
-        self.view.cancel(key)
-    }
-
-    /// A cancel request has ended cleanly.
-    pub fn ended(&mut self, ticket: Ticket) -> EndedReply
-        ensures { NodeStep self.old (Exchange.Ended ticket result) self.new }
-    {
-        self.view.ended(ticket)
-    }
-
-    /// A cancel request hasn't ended cleanly.
-    pub fn failed(&mut self, ticket: Ticket) -> FailedReply<S>
-        ensures { NodeStep self.old (Exchange.Failed ticket (failed_said result)) self.new }
-    {
-        self.view.failed(ticket)
-    }
-
-    /// A new start: the next incarnation, in which nobody is logged in and no link is open. The streams of idle and
-    /// quarantined links are dropped; numbers go on.
+    /// A new start: the next incarnation, in which nobody is logged in and no link is open. The
+    /// streams of idle and quarantined links are dropped; numbers go on.
     pub fn restart(&mut self) -> RestartReply
-        ensures { NodeStep self.old (Exchange.Restart result) self.new }
+        ensures step { IsStep (call.Restart result) self.old self.new }
+        ensures streams { RestartStreams result self.old.stored self.new.stored }
     {
-        self.view.restart()
+        match self.links.restart() {
+            RestartReply::Restarted => {
+                self.keys.clear();
+                self.clients.fill(None);
+                RestartReply::Restarted
+            }
+            RestartReply::Exhausted => RestartReply::Exhausted,
+        }
     }
 }

@@ -1,18 +1,48 @@
 //! What a node refuses, and why.
 ghost use Rattle.std.specs.Prelude.{◌≡◌};
-ghost use Rattle.node_core.specs.Refusals.{join_number, cancel_number};
+ghost use Rattle.node_core.specs.Refusals.{step_number, join_number, cancel_number};
 
 use cancel_router::RouteRefusal;
+use key_table::Full;
+use quarantine::Busy;
 use thiserror::Error;
+
+/// Why a step of a client, a link or a ticket changes nothing.
+#[derive(Clone, Copy, Debug, PartialEq, Eq, Hash, Error)]
+pub enum StepRefusal {
+    /// The value is of another node or another incarnation, or its slot, link or place is no longer
+    /// its own.
+    #[error("the value is stale")]
+    Stale,
+    /// No number is left to give.
+    #[error("no number is left to give")]
+    Exhausted,
+    /// The client has a link or a permit.
+    #[error("the client has a link or a permit")]
+    Holding,
+}
+
+impl StepRefusal {
+    /// Its number among all refusals.
+    pub const fn number(self) -> u8
+        ensures { result ≡ step_number self }
+    {
+        match self {
+            StepRefusal::Stale => 32,
+            StepRefusal::Exhausted => 33,
+            StepRefusal::Holding => 35,
+        }
+    }
+}
 
 /// Why a client gets no slot.
 #[derive(Clone, Copy, Debug, PartialEq, Eq, Hash, Error)]
 pub enum JoinRefusal {
     /// No slot is free.
-    #[error("30 Full")]
+    #[error("no slot is free")]
     Full,
     /// No number is left to give.
-    #[error("33 Exhausted")]
+    #[error("no number is left to give")]
     Exhausted,
 }
 
@@ -22,8 +52,8 @@ impl JoinRefusal {
         ensures { result ≡ join_number self }
     {
         match self {
-            JoinRefusal::Full => 30,
-            JoinRefusal::Exhausted => 33,
+            JoinRefusal::Full => Full.number(),
+            JoinRefusal::Exhausted => StepRefusal::Exhausted.number(),
         }
     }
 }
@@ -35,10 +65,10 @@ pub enum CancelRefusal {
     #[error("{0}")]
     Route(RouteRefusal),
     /// The link has as many open tickets as it may have.
-    #[error("31 Busy")]
+    #[error("the link has as many open tickets as it may have")]
     Busy,
     /// No number is left to give.
-    #[error("33 Exhausted")]
+    #[error("no number is left to give")]
     Exhausted,
 }
 
@@ -49,8 +79,8 @@ impl CancelRefusal {
     {
         match self {
             CancelRefusal::Route(refusal) => refusal.number(),
-            CancelRefusal::Busy => 31,
-            CancelRefusal::Exhausted => 33,
+            CancelRefusal::Busy => Busy.number(),
+            CancelRefusal::Exhausted => StepRefusal::Exhausted.number(),
         }
     }
 }

@@ -1,0 +1,32 @@
+//! What a node has of its settings.
+use ini_config::{Settings, read_settings};
+use node_core::NodeCore;
+use pg_ids::{PeerNo, SlotNo};
+use std::alloc::Global;
+use std::test::Fail;
+
+const TWO_DATABASES: &str =
+    "[pgbouncer]\npool_mode = transaction\nauth_type = trust\nlisten_addr = 127.0.0.1\npeer_id = 1\n[databases]\nshop = host=127.0.0.1 port=7100 user=app pool_size=2\nnews = host=127.0.0.1 port=7101 user=app\n[peers]\n3 = host=127.0.0.1 port=7003\n2 = host=127.0.0.1 port=7002\n";
+
+fn settings(alloc: Global) -> Result<Settings, Fail> {
+    let Ok(settings) = read_settings(alloc, TWO_DATABASES) else {
+        return Err(Fail::from("settings that are in order"));
+    };
+    Ok(settings)
+}
+
+#[test]
+fn a_node_of_a_file(rt: HostRuntime) -> Result<(), Fail> {
+    let settings = settings(rt.alloc())?;
+    let core = NodeCore::<u32>::new(rt.alloc(), &settings)?;
+    assert_eq!(rt; core.me().get(), 1);
+    let three = PeerNo::new(3).ok_or("no peer 3")?;
+    let two = PeerNo::new(2).ok_or("no peer 2")?;
+    assert_eq!(rt; core.peers(), [three, two].as_slice());
+    assert_eq!(rt; core.pool_sizes(), [2, 20].as_slice());
+    assert_eq!(rt; core.incarnation(), 0);
+    assert_eq!(rt; core.next_slot(), Some(SlotNo(0)));
+    assert_eq!(rt; core.client(SlotNo(0)), None);
+    assert_eq!(rt; core.links().incarnation(), 0);
+    Ok(())
+}
