@@ -1,4 +1,4 @@
--- A step keeps the databases, and the incarnation and the next numbers grow by what it makes.
+-- A step keeps what the settings fix, and the incarnation and the next numbers grow by what it makes.
 use Rattle.std.proofs.Common.{◌≡◌, ℕ, ◌+◌, ◌≤◌, List, Option, Some, None, Ok, Err, refl, sym, ap, ◌∙◌, subst, arith}
 use Rattle.std.specs.Prelude.{if◌then◌else◌, slice_get}
 use Rattle.lease.specs.declared.ticket.TicketRecord.{TicketRecord}
@@ -25,6 +25,9 @@ use Rattle.node_core.specs.declared.exchange.Order.TheVariants as order
 use Rattle.node_core.specs.declared.exchange.Exchange.{Exchange}
 use Rattle.node_core.specs.declared.exchange.Exchange.TheVariants.{Join, Leave, Acquire, Up, UpFailed, Release, Close, Cancel, Ended, Failed, Restart}
 use Rattle.node_core.specs.NodeStep.{NodeStep, Orders}
+use Rattle.locked_node.specs.declared.call_kind.CallKind.TheVariants.{Joined, AcquireOpen, WentUp, Served, Restarted}
+use Rattle.locked_node.specs.CallNumbers.{index_of}
+use Rattle.locked_node.specs.Replay.{fixed_of}
 use Rattle.locked_node.specs.Totals.{is_of}
 
 -- 1 for a call of this kind, and 0 for another
@@ -48,9 +51,9 @@ record LinksGrow (permit link ticket incarnation : ℕ) (old new : PoolView) : T
   tickets : ticket + old.next_ticket ≤ new.next_ticket
   incarnations : incarnation + old.incarnation ≤ new.incarnation
 
--- besides so many passes, and the databases stay
+-- besides so many passes, and what the settings fix stays
 pub record Grows (pass permit link ticket incarnation : ℕ) (old new : NodeView) : Type 0 where
-  pub pools : new.pools ≡ old.pools
+  pub fixed : fixed_of new ≡ fixed_of old
   pub passes : pass + old.next_pass ≤ new.next_pass
   pub permits : permit + old.links.next_permit ≤ new.links.next_permit
   pub links : link + old.links.next_link ≤ new.links.next_link
@@ -96,7 +99,7 @@ given permit link ticket incarnation old now new e a b c d = subst (LinksGrow pe
 by_links : {permit link ticket incarnation : ℕ} (old new : NodeView) → LinksGrow permit link ticket incarnation old.links new.links → new ≡ record old { links = new.links }
     → Grows 0 permit link ticket incarnation old new
 by_links old new grow e = record {
-  pools = ap (λ (v : NodeView). v.pools) e;
+  fixed = ap fixed_of e;
   passes = let n = ap (λ (v : NodeView). v.next_pass) e in omega (arith, n);
   permits = grow.permits;
   links = grow.links;
@@ -105,9 +108,9 @@ by_links old new grow e = record {
 }
 
 -- a step that makes no number
-unmoved : (old new : NodeView) → new.pools ≡ old.pools → new.next_pass ≡ old.next_pass → numbers new.links ≡ numbers old.links → Grows 0 0 0 0 0 old new
-unmoved old new pools pass links = let grow = none_made old.links new.links links in record {
-  pools = pools;
+unmoved : (old new : NodeView) → fixed_of new ≡ fixed_of old → new.next_pass ≡ old.next_pass → numbers new.links ≡ numbers old.links → Grows 0 0 0 0 0 old new
+unmoved old new fixed pass links = let grow = none_made old.links new.links links in record {
+  fixed = fixed;
   passes = omega (arith, pass);
   permits = grow.permits;
   links = grow.links;
@@ -117,7 +120,7 @@ unmoved old new pools pass links = let grow = none_made old.links new.links link
 
 -- a step that changes nothing
 still : (old new : NodeView) → new ≡ old → Grows 0 0 0 0 0 old new
-still old new e = unmoved old new (ap (λ (v : NodeView). v.pools) e) (ap (λ (v : NodeView). v.next_pass) e) (ap (λ (v : NodeView). numbers v.links) e)
+still old new e = unmoved old new (ap fixed_of e) (ap (λ (v : NodeView). v.next_pass) e) (ap (λ (v : NodeView). numbers v.links) e)
 
 -- a step of the links that makes no number
 linked : (old new : NodeView) (links : PoolView) → numbers links ≡ numbers old.links → new.links ≡ links → new ≡ record old { links = new.links } → Grows 0 0 0 0 0 old new
@@ -144,9 +147,9 @@ served slot (route_to.Send link) ticket database key old new o =
     by_links old new (given 0 0 1 0 old.links _ new.links o.1.0.after (omega arith) (omega arith) (omega arith) (omega arith)) o.1.1
 
 -- what a step makes
-pub step_grows : (old : NodeView) (call : Exchange) (new : NodeView) → NodeStep old call new → Grows (one 0 call) (one 8 call) (one 13 call) (one 28 call) (one 44 call) old new
+pub step_grows : (old : NodeView) (call : Exchange) (new : NodeView) → NodeStep old call new → Grows (one (index_of Joined) call) (one (index_of AcquireOpen) call) (one (index_of WentUp) call) (one (index_of Served) call) (one (index_of Restarted) call) old new
 step_grows old (Join database secret (Ok pass)) new step = let e = step.after in record {
-  pools = ap (λ (v : NodeView). v.pools) e;
+  fixed = ap fixed_of e;
   passes = let n = ap (λ (v : NodeView). v.next_pass) e in omega (arith, n);
   permits = let n = ap (λ (v : NodeView). v.links.next_permit) e in omega (arith, n);
   links = let n = ap (λ (v : NodeView). v.links.next_link) e in omega (arith, n);
@@ -155,8 +158,8 @@ step_grows old (Join database secret (Ok pass)) new step = let e = step.after in
 }
 step_grows old (Join database secret (Err join.Full)) new step = still old new step.1
 step_grows old (Join database secret (Err join.Exhausted)) new step = still old new step.2
-step_grows old (Leave pass leave.Left) new step = let e = step.2.after in unmoved old new (ap (λ (v : NodeView). v.pools) e) (ap (λ (v : NodeView). v.next_pass) e) (ap (λ (v : NodeView). numbers v.links) e ∙ without old.links pass.key.slot)
-step_grows old (Leave pass (leave.Holding again)) new step = still old new step.3
+step_grows old (Leave pass leave.Left) new step = let e = step.1.after in unmoved old new (ap fixed_of e) (ap (λ (v : NodeView). v.next_pass) e) (ap (λ (v : NodeView). numbers v.links) e ∙ without old.links pass.key.slot)
+step_grows old (Leave pass (leave.Holding again)) new step = still old new step.2
 step_grows old (Leave pass leave.Stale) new step = still old new step.1
 step_grows old (Leave pass leave.Exhausted) new step = absurd step
 step_grows old (Acquire pass (acquire.Got lease)) new step = linked old new _ (without old.links pass.key.slot) step.step.0.1.after step.step.1
@@ -202,7 +205,7 @@ step_grows old (Failed ticket (failed.Closed stream)) new step = linked old new 
 step_grows old (Failed ticket failed.Stale) new step = linked old new _ refl step.0.1 step.1
 step_grows old (Failed ticket failed.Exhausted) new step = absurd step.0
 step_grows old (Restart restart.Restarted) new step = let e = step.after in let grow = given 0 0 0 1 old.links _ new.links step.links.0 (omega arith) (omega arith) (omega arith) (omega arith) in record {
-  pools = ap (λ (v : NodeView). v.pools) e;
+  fixed = ap fixed_of e;
   passes = let n = ap (λ (v : NodeView). v.next_pass) e in omega (arith, n);
   permits = grow.permits;
   links = grow.links;

@@ -4,10 +4,12 @@ use Rattle.std.specs.Prelude.{if◌then◌else◌}
 use Rattle.std.proofs.lemmas.Bool.{cases_lt}
 use Rattle.std.proofs.lemmas.List.Sums.{sum_by_push}
 use Rattle.std.proofs.lemmas.List.{length-append}
-use Rattle.node_core.specs.View.{NodeView}
+use Rattle.node_core.specs.View.{NodeView, IsView}
 use Rattle.node_core.specs.declared.exchange.Exchange.{Exchange}
 use Rattle.node_core.specs.NodeStep.{NodeStep}
 use Rattle.locked_node.specs.declared.tally.Tally.{Tally}
+use Rattle.locked_node.specs.declared.call_kind.CallKind.TheVariants.{Joined, AcquireOpen, WentUp, Served, Restarted}
+use Rattle.locked_node.specs.CallNumbers.{index_of}
 use Rattle.locked_node.specs.Replay.{Replay}
 use Rattle.locked_node.specs.Totals.{Counts, IsEmpty, number_at, calls_in, sum_in, is_of}
 use Rattle.locked_node.specs.Journal.{JournalView, Appends, Moves, JournalStep, HasHistory, CountsWithin, IsTallyOf, TAIL_LIMIT, log_calls}
@@ -77,9 +79,9 @@ base_moves old call new short step appends base replay = ⊎_elim
     stays (oldest ∷ rest) room = ((λ _. refl), (λ full. absurd (omega arith)))
 
 -- the step of a journal
-pub journal_step : (old : JournalView) (call : Exchange) (new : JournalView) → length old.log.tail ≤ TAIL_LIMIT
+pub journal_step : (old : JournalView) (call : Exchange) (new : JournalView) → length old.log.tail ≤ TAIL_LIMIT → IsView old.view
     → NodeStep old.view call new.view → Appends old.log call new.log → JournalStep old call new
-journal_step old call new short step appends = record { step = step; appended = appends; base = base_moves old call new short step appends }
+journal_step old call new short whole step appends = record { whole = whole; step = step; appended = appends; base = base_moves old call new short step appends }
 
 -- where each call of a kind raises a number of the node, and no call lowers it, the journal has at most as many
 log_counts : (kind : ℕ) (number : NodeView → ℕ) → ((old : NodeView) (call : Exchange) (new : NodeView) → NodeStep old call new → one kind call + number old ≤ number new)
@@ -93,9 +95,9 @@ log_counts kind number grows journal h =
 -- the incarnation and the next numbers are at least the counts of what made them
 pub history_numbers : (journal : JournalView) → HasHistory journal → CountsWithin journal.log journal.view
 history_numbers journal h = record {
-  passes = log_counts 0 (λ v. v.next_pass) (λ o c n s. (step_grows o c n s).passes) journal h;
-  permits = log_counts 8 (λ v. v.links.next_permit) (λ o c n s. (step_grows o c n s).permits) journal h;
-  links = log_counts 13 (λ v. v.links.next_link) (λ o c n s. (step_grows o c n s).links) journal h;
-  tickets = log_counts 28 (λ v. v.links.next_ticket) (λ o c n s. (step_grows o c n s).tickets) journal h;
-  incarnations = log_counts 44 (λ v. v.links.incarnation) (λ o c n s. (step_grows o c n s).incarnations) journal h;
+  passes = log_counts (index_of Joined) (λ v. v.next_pass) (λ o c n s. (step_grows o c n s).passes) journal h;
+  permits = log_counts (index_of AcquireOpen) (λ v. v.links.next_permit) (λ o c n s. (step_grows o c n s).permits) journal h;
+  links = log_counts (index_of WentUp) (λ v. v.links.next_link) (λ o c n s. (step_grows o c n s).links) journal h;
+  tickets = log_counts (index_of Served) (λ v. v.links.next_ticket) (λ o c n s. (step_grows o c n s).tickets) journal h;
+  incarnations = log_counts (index_of Restarted) (λ v. v.links.incarnation) (λ o c n s. (step_grows o c n s).incarnations) journal h;
 }

@@ -4,8 +4,8 @@ pub mod Growing
 pub mod Replays
 pub mod Histories
 pub mod Shares
+pub mod Orders
 pub mod Locking
 pub mod Giving
 pub mod Stepping
 pub mod Wholes
-pub mod Forwarding

@@ -11,9 +11,11 @@ use lib.Seq.{set-get_or}
 use Rattle.atomic_table.specs.Table.{State, Me, Step, keeps, takes, stepped, opening, Allows, Splits, Joins}
 use Rattle.atomic_table.proofs.Lists.{at_set, set_here, set_else, set_again, at_longer, at_snoc}
 use Rattle.node_core.specs.declared.exchange.Exchange.{Exchange}
-use Rattle.locked_node.specs.declared.share.Share.{Share}
+use Rattle.locked_node.specs.declared.rule.Share.{Share}
+use Rattle.locked_node.specs.Replay.{fixed_of}
 use Rattle.locked_node.specs.Journal.{JournalView, CALL_LIMIT, log_all}
-use Rattle.locked_node.specs.Lock.{Kept, IsShare, IsFree, IsTaken, IsLocked, Took, Holds, HANDED, first_share, handing, handed, joined, nobody, taking, looking}
+use Rattle.locked_node.specs.Lock.{Accounts, IsShare, IsFree, IsTaken, IsLocked, Took, Holds, HANDED, stake, Placed, first_share, handing, handed, joined, nobody, taking, looking}
+use Rattle.locked_node.proofs.Orders.{placed_both}
 use Rattle.locked_node.proofs.Sums.{same_equal}
 use Rattle.locked_node.proofs.Shares.{sum_change, sum_same, le_sum, each_set}
 
@@ -29,18 +31,21 @@ counted v = length v.made
 abbrev pub weighed : (Exchange → ℕ) → Share → ℕ
 weighed f v = sum_by f v.made
 
--- the same calls are told by other shares
-pub kept_as : (start journal : JournalView) (vs ws : List Share) → ((f : Exchange → ℕ) → sum_by (weighed f) ws ≡ sum_by (weighed f) vs)
-    → sum_by counted ws ≡ sum_by counted vs → Kept start vs journal → Kept start ws journal
-kept_as start journal vs ws told many k = record {
+-- other shares with the same calls account for the journal too
+pub accounts_as : (start journal : JournalView) (vs ws : List Share) → ((f : Exchange → ℕ) → sum_by (weighed f) ws ≡ sum_by (weighed f) vs)
+    → sum_by counted ws ≡ sum_by counted vs
+    → ((calls : List Exchange) → ((id : ℕ) (v : Share) → get_elem? vs id ≡ some v → Placed calls v.places v.made) → (id : ℕ) (v : Share) → get_elem? ws id ≡ some v → Placed calls v.places v.made)
+    → Accounts start vs journal → Accounts start ws journal
+accounts_as start journal vs ws same many placed k = record {
   calls = k.calls;
   replay = k.replay;
-  told = λ f. k.told f ∙ sym (told f);
+  same = λ f. k.same f ∙ sym (same f);
   many = k.many ∙ sym many;
   counts = k.counts;
   sums = k.sums;
   all = k.all;
-  pools = k.pools;
+  fixed = k.fixed;
+  placed = placed k.calls k.placed;
 }
 
 -- what a share knows doesn't depend on the journal that it found
@@ -48,29 +53,35 @@ pub share_as : (start : JournalView) (v : Share) (found : Option JournalView) �
 share_as start v found is = record { knows = is.knows; has = is.has; alike = is.alike }
 
 -- the lock is made
-pub opens : (start : JournalView) → log_all start.log ≤ CALL_LIMIT → IsLocked start (opening (0 ∷ []) (start ∷ []) (first_share start))
-opens start room = record {
-  word = refl;
+pub opens : (start : JournalView) (words : List ℕ) → log_all start.log ≤ CALL_LIMIT → 0 < length words → slice_index words 0 ≡ 0
+    → IsLocked start (opening words (start ∷ []) (first_share start))
+opens start words room long free = record {
+  word = long;
   journal = start;
-  kept = record {
+  accounts = record {
     calls = [];
     replay = refl;
-    told = λ f. refl;
+    same = λ f. refl;
     many = refl;
     counts = λ k. omega arith;
     sums = λ k p. same_equal _ _ (omega arith);
     all = omega arith;
-    pools = refl;
+    fixed = refl;
+    placed = placed;
   };
   fits = omega arith;
   one_start = refl;
   each = each;
-  place = inl record { word = refl; home = refl; idle = idle };
+  place = inl record { word = free; home = refl; idle = idle };
 }
   where
     each : (id : ℕ) (v : Share) → get_elem? (first_share start ∷ []) id ≡ some v → IsShare start v
     each zero v at = subst (IsShare start) (some-injective (first_share start) v at) record { knows = λ _. refl; has = λ _. omega arith; alike = λ f. omega arith }
     each (suc id) v at = absurd (some-ne-none v (sym at))
+
+    placed : (id : ℕ) (v : Share) → get_elem? (first_share start ∷ []) id ≡ some v → Placed [] v.places v.made
+    placed zero v at = subst (λ (u : Share). Placed [] u.places u.made) (some-injective (first_share start) v at) tt
+    placed (suc id) v at = absurd (some-ne-none v (sym at))
 
     idle : (id : ℕ) (v : Share) → get_elem? (first_share start ∷ []) id ≡ some v → v.found ≡ None
     idle zero v at = subst (λ (u : Share). u.found ≡ None) (some-injective (first_share start) v at) refl
@@ -81,42 +92,43 @@ stays_taken : (start : JournalView) (s : State JournalView Share) (r : IsLocked 
     → get_elem? s.views id ≡ some v → n ≢ 0 → IsLocked start (stepped s 0 n id cs v keeps)
 stays_taken start s r p id n v cs at not =
     subst (λ (vs : List Share). IsLocked start record { words = set s.words 0 n; homes = s.homes; views = vs }) (sym (set_again s.views id v at)) record {
-      word = length-set s.words 0 n ∙ r.word;
+      word = let l = length-set s.words 0 n in let w = r.word in omega (arith, l, w);
       journal = r.journal;
-      kept = r.kept;
+      accounts = r.accounts;
       fits = r.fits;
       one_start = r.one_start;
       each = r.each;
       place = inr record {
-        word = λ e. let w = r.word in not (sym (get_or-set_same s.words 0 n 0 (omega (arith, w))) ∙ e);
+        word = λ e. not (sym (get_or-set_same s.words 0 n 0 r.word) ∙ e);
         home = p.home;
         taker = p.taker;
         share = p.share;
         there = p.there;
         found = p.found;
-        may = p.may;
+        has = p.has;
         others = p.others;
       };
     }
 
 -- a free lock is taken
 is_taken : (start : JournalView) (s : State JournalView Share) (r : IsLocked start s) (p : IsFree r.journal s) (id n : ℕ) (v : Share) (cs : List (ℕ × JournalView))
-    → get_elem? s.views id ≡ some v → n ≢ 0 → 0 < v.allowance → id < length s.views → IsLocked start (stepped s 0 n id cs (record v { found = Some r.journal }) (takes 0 r.journal))
-is_taken start s r p id n v cs at not may within = let w : Share = record v { found = Some r.journal } in record {
-  word = length-set s.words 0 n ∙ r.word;
+    → get_elem? s.views id ≡ some v → n ≢ 0 → 0 < stake v → id < length s.views → IsLocked start (stepped s 0 n id cs (record v { found = Some r.journal }) (takes 0 r.journal))
+is_taken start s r p id n v cs at not has within = let w : Share = record v { found = Some r.journal } in record {
+  word = let l = length-set s.words 0 n in let w = r.word in omega (arith, l, w);
   journal = r.journal;
-  kept = kept_as start r.journal s.views (set s.views id w) (λ f. sum_same (weighed f) s.views id v w at refl) (sum_same counted s.views id v w at refl) r.kept;
+  accounts = accounts_as start r.journal s.views (set s.views id w) (λ f. sum_same (weighed f) s.views id v w at refl) (sum_same counted s.views id v w at refl)
+      (λ calls each. each_set (λ (z : Share). Placed calls z.places z.made) s.views id w (each id v at) each) r.accounts;
   fits = let e = sum_same allowed s.views id v w at refl in let f = r.fits in omega (arith, e, f);
   one_start = sum_same began s.views id v w at refl ∙ r.one_start;
   each = each_set (IsShare start) s.views id w (share_as start v (Some r.journal) (r.each id v at)) r.each;
   place = inr record {
-    word = λ e. let l = r.word in not (sym (get_or-set_same s.words 0 n 0 (omega (arith, l))) ∙ e);
+    word = λ e. not (sym (get_or-set_same s.words 0 n 0 r.word) ∙ e);
     home = ap (λ h. set h 0 none) p.home;
     taker = id;
     share = w;
     there = set_here s.views id w within;
     found = refl;
-    may = may;
+    has = has;
     others = λ i u here ne. ⊎_elim (λ (t : (i ≡ id) × (w ≡ u)). absurd (ne t.0)) (λ (t : (i ≢ id) × (get_elem? s.views i ≡ some u)). p.idle i u t.1) (at_set s.views id i w u here);
   };
 }
@@ -128,21 +140,21 @@ at_within (x ∷ xs) zero a at = omega arith
 at_within (x ∷ xs) (suc i) a at = let r = at_within xs i a at in omega (arith, r)
 
 -- the exchange that takes the lock
-pub lock_takes : (start : JournalView) (slots id : ℕ) (me : Me JournalView Share) (f : ℕ → ℕ) (st : Step JournalView) → ((n : ℕ) → f n ≢ 0) → 0 < me.0.allowance
+pub lock_takes : (start : JournalView) (slots id : ℕ) (me : Me JournalView Share) (f : ℕ → ℕ) (st : Step JournalView) → ((n : ℕ) → f n ≢ 0) → 0 < stake me.0
     → Allows (IsLocked start) slots id me 0 f (taking st me)
-lock_takes start slots id me f st not may s r _ at _ = ⊎_elim
+lock_takes start slots id me f st not has s r _ at _ = ⊎_elim
     (λ (p : IsFree r.journal s). (
       record me.0 { found = Some r.journal },
       takes 0 r.journal,
       subst (λ h. get_elem? h 0 ≡ some (some r.journal)) (sym p.home) refl,
-      is_taken start s r p id (f (slice_index s.words 0)) me.0 me.1 at (not (slice_index s.words 0)) may (at_within s.views id me.0 at),
+      is_taken start s r p id (f (slice_index s.words 0)) me.0 me.1 at (not (slice_index s.words 0)) has (at_within s.views id me.0 at),
       (
         (λ _. record {
           journal = r.journal;
           view = refl;
           slot = refl;
           room = let le = le_sum allowed s.views id me.0 at in let e = r.fits in omega (arith, le, e);
-          pools = r.kept.pools ∙ ap (λ (j : JournalView). j.view.pools) (sym ((r.each id me.0 at).knows (omega arith)));
+          fixed = r.accounts.fixed ∙ ap (λ (j : JournalView). fixed_of j.view) (sym ((r.each id me.0 at).knows has));
         }),
         (λ ne. absurd (ne p.word)),
       ),
@@ -156,8 +168,19 @@ lock_takes start slots id me f st not may s r _ at _ = ⊎_elim
     ))
     r.place
 
+-- who has what the lock began with has it once
+pub begun_within : (start : JournalView) (s : State JournalView Share) (r : IsLocked start s) (id : ℕ) (v : Share) → get_elem? s.views id ≡ some v
+    → sum_by (λ (j : JournalView). log_all j.log) v.begun ≤ log_all start.log
+begun_within start s r id v at =
+    let x : ℕ = log_all start.log in let n : ℕ = length v.begun in
+    let some_is = le_sum began s.views id v at in let one = r.one_start in
+    let at_most : n ≤ 1 = omega (arith, some_is, one) in
+    let times : n * x ≤ 1 * x = mul-le-mul_right x at_most in
+    let same : sum_by (λ (j : JournalView). log_all j.log) v.begun ≡ n * x = (r.each id v at).alike (λ j. log_all j.log) in
+    omega (arith, times, same)
+
 -- a look
-pub lock_looks : (start : JournalView) (slots id : ℕ) (me : Me JournalView Share) (st : Step JournalView) → 0 < me.0.allowance + (length me.0.begun + length me.0.made)
+pub lock_looks : (start : JournalView) (slots id : ℕ) (me : Me JournalView Share) (st : Step JournalView) → 0 < stake me.0
     → Allows (IsLocked start) slots id me 0 (λ n. n) (looking st me)
 lock_looks start slots id me st some_is s r _ at _ = (
   me.0,
@@ -169,17 +192,11 @@ lock_looks start slots id me st some_is s r _ at _ = (
     refl,
     (let a = le_sum allowed s.views id me.0 at in
         let b = le_sum counted s.views id me.0 at in
-        let c = le_sum began s.views id me.0 at in
-        let one = r.one_start in
+        let c = begun_within start s r id me.0 at in
         let fits = r.fits in
-        let many = r.kept.many in
-        let all = r.kept.all in
-        let x : ℕ = log_all start.log in
-        let n : ℕ = length me.0.begun in
-        let at_most : n ≤ 1 = omega (arith, c, one) in
-        let times : n * x ≤ 1 * x = mul-le-mul_right x at_most in
-        let same : sum_by (λ (j : JournalView). log_all j.log) me.0.begun ≡ n * x = (r.each id me.0 at).alike (λ j. log_all j.log) in
-        omega (arith, a, b, fits, many, all, times, same)),
+        let many = r.accounts.many in
+        let all = r.accounts.all in
+        omega (arith, a, b, c, fits, many, all)),
   ),
 )
 
@@ -188,7 +205,7 @@ pub lock_splits : (start : JournalView) (id : ℕ) (v : Share) → HANDED < v.al
 lock_splits start id v more idle s r at =
     let left : Share = handing v in let right : Share = handed v in
     let vs : List Share = set s.views id left in
-    let told : (f : Exchange → ℕ) → sum_by (weighed f) (vs ++ right ∷ []) ≡ sum_by (weighed f) s.views =
+    let same : (f : Exchange → ℕ) → sum_by (weighed f) (vs ++ right ∷ []) ≡ sum_by (weighed f) s.views =
     λ f. let p = sum_by_push (weighed f) vs right in let q = sum_same (weighed f) s.views id v left at refl in omega (arith, p, q) in
     let many : sum_by counted (vs ++ right ∷ []) ≡ sum_by counted s.views =
     let p = sum_by_push counted vs right in let q = sum_same counted s.views id v left at refl in omega (arith, p, q) in
@@ -198,7 +215,8 @@ lock_splits start id v more idle s r at =
     record {
       word = r.word;
       journal = r.journal;
-      kept = kept_as start r.journal s.views (vs ++ right ∷ []) told many r.kept;
+      accounts = accounts_as start r.journal s.views (vs ++ right ∷ []) same many
+          (λ calls each i u here. ⊎_elim (λ (t : get_elem? vs i ≡ some u). each_set (λ (z : Share). Placed calls z.places z.made) s.views id left (each id v at) each i u t) (λ (t : right ≡ u). subst (λ (z : Share). Placed calls z.places z.made) t tt) (at_snoc vs right u i here)) r.accounts;
       fits = let p = sum_by_push allowed vs right in let q = sum_change allowed s.views id v left at in let e = r.fits in omega (arith, p, q, e);
       one_start = let p = sum_by_push began vs right in let q = sum_same began s.views id v left at refl in let e = r.one_start in omega (arith, p, q, e);
       each = λ i u here. ⊎_elim (λ (t : get_elem? vs i ≡ some u). each_set (IsShare start) s.views id left one r.each i u t) (λ (t : right ≡ u). subst (IsShare start) t other) (at_snoc vs right u i here);
@@ -215,7 +233,7 @@ lock_splits start id v more idle s r at =
             share = p.share;
             there = at_longer vs (right ∷ []) p.taker p.share (set_else s.views id p.taker left (apart p) ∙ p.there);
             found = p.found;
-            may = p.may;
+            has = p.has;
             others = λ i u here ne. ⊎_elim
                 (λ (t : get_elem? vs i ≡ some u). ⊎_elim (λ (z : (i ≡ id) × (left ≡ u)). subst (λ (y : Share). y.found ≡ None) z.1 idle) (λ (z : (i ≢ id) × (get_elem? s.views i ≡ some u)). p.others i u z.1 ne) (at_set s.views id i left u t))
                 (λ (t : right ≡ u). subst (λ (z : Share). z.found ≡ None) t refl) (at_snoc vs right u i here);
@@ -228,7 +246,7 @@ lock_splits start id v more idle s r at =
         let f : p.share.found ≡ None = ap (λ (z : Share). z.found) same ∙ idle in let g = p.found in cc (f, g)
 
 -- two shares are one
-pub lock_joins : (start : JournalView) (id : ℕ) (v : Share) (other : ℕ) (w : Share) → v.found ≡ None → w.found ≡ None → 0 < v.allowance + (length v.begun + length v.made)
+pub lock_joins : (start : JournalView) (id : ℕ) (v : Share) (other : ℕ) (w : Share) → v.found ≡ None → w.found ≡ None → 0 < stake v
     → Joins (IsLocked start) id v other w (joined v w) nobody
 lock_joins start id v other w idle_v idle_w some_is s r at ne there =
     let both : Share = joined v w in
@@ -239,7 +257,7 @@ lock_joins start id v other w idle_v idle_w some_is s r at ne there =
     let made : (f : Exchange → ℕ) → sum_by f (v.made ++ w.made) ≡ sum_by f v.made + sum_by f w.made = λ f. sum_by-append f v.made w.made in
     let long : length (v.made ++ w.made) ≡ length v.made + length w.made = length-append v.made w.made in
     let begun : length (v.begun ++ w.begun) ≡ length v.begun + length w.begun = length-append v.begun w.begun in
-    let told : (f : Exchange → ℕ) → sum_by (weighed f) (set vs other nobody) ≡ sum_by (weighed f) s.views =
+    let same : (f : Exchange → ℕ) → sum_by (weighed f) (set vs other nobody) ≡ sum_by (weighed f) s.views =
     λ f. let p = sum_change (weighed f) s.views id v both at in let q = sum_change (weighed f) vs other w nobody there in let m = made f in omega (arith, p, q, m) in
     let many : sum_by counted (set vs other nobody) ≡ sum_by counted s.views =
     let p = sum_change counted s.views id v both at in let q = sum_change counted vs other w nobody there in omega (arith, p, q, long) in
@@ -257,7 +275,9 @@ lock_joins start id v other w idle_v idle_w some_is s r at ne there =
     record {
       word = r.word;
       journal = r.journal;
-      kept = kept_as start r.journal s.views (set vs other nobody) told many r.kept;
+      accounts = accounts_as start r.journal s.views (set vs other nobody) same many
+          (λ calls each. each_set (λ (z : Share). Placed calls z.places z.made) vs other nobody tt
+          (each_set (λ (z : Share). Placed calls z.places z.made) s.views id both (placed_both calls v.places v.made w.places w.made (each id v at) (each other w here)) each)) r.accounts;
       fits = let p = sum_change allowed s.views id v both at in let q = sum_change allowed vs other w nobody there in let e = r.fits in omega (arith, p, q, e);
       one_start = let p = sum_change began s.views id v both at in let q = sum_change began vs other w nobody there in let e = r.one_start in omega (arith, p, q, e, begun);
       each = each_set (IsShare start) vs other nobody nil (each_set (IsShare start) s.views id both one r.each);
@@ -270,7 +290,7 @@ lock_joins start id v other w idle_v idle_w some_is s r at ne there =
             share = p.share;
             there = set_else vs other p.taker nobody (apart p other w here idle_w) ∙ (set_else s.views id p.taker both (apart p id v at idle_v) ∙ p.there);
             found = p.found;
-            may = p.may;
+            has = p.has;
             others = λ i u now other_is. ⊎_elim
                 (λ (z : (i ≡ other) × (nobody ≡ u)). subst (λ (y : Share). y.found ≡ None) z.1 refl)
                 (λ (z : (i ≢ other) × (get_elem? vs i ≡ some u)). ⊎_elim (λ (y : (i ≡ id) × (both ≡ u)). subst (λ (x : Share). x.found ≡ None) y.1 idle_v) (λ (y : (i ≢ id) × (get_elem? s.views i ≡ some u)). p.others i u y.1 other_is) (at_set s.views id i both u z.1))
@@ -289,6 +309,7 @@ took_holds before after empty may took = record {
   journal = took.journal;
   found = ap (λ (v : Share). v.found) took.view;
   slot = took.slot ∙ ap (λ (cs : List (ℕ × JournalView)). (0, took.journal) ∷ cs) empty;
+  may = subst (λ (v : Share). 0 < v.allowance) (sym took.view) may;
   room = let r = took.room in omega (arith, r, may);
-  pools = took.pools ∙ ap (λ (v : Share). v.start.view.pools) (sym took.view);
+  fixed = took.fixed ∙ ap (λ (v : Share). fixed_of v.start.view) (sym took.view);
 }

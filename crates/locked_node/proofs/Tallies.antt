@@ -8,25 +8,37 @@ use Rattle.std.specs.Prelude.{sum_by}
 use Rattle.node_core.specs.declared.exchange.Exchange.{Exchange}
 use Rattle.locked_node.specs.declared.tally.Row.{Row}
 use Rattle.locked_node.specs.CallNumbers.{kind_of, index_of, numbers_of}
-use Rattle.locked_node.specs.Totals.{Counts, AddsUp, IsEmpty, SameSum}
+use Rattle.locked_node.specs.Totals.{Counts, AddsUp, IsEmpty, SameSum, SumsUp}
 use Rattle.locked_node.proofs.Sums.{same_reduced, same_equal}
 
 -- a row that counts nothing
 abbrev pub no_row : Row
 no_row = record { calls = 0; sums = [] }
 
--- zeros behind a list are what it has past its end
-get_zeros : (n m p : ℕ) → get_or (take n (replicate {A = ℕ} m 0)) p 0 ≡ 0
-get_zeros zero m p = refl
-get_zeros (suc n) zero p = refl
-get_zeros (suc n) (suc m) zero = refl
-get_zeros (suc n) (suc m) (suc p) = get_zeros n m p
+-- the sums below i are added up, and the others are as they were
+pub record Summed (i : ℕ) (old numbers now : List ℕ) : Type 0 where
+  pub below : (p : ℕ) → p < i → SameSum (get_or now p 0) (get_or old p 0 + get_or numbers p 0)
+  pub above : (p : ℕ) → i ≤ p → get_or now p 0 ≡ get_or old p 0
 
-pub get_padded : (xs : List ℕ) (n m p : ℕ) → length xs ≤ n → get_or (take n (xs ++ replicate m 0)) p 0 ≡ get_or xs p 0
-get_padded [] n m p short = get_zeros n m p
-get_padded (x ∷ xs) zero m p short = absurd (omega arith)
-get_padded (x ∷ xs) (suc n) m zero short = refl
-get_padded (x ∷ xs) (suc n) m (suc p) short = get_padded xs n m p (omega arith)
+pub summed_none : (old numbers : List ℕ) → Summed 0 old numbers old
+summed_none old numbers = record { below = λ p h. absurd (omega arith); above = λ p h. refl }
+
+pub summed_more : (i : ℕ) (old numbers now : List ℕ) (sum : ℕ) → i < length now → Summed i old numbers now
+    → sum ≡ (get_or now i 0 + get_or numbers i 0) % 2 ^ 128 → Summed (i + 1) old numbers (set now i sum)
+summed_more i old numbers now sum within s is = record {
+  below = λ p h. ⊎_elim
+      (λ (e : p ≡ i). subst (λ (j : ℕ). SameSum (get_or (set now i sum) j 0) (get_or old j 0 + get_or numbers j 0)) (sym e)
+      (same_reduced _ _ (get_or-set_same now i sum 0 within ∙ (is ∙ ap (λ (n : ℕ). (n + get_or numbers i 0) % 2 ^ 128) (s.above i (omega arith))))))
+      (λ (ne : p ≢ i). same_equal _ _ (get_or-set_other now i p sum 0 ne) ∙ s.below p (omega arith))
+      (cases_eq p i);
+  above = λ p h. let ne : p ≢ i = omega arith in get_or-set_other now i p sum 0 ne ∙ s.above p (omega arith);
+}
+
+pub summed_all : (n : ℕ) (old numbers now : List ℕ) → length numbers ≡ n → Summed n old numbers now → SumsUp old numbers now
+summed_all n old numbers now long s p = ⊎_elim
+    (λ (h : p < n). s.below p h)
+    (λ (h : n ≤ p). let a = s.above p h in let z = get_or_past numbers p 0 (omega (arith, long)) in same_equal _ _ (omega (arith, a, z)))
+    (cases_lt p n)
 
 -- a row of no call
 abbrev pub nothing : ℕ → Row
@@ -58,7 +70,7 @@ empty_rows n m = record { calls = nothing_at n m; sums = nothing_sums n m; all =
 -- the row of the call's kind counts one more, and no other row changes
 pub counts_row : (rows : List Row) (kind : ℕ) (row : Row) (call : Exchange) → kind < length rows → kind ≡ index_of (kind_of call)
     → row.calls ≡ (get_or rows kind no_row).calls + 1
-    → ((p : ℕ) → get_or row.sums p 0 ≡ (get_or (get_or rows kind no_row).sums p 0 + get_or (numbers_of call) p 0) % 2 ^ 128)
+    → SumsUp (get_or rows kind no_row).sums (numbers_of call) row.sums
     → Counts (record { rows = rows }) call (record { rows = set rows kind row })
 counts_row rows kind row call within is more added =
     let here : get_or (set rows kind row) kind no_row ≡ row = get_or-set_same rows kind row no_row within in
@@ -72,7 +84,7 @@ counts_row rows kind row call within is more added =
           (cases_eq k kind);
       sums = λ k p. ⊎_elim
           (λ (e : k ≡ kind). subst (λ (j : ℕ). SameSum (get_or (get_or (set rows kind row) j no_row).sums p 0) (get_or (get_or rows j no_row).sums p 0 + cond (eqb (index_of (kind_of call)) j) (get_or (numbers_of call) p 0) 0)) (sym e)
-          (same_reduced _ _ (ap (λ (r : Row). get_or r.sums p 0) here ∙ (added p ∙ ap (λ (b : Bool). (get_or (get_or rows kind no_row).sums p 0 + cond b (get_or (numbers_of call) p 0) 0) % 2 ^ 128) (sym yes)))))
+          (same_equal _ _ (ap (λ (r : Row). get_or r.sums p 0) here) ∙ (added p ∙ same_equal _ _ (ap (λ (b : Bool). get_or (get_or rows kind no_row).sums p 0 + cond b (get_or (numbers_of call) p 0) 0) (sym yes)))))
           (λ (ne : k ≢ kind).
           let no : eqb (index_of (kind_of call)) k ≡ false = ne_eqb (index_of (kind_of call)) k (λ e. ne (sym e ∙ sym is)) in
           same_equal _ _ (ap (λ (r : Row). get_or r.sums p 0) (get_or-set_other rows kind k row no_row ne) ∙ (plus_none (get_or (get_or rows k no_row).sums p 0) ∙ ap (λ (b : Bool). get_or (get_or rows k no_row).sums p 0 + cond b (get_or (numbers_of call) p 0) 0) (sym no))))
@@ -100,7 +112,7 @@ merged_none old other = record { below = λ k h. absurd (omega arith); sums = λ
 
 pub merged_more : (i : ℕ) (old other now : List Row) (row : Row) → i < length now → i < length other → Merged i old other now
     → row.calls ≡ (get_or now i no_row).calls + (get_or other i no_row).calls
-    → ((p : ℕ) → get_or row.sums p 0 ≡ (get_or (get_or now i no_row).sums p 0 + get_or (get_or other i no_row).sums p 0) % 2 ^ 128)
+    → SumsUp (get_or now i no_row).sums (get_or other i no_row).sums row.sums
     → Merged (i + 1) old other (set now i row)
 merged_more i old other now row within there m more added =
     let here : get_or (set now i row) i no_row ≡ row = get_or-set_same now i row no_row within in
@@ -112,7 +124,7 @@ merged_more i old other now row within there m more added =
           (cases_eq k i);
       sums = λ k p h. ⊎_elim
           (λ (e : k ≡ i). subst (λ (j : ℕ). SameSum (get_or (get_or (set now i row) j no_row).sums p 0) (get_or (get_or old j no_row).sums p 0 + get_or (get_or other j no_row).sums p 0)) (sym e)
-          (same_reduced _ _ (ap (λ (r : Row). get_or r.sums p 0) here ∙ (added p ∙ ap (λ (r : Row). (get_or r.sums p 0 + get_or (get_or other i no_row).sums p 0) % 2 ^ 128) was))))
+          (same_equal _ _ (ap (λ (r : Row). get_or r.sums p 0) here) ∙ (added p ∙ same_equal _ _ (ap (λ (r : Row). get_or r.sums p 0 + get_or (get_or other i no_row).sums p 0) was))))
           (λ (ne : k ≢ i). same_equal _ _ (ap (λ (r : Row). get_or r.sums p 0) (get_or-set_other now i k row no_row ne)) ∙ m.sums k p (omega arith))
           (cases_eq k i);
       above = λ k h. let ne : k ≢ i = omega arith in get_or-set_other now i k row no_row ne ∙ m.above k (omega arith);

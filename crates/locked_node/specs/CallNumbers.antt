@@ -21,107 +21,127 @@ use Rattle.node_core.specs.declared.refusal.CancelRefusal.TheVariants as cancel
 use Rattle.node_core.specs.declared.exchange.LeaveReply.TheVariants as leave
 use Rattle.node_core.specs.declared.exchange.Order.TheVariants as order
 use Rattle.node_core.specs.declared.exchange.Exchange.{Exchange}
-use Rattle.node_core.specs.declared.exchange.Exchange.TheVariants.{Join, Leave, Acquire, Up, UpFailed, Release, Close, Cancel, Ended, Failed, Restart}
-use Rattle.locked_node.specs.declared.kind.Kind.{Kind}
-use Rattle.locked_node.specs.declared.kind.Kind.TheVariants.{Joined, JoinFull, JoinExhausted, Left, LeaveHolding, LeaveStale, LeaveExhausted, AcquireGot, AcquireOpen, AcquireWaiting, AcquireHolding, AcquireStale, AcquireExhausted, WentUp, UpExhausted, UpStale, UpAtEnd, UpFailedFreed, UpFailedStale, UpFailedExhausted, ReleasedIdle, ReleasedQuarantined, ReleasedClosed, ReleaseStale, ReleaseExhausted, Closed, CloseStale, CloseExhausted, Served, Forwarded, CancelSpent, CancelUnknown, CancelNoPeer, CancelNoLink, CancelBusy, CancelExhausted, EndedFreed, EndedCounted, EndedStale, EndedExhausted, FailedCondemned, FailedClosed, FailedStale, FailedExhausted, Restarted, RestartExhausted}
+use Rattle.node_core.specs.declared.exchange.Exchange.TheVariants.{
+  Join,
+  Leave,
+  Acquire,
+  Up,
+  UpFailed,
+  Release,
+  Close,
+  Cancel,
+  Ended,
+  Failed,
+  Restart,
+}
+use Rattle.locked_node.specs.declared.call_kind.CallKind.{CallKind}
+use Rattle.locked_node.specs.declared.call_kind.CallKind.TheVariants as kind
+
+-- how many kinds of calls there are
+abbrev pub KINDS : ℕ
+KINDS = 46
+
+-- how many numbers a call has at most
+abbrev pub WIDEST : ℕ
+WIDEST = 11
 
 -- the kind of a call: its step with the answer's name
-abbrev pub kind_of : Exchange → Kind
-kind_of (Join database secret (Ok pass)) = Joined
-kind_of (Join database secret (Err join.Full)) = JoinFull
-kind_of (Join database secret (Err join.Exhausted)) = JoinExhausted
-kind_of (Leave pass leave.Left) = Left
-kind_of (Leave pass (leave.Holding again)) = LeaveHolding
-kind_of (Leave pass leave.Stale) = LeaveStale
-kind_of (Leave pass leave.Exhausted) = LeaveExhausted
-kind_of (Acquire pass (acquire.Got lease)) = AcquireGot
-kind_of (Acquire pass (acquire.Open permit)) = AcquireOpen
-kind_of (Acquire pass acquire.Waiting) = AcquireWaiting
-kind_of (Acquire pass acquire.Holding) = AcquireHolding
-kind_of (Acquire pass acquire.Stale) = AcquireStale
-kind_of (Acquire pass acquire.Exhausted) = AcquireExhausted
-kind_of (Up permit key (up.Up lease)) = WentUp
-kind_of (Up permit key (up.Exhausted again stream)) = UpExhausted
-kind_of (Up permit key (up.Stale stream)) = UpStale
-kind_of (Up permit key (up.AtEnd stream)) = UpAtEnd
-kind_of (UpFailed permit failing.Freed) = UpFailedFreed
-kind_of (UpFailed permit failing.Stale) = UpFailedStale
-kind_of (UpFailed permit failing.Exhausted) = UpFailedExhausted
-kind_of (Release lease release.Idle) = ReleasedIdle
-kind_of (Release lease release.Quarantined) = ReleasedQuarantined
-kind_of (Release lease (release.Closed stream)) = ReleasedClosed
-kind_of (Release lease (release.Stale stream)) = ReleaseStale
-kind_of (Release lease (release.Exhausted stream)) = ReleaseExhausted
-kind_of (Close lease (close.Closed stream)) = Closed
-kind_of (Close lease (close.Stale stream)) = CloseStale
-kind_of (Close lease (close.Exhausted stream)) = CloseExhausted
-kind_of (Cancel key (order.Serve ticket database server)) = Served
-kind_of (Cancel key (order.Forward to packet)) = Forwarded
-kind_of (Cancel key (order.Refused (cancel.Route route.Spent))) = CancelSpent
-kind_of (Cancel key (order.Refused (cancel.Route route.Unknown))) = CancelUnknown
-kind_of (Cancel key (order.Refused (cancel.Route route.NoPeer))) = CancelNoPeer
-kind_of (Cancel key (order.Refused (cancel.Route route.NoLink))) = CancelNoLink
-kind_of (Cancel key (order.Refused cancel.Busy)) = CancelBusy
-kind_of (Cancel key (order.Refused cancel.Exhausted)) = CancelExhausted
-kind_of (Ended ticket ended.Freed) = EndedFreed
-kind_of (Ended ticket ended.Counted) = EndedCounted
-kind_of (Ended ticket ended.Stale) = EndedStale
-kind_of (Ended ticket ended.Exhausted) = EndedExhausted
-kind_of (Failed ticket failed.Condemned) = FailedCondemned
-kind_of (Failed ticket (failed.Closed stream)) = FailedClosed
-kind_of (Failed ticket failed.Stale) = FailedStale
-kind_of (Failed ticket failed.Exhausted) = FailedExhausted
-kind_of (Restart restart.Restarted) = Restarted
-kind_of (Restart restart.Exhausted) = RestartExhausted
+abbrev pub kind_of : Exchange → CallKind
+kind_of (Join database secret (Ok pass)) = kind.Joined
+kind_of (Join database secret (Err join.Full)) = kind.JoinFull
+kind_of (Join database secret (Err join.Exhausted)) = kind.JoinExhausted
+kind_of (Leave pass leave.Left) = kind.Left
+kind_of (Leave pass (leave.Holding again)) = kind.LeaveHolding
+kind_of (Leave pass leave.Stale) = kind.LeaveStale
+kind_of (Leave pass leave.Exhausted) = kind.LeaveExhausted
+kind_of (Acquire pass (acquire.Got lease)) = kind.AcquireGot
+kind_of (Acquire pass (acquire.Open permit)) = kind.AcquireOpen
+kind_of (Acquire pass acquire.Waiting) = kind.AcquireWaiting
+kind_of (Acquire pass acquire.Holding) = kind.AcquireHolding
+kind_of (Acquire pass acquire.Stale) = kind.AcquireStale
+kind_of (Acquire pass acquire.Exhausted) = kind.AcquireExhausted
+kind_of (Up permit key (up.Up lease)) = kind.WentUp
+kind_of (Up permit key (up.Exhausted again stream)) = kind.UpExhausted
+kind_of (Up permit key (up.Stale stream)) = kind.UpStale
+kind_of (Up permit key (up.AtEnd stream)) = kind.UpAtEnd
+kind_of (UpFailed permit failing.Freed) = kind.UpFailedFreed
+kind_of (UpFailed permit failing.Stale) = kind.UpFailedStale
+kind_of (UpFailed permit failing.Exhausted) = kind.UpFailedExhausted
+kind_of (Release lease release.Idle) = kind.ReleasedIdle
+kind_of (Release lease release.Quarantined) = kind.ReleasedQuarantined
+kind_of (Release lease (release.Closed stream)) = kind.ReleasedClosed
+kind_of (Release lease (release.Stale stream)) = kind.ReleaseStale
+kind_of (Release lease (release.Exhausted stream)) = kind.ReleaseExhausted
+kind_of (Close lease (close.Closed stream)) = kind.Closed
+kind_of (Close lease (close.Stale stream)) = kind.CloseStale
+kind_of (Close lease (close.Exhausted stream)) = kind.CloseExhausted
+kind_of (Cancel key (order.Serve ticket database server)) = kind.Served
+kind_of (Cancel key (order.Forward to packet)) = kind.Forwarded
+kind_of (Cancel key (order.Refused (cancel.Route route.Spent))) = kind.CancelSpent
+kind_of (Cancel key (order.Refused (cancel.Route route.Unknown))) = kind.CancelUnknown
+kind_of (Cancel key (order.Refused (cancel.Route route.NoPeer))) = kind.CancelNoPeer
+kind_of (Cancel key (order.Refused (cancel.Route route.NoLink))) = kind.CancelNoLink
+kind_of (Cancel key (order.Refused cancel.Busy)) = kind.CancelBusy
+kind_of (Cancel key (order.Refused cancel.Exhausted)) = kind.CancelExhausted
+kind_of (Ended ticket ended.Freed) = kind.EndedFreed
+kind_of (Ended ticket ended.Counted) = kind.EndedCounted
+kind_of (Ended ticket ended.Stale) = kind.EndedStale
+kind_of (Ended ticket ended.Exhausted) = kind.EndedExhausted
+kind_of (Failed ticket failed.Condemned) = kind.FailedCondemned
+kind_of (Failed ticket (failed.Closed stream)) = kind.FailedClosed
+kind_of (Failed ticket failed.Stale) = kind.FailedStale
+kind_of (Failed ticket failed.Exhausted) = kind.FailedExhausted
+kind_of (Restart restart.Restarted) = kind.Restarted
+kind_of (Restart restart.Exhausted) = kind.RestartExhausted
 
 -- the place of a kind among all kinds
-abbrev pub index_of : Kind → ℕ
-index_of Joined = 0
-index_of JoinFull = 1
-index_of JoinExhausted = 2
-index_of Left = 3
-index_of LeaveHolding = 4
-index_of LeaveStale = 5
-index_of LeaveExhausted = 6
-index_of AcquireGot = 7
-index_of AcquireOpen = 8
-index_of AcquireWaiting = 9
-index_of AcquireHolding = 10
-index_of AcquireStale = 11
-index_of AcquireExhausted = 12
-index_of WentUp = 13
-index_of UpExhausted = 14
-index_of UpStale = 15
-index_of UpAtEnd = 16
-index_of UpFailedFreed = 17
-index_of UpFailedStale = 18
-index_of UpFailedExhausted = 19
-index_of ReleasedIdle = 20
-index_of ReleasedQuarantined = 21
-index_of ReleasedClosed = 22
-index_of ReleaseStale = 23
-index_of ReleaseExhausted = 24
-index_of Closed = 25
-index_of CloseStale = 26
-index_of CloseExhausted = 27
-index_of Served = 28
-index_of Forwarded = 29
-index_of CancelSpent = 30
-index_of CancelUnknown = 31
-index_of CancelNoPeer = 32
-index_of CancelNoLink = 33
-index_of CancelBusy = 34
-index_of CancelExhausted = 35
-index_of EndedFreed = 36
-index_of EndedCounted = 37
-index_of EndedStale = 38
-index_of EndedExhausted = 39
-index_of FailedCondemned = 40
-index_of FailedClosed = 41
-index_of FailedStale = 42
-index_of FailedExhausted = 43
-index_of Restarted = 44
-index_of RestartExhausted = 45
+abbrev pub index_of : CallKind → ℕ
+index_of kind.Joined = 0
+index_of kind.JoinFull = 1
+index_of kind.JoinExhausted = 2
+index_of kind.Left = 3
+index_of kind.LeaveHolding = 4
+index_of kind.LeaveStale = 5
+index_of kind.LeaveExhausted = 6
+index_of kind.AcquireGot = 7
+index_of kind.AcquireOpen = 8
+index_of kind.AcquireWaiting = 9
+index_of kind.AcquireHolding = 10
+index_of kind.AcquireStale = 11
+index_of kind.AcquireExhausted = 12
+index_of kind.WentUp = 13
+index_of kind.UpExhausted = 14
+index_of kind.UpStale = 15
+index_of kind.UpAtEnd = 16
+index_of kind.UpFailedFreed = 17
+index_of kind.UpFailedStale = 18
+index_of kind.UpFailedExhausted = 19
+index_of kind.ReleasedIdle = 20
+index_of kind.ReleasedQuarantined = 21
+index_of kind.ReleasedClosed = 22
+index_of kind.ReleaseStale = 23
+index_of kind.ReleaseExhausted = 24
+index_of kind.Closed = 25
+index_of kind.CloseStale = 26
+index_of kind.CloseExhausted = 27
+index_of kind.Served = 28
+index_of kind.Forwarded = 29
+index_of kind.CancelSpent = 30
+index_of kind.CancelUnknown = 31
+index_of kind.CancelNoPeer = 32
+index_of kind.CancelNoLink = 33
+index_of kind.CancelBusy = 34
+index_of kind.CancelExhausted = 35
+index_of kind.EndedFreed = 36
+index_of kind.EndedCounted = 37
+index_of kind.EndedStale = 38
+index_of kind.EndedExhausted = 39
+index_of kind.FailedCondemned = 40
+index_of kind.FailedClosed = 41
+index_of kind.FailedStale = 42
+index_of kind.FailedExhausted = 43
+index_of kind.Restarted = 44
+index_of kind.RestartExhausted = 45
 
 -- a place of the pools
 abbrev pub place_numbers : LinkPlace → List ℕ
@@ -141,81 +161,42 @@ link_numbers lease = lease.peer ∷ lease.incarnation ∷ lease.link ∷ place_n
 
 -- a ticket, with its link
 abbrev pub ticket_numbers : TicketRecord → List ℕ
-ticket_numbers ticket = ticket.peer ∷ ticket.incarnation ∷ ticket.number ∷ ticket.link ∷ place_numbers ticket.at
+ticket_numbers ticket =
+    ticket.peer ∷ ticket.incarnation ∷ ticket.number ∷ ticket.link ∷ place_numbers ticket.at
 
 -- eight key bytes as a number
 abbrev pub key_number : List ℕ → ℕ
 key_number bytes = big_number 8 bytes
 
--- The numbers of a call, in their order: of each value handed in or out its own, then each peer, database and
--- secret, then each key.
+-- The numbers of a call, in their order: of each value handed in or out its own, then each peer,
+-- database and secret, then each key.
 abbrev pub numbers_of : Exchange → List ℕ
-numbers_of (Join database secret (Ok pass)) = pass_numbers pass ++ database ∷ secret ∷ key_number (key_bytes pass.key) ∷ []
+numbers_of (Join database secret (Ok pass)) =
+    pass_numbers pass ++ database ∷ secret ∷ key_number (key_bytes pass.key) ∷ []
 numbers_of (Join database secret (Err refusal)) = database ∷ secret ∷ []
-numbers_of (Leave pass (leave.Holding again)) = pass_numbers pass ++ pass_numbers again ++ key_number (key_bytes pass.key) ∷ key_number (key_bytes again.key) ∷ []
+numbers_of (Leave pass (leave.Holding again)) =
+    pass_numbers pass ++ pass_numbers again
+    ++ key_number (key_bytes pass.key) ∷ key_number (key_bytes again.key) ∷ []
 numbers_of (Leave pass reply) = pass_numbers pass ++ key_number (key_bytes pass.key) ∷ []
-numbers_of (Acquire pass (acquire.Got lease)) = pass_numbers pass ++ link_numbers lease ++ key_number (key_bytes pass.key) ∷ []
-numbers_of (Acquire pass (acquire.Open permit)) = pass_numbers pass ++ permit_numbers permit ++ key_number (key_bytes pass.key) ∷ []
+numbers_of (Acquire pass (acquire.Got lease)) =
+    pass_numbers pass ++ link_numbers lease ++ key_number (key_bytes pass.key) ∷ []
+numbers_of (Acquire pass (acquire.Open permit)) =
+    pass_numbers pass ++ permit_numbers permit ++ key_number (key_bytes pass.key) ∷ []
 numbers_of (Acquire pass reply) = pass_numbers pass ++ key_number (key_bytes pass.key) ∷ []
-numbers_of (Up permit key (up.Up lease)) = permit_numbers permit ++ link_numbers lease ++ key_number key ∷ []
-numbers_of (Up permit key (up.Exhausted again stream)) = permit_numbers permit ++ permit_numbers again ++ key_number key ∷ []
+numbers_of (Up permit key (up.Up lease)) =
+    permit_numbers permit ++ link_numbers lease ++ key_number key ∷ []
+numbers_of (Up permit key (up.Exhausted again stream)) =
+    permit_numbers permit ++ permit_numbers again ++ key_number key ∷ []
 numbers_of (Up permit key reply) = permit_numbers permit ++ key_number key ∷ []
 numbers_of (UpFailed permit reply) = permit_numbers permit
 numbers_of (Release lease reply) = link_numbers lease
 numbers_of (Close lease reply) = link_numbers lease
-numbers_of (Cancel key (order.Serve ticket database server)) = ticket_numbers ticket ++ database ∷ key_number key ∷ key_number server ∷ []
+numbers_of (Cancel key (order.Serve ticket database server)) =
+    ticket_numbers ticket ++ database ∷ key_number key ∷ key_number server ∷ []
 -- the key of a CancelRequest follows its length and its code, of four bytes each
-numbers_of (Cancel key (order.Forward to packet)) = to ∷ key_number key ∷ key_number (drop 8 packet) ∷ []
+numbers_of (Cancel key (order.Forward to packet)) =
+    to ∷ key_number key ∷ key_number (drop 8 packet) ∷ []
 numbers_of (Cancel key (order.Refused refusal)) = key_number key ∷ []
 numbers_of (Ended ticket reply) = ticket_numbers ticket
 numbers_of (Failed ticket reply) = ticket_numbers ticket
 numbers_of (Restart reply) = []
-
--- how many numbers a call of this kind has
-abbrev pub width_of : Kind → ℕ
-width_of Joined = 6
-width_of JoinFull = 2
-width_of JoinExhausted = 2
-width_of Left = 4
-width_of LeaveHolding = 8
-width_of LeaveStale = 4
-width_of LeaveExhausted = 4
-width_of AcquireGot = 9
-width_of AcquireOpen = 9
-width_of AcquireWaiting = 4
-width_of AcquireHolding = 4
-width_of AcquireStale = 4
-width_of AcquireExhausted = 4
-width_of WentUp = 11
-width_of UpExhausted = 11
-width_of UpStale = 6
-width_of UpAtEnd = 6
-width_of UpFailedFreed = 5
-width_of UpFailedStale = 5
-width_of UpFailedExhausted = 5
-width_of ReleasedIdle = 5
-width_of ReleasedQuarantined = 5
-width_of ReleasedClosed = 5
-width_of ReleaseStale = 5
-width_of ReleaseExhausted = 5
-width_of Closed = 5
-width_of CloseStale = 5
-width_of CloseExhausted = 5
-width_of Served = 9
-width_of Forwarded = 3
-width_of CancelSpent = 1
-width_of CancelUnknown = 1
-width_of CancelNoPeer = 1
-width_of CancelNoLink = 1
-width_of CancelBusy = 1
-width_of CancelExhausted = 1
-width_of EndedFreed = 6
-width_of EndedCounted = 6
-width_of EndedStale = 6
-width_of EndedExhausted = 6
-width_of FailedCondemned = 6
-width_of FailedClosed = 6
-width_of FailedStale = 6
-width_of FailedExhausted = 6
-width_of Restarted = 0
-width_of RestartExhausted = 0

@@ -7,7 +7,14 @@ use Rattle.locked_node.specs.declared.caller.Caller.TheInside.{Inside}
 
 -- a caller by its fields
 abbrev pub caller_of : {S : Type 0} → Inside S → CallerView
-caller_of c = record { lock = c.seat.table_id; start = c.seat.me.0.start; allowance = c.allowance; made = c.seat.me.0.made; tally = c.tally }
+caller_of c = record {
+  lock = c.seat.table_id;
+  start = c.seat.me.0.start;
+  allowance = c.allowance;
+  made = c.seat.me.0.made;
+  places = c.seat.me.0.places;
+  tally = c.tally;
+}
 
 -- its seat holds no journal, and says what it says
 pub record IsCaller {S : Type 0} (c : Inside S) : Type 0 where

@@ -4,4 +4,3 @@ pub mod Totals
 pub mod Journal
 pub mod Lock
 pub mod CallerOf
-pub mod Forwards

@@ -1,13 +1,14 @@
 -- The rule of a node's lock (own).
-use Rattle.std.specs.Prelude.{ℕ, ◌≡◌, ◌≢◌, ◌+◌, ◌-◌, ◌*◌, ◌^◌, ◌<◌, ◌≤◌, ◌⊎◌, List, [], ◌∷◌, ◌++◌, length, drop, slice_index, sum_by, Some, None}
+use Rattle.std.specs.Prelude.{ℕ, ◌≡◌, ◌≢◌, ◌+◌, ◌-◌, ◌*◌, ◌^◌, ◌<◌, ◌≤◌, ◌⊎◌, List, [], ◌∷◌, ◌++◌, length, drop, slice_index, slice_get, sum_by, All, AllPairs, Some, None}
+use Rattle.std.specs.List.{AllZip}
 use mathlib.Core.Option.{some, none}
 use lib.ListN.{get_elem?}
 use Rattle.atomic_table.specs.Table.{State, Me, Step}
 use Rattle.atomic_table.specs.Seated.{TableId}
 use Rattle.node_core.specs.declared.exchange.Exchange.{Exchange}
-use Rattle.locked_node.specs.declared.share.Share.{Share}
+use Rattle.locked_node.specs.declared.rule.Share.{Share}
 use Rattle.locked_node.specs.declared.tally.Tally.{Tally}
-use Rattle.locked_node.specs.Replay.{Replay}
+use Rattle.locked_node.specs.Replay.{Replay, fixed_of, IsPossible}
 use Rattle.locked_node.specs.Totals.{calls_in, sum_in, calls_at, sum_at, all_calls, SameSum, Counts, AddsUp, IsEmpty}
 use Rattle.locked_node.specs.Journal.{JournalView, LogView, JournalStep, CALL_LIMIT, log_calls, log_sum, log_all}
 
@@ -15,22 +16,36 @@ use Rattle.locked_node.specs.Journal.{JournalView, LogView, JournalStep, CALL_LI
 abbrev pub HANDED : ℕ
 HANDED = 2 ^ 64
 
--- The calls that all callers were answered, in some order, led from the node as it was to the journal's view,
--- and the journal's totals are those that it began with and those of these calls, kind by kind.
-pub record Kept (start : JournalView) (shares : List Share) (journal : JournalView) : Type 0 where
+-- at each of these places of the history is the call that is listed with it
+abbrev pub Placed : List Exchange → List ℕ → List Exchange → Type 0
+Placed calls = AllZip (λ place call. slice_get calls place ≡ Some call)
+
+-- The calls of all callers, in the order in which they were made, led from the node as it was to
+-- the journal's view, and the journal's totals are those that it began with and those of these
+-- calls, kind by kind. Each caller's are at their places.
+pub record Accounts (start : JournalView) (shares : List Share) (journal : JournalView)
+    : Type 0 where
   pub calls : List Exchange
   pub replay : Replay start.view calls journal.view
-  pub told : (f : Exchange → ℕ) → sum_by f calls ≡ sum_by (λ v. sum_by f v.made) shares
+  pub same : (f : Exchange → ℕ) → sum_by f calls ≡ sum_by (λ v. sum_by f v.made) shares
   pub many : length calls ≡ sum_by (λ v. length v.made) shares
-  pub counts : (kind : ℕ) → log_calls journal.log kind ≡ log_calls start.log kind + calls_in kind calls
-  pub sums : (kind position : ℕ) → SameSum (log_sum journal.log kind position) (log_sum start.log kind position + sum_in kind position calls)
+  pub counts : (kind : ℕ)
+      → log_calls journal.log kind ≡ log_calls start.log kind + calls_in kind calls
+  pub sums : (kind position : ℕ)
+      → SameSum (log_sum journal.log kind position)
+      (log_sum start.log kind position + sum_in kind position calls)
   pub all : log_all journal.log ≡ log_all start.log + length calls
-  pub pools : journal.view.pools ≡ start.view.pools
+  pub fixed : fixed_of journal.view ≡ fixed_of start.view
+  pub placed : (id : ℕ) (v : Share) → get_elem? shares id ≡ some v → Placed calls v.places v.made
 
--- A share that has anything knows how the lock began; who has what the journal began with has something, and it
--- is that journal.
+-- what a share has: allowance, the journal that the lock began with, calls
+abbrev pub stake : Share → ℕ
+stake v = v.allowance + (length v.begun + length v.made)
+
+-- A share that has anything knows how the lock began; who has what the journal began with has
+-- something, and it is that journal.
 pub record IsShare (start : JournalView) (v : Share) : Type 0 where
-  pub knows : 0 < v.allowance + (length v.begun + length v.made) → v.start ≡ start
+  pub knows : 0 < stake v → v.start ≡ start
   pub has : 0 < length v.begun → 0 < v.allowance + length v.made + log_all start.log
   pub alike : (f : JournalView → ℕ) → sum_by f v.begun ≡ length v.begun * f start
 
@@ -40,7 +55,7 @@ pub record IsFree (journal : JournalView) (s : State JournalView Share) : Type 0
   pub home : s.homes ≡ some journal ∷ []
   pub idle : (id : ℕ) (v : Share) → get_elem? s.views id ≡ some v → v.found ≡ None
 
--- one caller has taken the lock, found this journal, and may make a call
+-- one caller, which has something, has taken the lock and found this journal
 pub record IsTaken (journal : JournalView) (s : State JournalView Share) : Type 0 where
   pub word : slice_index s.words 0 ≢ 0
   pub home : s.homes ≡ none ∷ []
@@ -48,14 +63,14 @@ pub record IsTaken (journal : JournalView) (s : State JournalView Share) : Type 
   pub share : Share
   pub there : get_elem? s.views taker ≡ some share
   pub found : share.found ≡ Some journal
-  pub may : 0 < share.allowance
+  pub has : 0 < stake share
   pub others : (id : ℕ) (v : Share) → get_elem? s.views id ≡ some v → id ≢ taker → v.found ≡ None
 
--- the rule of the lock of a node that began as `start`
+-- The rule of the lock of a node that began as `start`. It is over the first word alone.
 pub record IsLocked (start : JournalView) (s : State JournalView Share) : Type 0 where
-  pub word : length s.words ≡ 1
+  pub word : 0 < length s.words
   pub journal : JournalView
-  pub kept : Kept start s.views journal
+  pub accounts : Accounts start s.views journal
   -- allowances and counts make 2^127
   pub fits : sum_by (λ v. v.allowance) s.views + log_all journal.log ≡ CALL_LIMIT
   pub one_start : sum_by (λ v. length v.begun) s.views ≡ 1
@@ -64,18 +79,37 @@ pub record IsLocked (start : JournalView) (s : State JournalView Share) : Type 0
 
 -- the first caller has what the journal began with
 abbrev pub first_share : JournalView → Share
-first_share start = record { allowance = CALL_LIMIT - log_all start.log; begun = start ∷ []; made = []; found = None; start = start }
+first_share start = record {
+  allowance = CALL_LIMIT - log_all start.log;
+  begun = start ∷ [];
+  made = [];
+  places = [];
+  found = None;
+  start = start;
+}
 
 -- a caller hands over a part of its allowance, and nothing else
 abbrev pub handing : Share → Share
 handing v = record v { allowance = v.allowance - HANDED }
 
 abbrev pub handed : Share → Share
-handed v = record { allowance = HANDED; begun = []; made = []; found = None; start = v.start }
+handed v = record {
+  allowance = HANDED;
+  begun = [];
+  made = [];
+  places = [];
+  found = None;
+  start = v.start;
+}
 
 -- two callers are one
 abbrev pub joined : Share → Share → Share
-joined v w = record v { allowance = v.allowance + w.allowance; begun = v.begun ++ w.begun; made = v.made ++ w.made }
+joined v w = record v {
+  allowance = v.allowance + w.allowance;
+  begun = v.begun ++ w.begun;
+  made = v.made ++ w.made;
+  places = v.places ++ w.places;
+}
 
 -- a journal of nothing
 abbrev pub no_journal : JournalView
@@ -87,22 +121,46 @@ no_journal = record {
     keys = record { peer = 0; secrets = []; next = None };
     clients = [];
     next_pass = 0;
-    links = record { peer = 0; incarnation = 0; pools = []; claims = []; next_link = 0; next_permit = 0; next_ticket = 0 };
+    links = record {
+      peer = 0;
+      incarnation = 0;
+      pools = [];
+      claims = [];
+      next_link = 0;
+      next_permit = 0;
+      next_ticket = 0;
+    };
   };
   log = record { tail = []; trimmed = record { rows = [] } };
 }
 
 -- what is left of a caller that was joined to another
 abbrev pub nobody : Share
-nobody = record { allowance = 0; begun = []; made = []; found = None; start = no_journal }
+nobody = record {
+  allowance = 0;
+  begun = [];
+  made = [];
+  places = [];
+  found = None;
+  start = no_journal;
+}
 
 -- the last call of a tail, alone
 abbrev pub last_call : List Exchange → List Exchange
 last_call tail = drop (length tail - 1) tail
 
--- a caller that gives the lock back was answered the journal's last call
+-- the place of the journal's last call in the history since the lock began
+abbrev pub last_place : Share → JournalView → ℕ
+last_place v journal = log_all journal.log - (log_all v.start.log + 1)
+
+-- a caller that gives the lock back has made the journal's last call
 abbrev pub given : Share → JournalView → Share
-given v journal = record v { allowance = v.allowance - 1; made = v.made ++ last_call journal.log.tail; found = None }
+given v journal = record v {
+  allowance = v.allowance - 1;
+  made = v.made ++ last_call journal.log.tail;
+  places = v.places ++ last_place v journal ∷ [];
+  found = None;
+}
 
 -- a caller took the lock and found this journal
 pub record Took (before after : Me JournalView Share) : Type 0 where
@@ -110,27 +168,32 @@ pub record Took (before after : Me JournalView Share) : Type 0 where
   pub view : after.0 ≡ record before.0 { found = Some journal }
   pub slot : after.1 ≡ (0, journal) ∷ before.1
   pub room : before.0.allowance + log_all journal.log ≤ CALL_LIMIT
-  pub pools : journal.view.pools ≡ before.0.start.view.pools
+  pub fixed : fixed_of journal.view ≡ fixed_of before.0.start.view
 
--- a seat holds the journal that it found, which takes a call more
+-- a seat that may make a call holds the journal that it found, which takes one more
 pub record Holds (me : Me JournalView Share) : Type 0 where
   pub journal : JournalView
   pub found : me.0.found ≡ Some journal
   pub slot : me.1 ≡ (0, journal) ∷ []
+  pub may : 0 < me.0.allowance
   pub room : log_all journal.log < CALL_LIMIT
-  pub pools : journal.view.pools ≡ me.0.start.view.pools
+  pub fixed : fixed_of journal.view ≡ fixed_of me.0.start.view
 
 -- this call was made on the journal that the seat found
-pub record Calls (before : Me JournalView Share) (call : Exchange) (after : Me JournalView Share) : Type 0 where
+pub record Calls (before : Me JournalView Share) (call : Exchange) (after : Me JournalView Share)
+    : Type 0 where
   pub view : after.0 ≡ before.0
+  pub may : 0 < before.0.allowance
   pub old : JournalView
   pub new : JournalView
   pub found : before.0.found ≡ Some old
+  pub fixed : fixed_of old.view ≡ fixed_of before.0.start.view
   pub slot : after.1 ≡ (0, new) ∷ []
   pub step : JournalStep old call new
 
 -- one call was made on the journal that the seat found
 pub record Called (me : Me JournalView Share) : Type 0 where
+  pub may : 0 < me.0.allowance
   pub call : Exchange
   pub old : JournalView
   pub new : JournalView
@@ -138,15 +201,19 @@ pub record Called (me : Me JournalView Share) : Type 0 where
   pub slot : me.1 ≡ (0, new) ∷ []
   pub step : JournalStep old call new
 
--- the seat holds nothing any more, and the journal's last call is its own
+-- the seat holds nothing any more, and the journal's last call is its own, after all that it made
+-- before
 abbrev pub Given : Me JournalView Share → Me JournalView Share → Type 0
-Given before after = (journal : JournalView) → before.1 ≡ (0, journal) ∷ [] → after ≡ (given before.0 journal, [])
+Given before after = (journal : JournalView) → before.1 ≡ (0, journal) ∷ []
+    → (after ≡ (given before.0 journal, []))
+    × All (λ place. place < last_place before.0 journal) before.0.places
 
--- what the exchange that takes the lock tells: it was free, and is the caller's; or it was taken, and nothing changed
+-- after the exchange that takes the lock: it was free, and is the caller's; or it was taken, and
+-- nothing changed
 abbrev pub taking : Step JournalView → Me JournalView Share → ℕ → Me JournalView Share → Type 0
 taking st before found after = (found ≡ 0 → Took before after) × (found ≢ 0 → after ≡ before)
 
--- what the exchange that gives it back tells: the caller's share has one call more
+-- after the exchange that gives it back the caller's share has one more call
 abbrev pub giving : Step JournalView → Me JournalView Share → ℕ → Me JournalView Share → Type 0
 giving st before found after = Given before after
 
@@ -154,27 +221,45 @@ giving st before found after = Given before after
 abbrev pub IsWithin : Share → Type 0
 IsWithin v = v.allowance + (sum_by (λ j. log_all j.log) v.begun + length v.made) ≤ CALL_LIMIT
 
--- a look tells a caller that its numbers are within the limit
+-- after a look a caller's numbers are known to be within the limit
 abbrev pub looking : Step JournalView → Me JournalView Share → ℕ → Me JournalView Share → Type 0
 looking st before found after = (after ≡ before) × IsWithin before.0
 
--- A caller as clauses see it: the lock that it is of, the node as it was when that began, how many calls it may
--- still make, the calls that it made, and its totals, to which the first caller's belong those that the journal
--- began with.
+-- A caller as clauses see it: the lock that it is of, the node as it was when that began, how many
+-- calls it may still make, the calls that it made, their places in the history since the lock
+-- began, and its totals, to which the first caller's belong those that the journal began with.
 pub record CallerView : Type 0 where
   pub lock : TableId
   pub start : JournalView
   pub allowance : ℕ
   pub made : List Exchange
+  pub places : List ℕ
   pub tally : Tally
 
--- one call more was made and answered
+-- One call more was made, later than all before, and the node allowed it the reply that it got: so
+-- a reply that says that no number is left comes only where one is used up.
 pub record CallerStep (old : CallerView) (call : Exchange) (new : CallerView) : Type 0 where
+  pub possible : IsPossible (fixed_of old.start.view) call
   pub lock : new.lock ≡ old.lock
   pub start : new.start ≡ old.start
   pub allowance : new.allowance + 1 ≡ old.allowance
   pub made : new.made ≡ old.made ++ call ∷ []
+  pub place : ℕ
+  pub places : new.places ≡ old.places ++ place ∷ []
+  pub later : All (λ earlier. earlier < place) old.places
   pub tally : Counts old.tally call new.tally
+
+-- A call behind the lock. With allowance it is made and counted; without any nothing changes, and
+-- the reply is the one that spends what was handed in.
+pub record Counted {R : Type 0} (call : Exchange) (reply at_end : R) (old new : CallerView)
+    : Type 0 where
+  pub made : 0 < old.allowance → CallerStep old call new
+  pub spent : old.allowance ≡ 0 → (reply ≡ at_end) × (new ≡ old)
+  pub same : (new.lock ≡ old.lock) × (new.start ≡ old.start)
+
+-- Holds between some two states. Which streams a node stores is not known behind its lock.
+abbrev pub Somewhere : {X : Type 0} → (X → X → Type 0) → Type 0
+Somewhere {X} R = (old : X) × (new : X) × R old new
 
 -- a caller hands 2^64 of its allowance to a new one without calls
 pub record Splits (old new part : CallerView) : Type 0 where
@@ -182,6 +267,7 @@ pub record Splits (old new part : CallerView) : Type 0 where
   pub start : (new.start ≡ old.start) × (part.start ≡ old.start)
   pub allowance : (new.allowance + HANDED ≡ old.allowance) × (part.allowance ≡ HANDED)
   pub made : (new.made ≡ old.made) × (part.made ≡ [])
+  pub places : (new.places ≡ old.places) × (part.places ≡ [])
   pub tally : (new.tally ≡ old.tally) × IsEmpty part.tally
 
 -- two callers of a lock become one
@@ -190,6 +276,7 @@ pub record JoinsUp (old other new : CallerView) : Type 0 where
   pub start : new.start ≡ old.start
   pub allowance : new.allowance ≡ old.allowance + other.allowance
   pub made : new.made ≡ old.made ++ other.made
+  pub places : new.places ≡ old.places ++ other.places
   pub tally : AddsUp old.tally other.tally new.tally
 
 -- the totals of a tally are those of a log, kind by kind
@@ -200,14 +287,25 @@ pub record IsTotalOf (log : LogView) (tally : Tally) : Type 0 where
 
 -- a caller's totals are those of its share
 pub record IsTotalOfShare (v : Share) (tally : Tally) : Type 0 where
-  pub calls : (kind : ℕ) → calls_at tally kind ≡ sum_by (λ j. log_calls j.log kind) v.begun + calls_in kind v.made
-  pub sums : (kind position : ℕ) → SameSum (sum_at tally kind position) (sum_by (λ j. log_sum j.log kind position) v.begun + sum_in kind position v.made)
+  pub calls : (kind : ℕ)
+      → calls_at tally kind ≡ sum_by (λ j. log_calls j.log kind) v.begun + calls_in kind v.made
+  pub sums : (kind position : ℕ)
+      → SameSum (sum_at tally kind position)
+      (sum_by (λ j. log_sum j.log kind position) v.begun + sum_in kind position v.made)
   pub all : all_calls tally ≡ sum_by (λ j. log_all j.log) v.begun + length v.made
 
--- the caller to whom everything came back: its totals are the journal's, and the calls that it and those who
--- were joined to it made, in some order, led from the node as it was to the journal's view
+-- The caller to whom everything came back: its totals are the journal's, and the calls that it and
+-- those who were joined to it made led, in the order of their places, from the node as it was to
+-- the journal's view. A caller whose places rise made them in the order in which it has them.
 pub record IsWhole (caller : CallerView) (journal : JournalView) : Type 0 where
   pub totals : IsTotalOf journal.log caller.tally
   pub calls : List Exchange
   pub replay : Replay caller.start.view calls journal.view
   pub same : (f : Exchange → ℕ) → sum_by f calls ≡ sum_by f caller.made
+  pub placed : Placed calls caller.places caller.made
+  pub in_order : AllPairs (λ one later. one < later) caller.places → calls ≡ caller.made
+
+-- a caller's calls are among those of a log, and its allowance is among what is left
+pub record IsAmong (caller : CallerView) (log : LogView) : Type 0 where
+  pub least : all_calls caller.tally ≤ log_all log
+  pub most : log_all log + caller.allowance ≤ CALL_LIMIT

@@ -41,6 +41,12 @@ all_calls tally = sum_by (λ row. row.calls) tally.rows
 abbrev pub SameSum : ℕ → ℕ → Type 0
 SameSum a b = a % 2 ^ 128 ≡ b % 2 ^ 128
 
+-- at each position the number of a list is added
+abbrev pub SumsUp : List ℕ → List ℕ → List ℕ → Type 0
+SumsUp old numbers new =
+    (position : ℕ)
+    → SameSum (slice_index new position) (slice_index old position + slice_index numbers position)
+
 -- a tally of no call
 pub record IsEmpty (tally : Tally) : Type 0 where
   pub calls : (kind : ℕ) → calls_at tally kind ≡ 0
@@ -49,12 +55,15 @@ pub record IsEmpty (tally : Tally) : Type 0 where
 
 -- one more call is counted, and its numbers are added
 pub record Counts (old : Tally) (call : Exchange) (new : Tally) : Type 0 where
-  pub calls : (kind : ℕ) → calls_at new kind ≡ calls_at old kind + (if is_of kind call then 1 else 0)
-  pub sums : (kind position : ℕ) → SameSum (sum_at new kind position) (sum_at old kind position + number_at kind position call)
+  pub calls : (kind : ℕ)
+      → calls_at new kind ≡ calls_at old kind + (if is_of kind call then 1 else 0)
+  pub sums : (kind position : ℕ)
+      → SameSum (sum_at new kind position) (sum_at old kind position + number_at kind position call)
   pub all : all_calls new ≡ all_calls old + 1
 
 -- two tallies are added up
 pub record AddsUp (one other both : Tally) : Type 0 where
   pub calls : (kind : ℕ) → calls_at both kind ≡ calls_at one kind + calls_at other kind
-  pub sums : (kind position : ℕ) → SameSum (sum_at both kind position) (sum_at one kind position + sum_at other kind position)
+  pub sums : (kind position : ℕ)
+      → SameSum (sum_at both kind position) (sum_at one kind position + sum_at other kind position)
   pub all : all_calls both ≡ all_calls one + all_calls other

@@ -1,8 +1,8 @@
 //! Who makes calls at a node behind a lock.
 ghost use Rattle.std.specs.Prelude.{◌≡◌, ◌<◌, ◌≤◌, IfNone, IfSome};
 
-use crate::kind::Kind;
-use crate::share::Place;
+use crate::call_kind::CallKind;
+use crate::rule::Place;
 use crate::shared::Shared;
 use crate::tally::Tally;
 use std::marker::Model;
@@ -10,7 +10,8 @@ use std::marker::Model;
 // What a new caller is handed.
 const PART: u128 = 1 << 64;
 
-/// Who makes calls at a node behind its lock: how many it may still make, and the totals of those that it made.
+/// Who makes calls at a node behind its lock: how many it may still make, and the totals of those
+/// that it made.
 #[derive(Drop)]
 pub struct Caller<S> {
     pub(crate) seat: Place<S>,
@@ -50,18 +51,19 @@ impl<S: Drop> Caller<S> {
     }
 
     /// How many calls of this kind it made.
-    pub fn calls(&self, kind: Kind) -> u128
+    pub fn calls(&self, kind: CallKind) -> u128
         ensures { result ≡ calls_at self.now.tally (index_of kind) }
     {
         self.tally.calls(kind)
     }
 
-    /// Hands 2^64 of the allowance to a new caller without calls. None, where no more than that is left. The lock
-    /// is this caller's own.
+    /// Hands 2^64 of the allowance to a new caller without calls. Returns `None` if no more than
+    /// that is left. The lock is this caller's own.
     pub fn split(&mut self, lock: &Shared<S>) -> Option<Caller<S>>
         requires own { self.old.lock ≡ lock.now }
         ensures none { IfNone result ((self.old.allowance ≤ HANDED) × (self.new ≡ self.old)) }
-        ensures some { IfSome result (λ part. (HANDED < self.old.allowance) × Splits self.old self.new part) }
+        ensures some { IfSome result
+            (λ part. (HANDED < self.old.allowance) × Splits self.old self.new part) }
     {
         if self.allowance <= PART {
             return None;
@@ -75,19 +77,14 @@ impl<S: Drop> Caller<S> {
         })
     }
 
-    /// Takes in the allowance and the totals of another caller of this lock.
+    /// Adds the allowance and the totals of another caller of this lock.
     pub fn join(&mut self, lock: &Shared<S>, other: Caller<S>)
         requires own { self.old.lock ≡ lock.now }
         requires same { other.lock ≡ lock.now }
         ensures { JoinsUp self.old other self.new }
     {
-        let Caller {
-            seat,
-            allowance,
-            tally,
-        } = other;
-        lock.unite(&mut self.seat, seat);
-        self.allowance += allowance;
-        self.tally.merge(&tally);
+        lock.unite(&mut self.seat, other.seat);
+        self.allowance += other.allowance;
+        self.tally.merge(&other.tally);
     }
 }

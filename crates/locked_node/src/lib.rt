@@ -1,23 +1,28 @@
 //! A node behind its lock: the journal of its calls, and the callers that share it.
 #![tactic(auto)]
 
+mod call;
+mod call_kind;
 mod caller;
 mod calls;
-mod held;
 mod journal;
-mod kind;
+mod locked;
 mod log;
 mod numbers;
-mod said;
-mod share;
+mod reply_records;
+mod rule;
 mod shared;
+mod steps;
 mod tally;
 
+pub use call::Call;
+pub use call_kind::{CallKind, KINDS};
 pub use caller::Caller;
 pub use journal::Journal;
-pub use kind::Kind;
+pub use log::Entry;
+pub use numbers::WIDEST;
 pub use shared::Shared;
+pub use steps::{
+    Acquire, Cancel, Close, Ended, Failed, Join, Leave, Release, Restart, Up, UpFailed,
+};
 pub use tally::{Row, Tally};
-
-#[cfg(test)]
-mod tests;

@@ -5,50 +5,57 @@ use crate::tally::Tally;
 use node_core::Exchange;
 use std::alloc::{AllocError, Global};
 use std::collections::VecDeque;
+use std::collections::vec_deque::Iter;
 use std::marker::Model;
 
 /// How many calls are kept with their replies.
 const TAIL: usize = 4096;
 
 /// How many calls there may be.
-const MOST: u128 = 1 << 127;
+pub(crate) const MOST: u128 = 1 << 127;
 
-// A call with its reply, as it is kept.
+/// A call with its reply, in the tail of a journal.
 #[derive(Debug, Drop)]
-pub struct Kept {
-    call: Exchange,
+pub struct Entry {
+    /// The call.
+    pub call: Exchange,
 }
 
-impl Model for Kept {
+impl Model for Entry {
     ghost use Rattle.node_core.specs.declared.exchange.Exchange.{Exchange};
 
     ghost Value = { Exchange };
 
-    ghost view = { λ k. k.call };
+    ghost view = { λ e. e.call };
 }
 
 // The tail of a journal. It has room for all the calls that it keeps.
 #[derive(Debug, Drop)]
 pub(crate) struct Log {
-    tail: VecDeque<Kept>,
+    tail: VecDeque<Entry>,
     trimmed: Tally,
     calls: u128,
 }
 
 impl Model for Log {
-    ghost use Rattle.std.specs.Prelude.{◌≡◌, ◌+◌, ◌^◌, ◌≤◌, length};
+    ghost use Rattle.std.specs.Prelude.{◌≡◌, ◌+◌, ◌≤◌, length};
     ghost use Rattle.std.specs.VecDeque.{deque_capacity};
-    ghost use Rattle.locked_node.specs.Journal.{LogView};
+    ghost use Rattle.locked_node.specs.Journal.{LogView, CALL_LIMIT, TAIL_LIMIT};
     ghost use Rattle.locked_node.specs.Totals.{all_calls};
 
     ghost Value = { LogView };
 
     ghost view = { λ l. record { tail = l.tail.items; trimmed = l.trimmed } };
 
-    ghost invariant = { λ l. (length l.tail.items ≤ 4096) × (4096 ≤ deque_capacity l.tail) × (l.calls ≡ all_calls l.trimmed + length l.tail.items) × (l.calls ≤ 2 ^ 127) };
+    ghost invariant = { λ l.
+        (length l.tail.items ≤ TAIL_LIMIT) × (TAIL_LIMIT ≤ deque_capacity l.tail)
+        × (l.calls ≡ all_calls l.trimmed + length l.tail.items) × (l.calls ≤ CALL_LIMIT) };
 }
 
 impl Log {
+    ghost use Rattle.node_core.specs.declared.exchange.Exchange.{Exchange};
+    ghost use Rattle.std.specs.VecDeque.Iter.{deque_iter_rest, deque_iter_steps};
+    ghost use Rattle.std.specs.Iterator.Runs.{YieldsRefsInOrder};
     ghost use Rattle.locked_node.specs.Journal.{Appends, Trims, log_all, CALL_LIMIT, TAIL_LIMIT};
     ghost use Rattle.locked_node.specs.Totals.{IsEmpty};
     ghost use Rattle.locked_node.specs.Lock.{IsTotalOf};
@@ -74,11 +81,19 @@ impl Log {
         self.calls
     }
 
-    /// How many calls it takes more.
+    /// How many more calls it takes.
     pub(crate) fn calls_left(&self) -> u128
         ensures { result + log_all self.now ≡ CALL_LIMIT }
     {
         MOST - self.calls
+    }
+
+    /// The last calls, the oldest first.
+    pub(crate) fn tail(&self) -> Iter<'_, Entry>
+        ensures calls { deque_iter_rest result ≡ self.now.tail }
+        ensures runs { YieldsRefsInOrder (deque_iter_steps {X = Exchange}) deque_iter_rest }
+    {
+        self.tail.iter()
     }
 
     /// The totals of all calls.
@@ -87,15 +102,15 @@ impl Log {
     {
         let mut totals = self.trimmed;
         for i in 0..self.tail.len() {
-            let kept = &self.tail[i];
-            totals.count(&kept.call);
+            totals.count(&self.tail[i].call);
         }
         totals
     }
 
     /// Whether no further call is taken.
     pub(crate) fn is_full(&self) -> bool
-        ensures full { MatchBool result (log_all self.now ≡ CALL_LIMIT) (log_all self.now < CALL_LIMIT) }
+        ensures full { MatchBool result
+            (log_all self.now ≡ CALL_LIMIT) (log_all self.now < CALL_LIMIT) }
         ensures tail { length self.now.tail ≤ TAIL_LIMIT }
     {
         self.calls == MOST
@@ -109,7 +124,7 @@ impl Log {
         if self.tail.len() == TAIL {
             self.trim();
         }
-        self.tail.push_back_reserved(Kept { call: *call });
+        self.tail.push_back_reserved(Entry { call: *call });
         self.calls += 1;
     }
 
@@ -119,8 +134,8 @@ impl Log {
         requires room { log_all self.old < CALL_LIMIT }
         ensures { Trims self.old self.new }
     {
-        let Kept { call } = self.tail.pop_front().unwrap();
-        self.trimmed.count(&call);
+        self.trimmed.count(&self.tail[0].call);
+        let _oldest = self.tail.pop_front();
     }
 
     /// The totals of the calls that left the tail.

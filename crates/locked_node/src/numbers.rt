@@ -1,300 +1,202 @@
 //! The numbers in a call with its answer.
-ghost use Rattle.std.specs.Prelude.{◌≡◌, ◌≤◌, ◌++◌, length, take, replicate};
+ghost use Rattle.std.specs.Prelude.{◌≡◌, ◌+◌, ◌≤◌, ◌<◌, [], ◌∷◌, ◌++◌, length};
 ghost use Rattle.locked_node.specs.CallNumbers as call;
-ghost use Rattle.locked_node.specs.CallNumbers.{numbers_of, key_number};
+ghost use Rattle.locked_node.specs.CallNumbers.{WIDEST, numbers_of};
 ghost use Rattle.node_core.specs.declared.exchange.Exchange.{Exchange};
+ghost use Rattle.pg_ids.specs.Key.{key_bytes};
 
 use byteorder::{BigEndian, ByteOrder};
 use node_core::{
-    AcquireReply, DatabaseNo, Exchange, JoinRefusal, LeaveReply, LinkRecord, Order, PassRecord,
-    PermitRecord, TicketRecord, UpReply,
+    AcquireReply, Exchange, LeaveReply, LinkPlace, LinkRecord, Order, PassRecord, PermitRecord,
+    TicketRecord, UpReply,
 };
-use pg_ids::{Secret, ServerKey};
+use std::marker::Model;
 
 /// How many numbers a call has at most.
 pub const WIDEST: usize = 11;
 
-/// The numbers of a call in their order, and then zeros. Each is below 2^64.
-pub(crate) fn call_numbers(call: &Exchange) -> [u64; WIDEST]
-    ensures value { result ≡ take 11 (numbers_of call.now ++ replicate 11 0) }
-    ensures short { length (numbers_of call.now) ≤ 11 }
-{
-    match call {
-        Exchange::Join(database, secret, reply) => join_numbers(*database, *secret, reply),
-        Exchange::Leave(pass, reply) => leave_numbers(pass, reply),
-        Exchange::Acquire(pass, reply) => acquire_numbers(pass, reply),
-        Exchange::Up(permit, key, reply) => up_numbers(permit, *key, reply),
-        Exchange::UpFailed(permit, _) => permit_numbers(permit),
-        Exchange::Release(lease, _) | Exchange::Close(lease, _) => link_numbers(lease),
-        Exchange::Cancel(key, order) => cancel_numbers(key, order),
-        Exchange::Ended(ticket, _) | Exchange::Failed(ticket, _) => ticket_numbers(ticket),
-        Exchange::Restart(_) => [0; WIDEST],
-    }
+// Up to eleven numbers, in their order.
+#[derive(Drop)]
+pub(crate) struct Numbers {
+    items: [u64; WIDEST],
+    count: usize,
 }
 
-fn join_numbers(
-    database: DatabaseNo,
-    secret: Secret,
-    reply: &Result<PassRecord, JoinRefusal>,
-) -> [u64; WIDEST]
-    ensures { result ≡ take 11 (numbers_of (Exchange.Join database secret reply.now) ++ replicate 11 0) }
-{
-    let database = u64::from(database.get());
-    let secret = u64::from(secret.get());
-    match reply {
-        Ok(pass) => [
-            u64::from(pass.key.peer.get()),
-            pass.incarnation,
-            pass.number,
-            database,
-            secret,
-            number_of_key(&pass.key.to_bytes()),
-            0,
-            0,
-            0,
-            0,
-            0,
-        ],
-        Err(_) => [database, secret, 0, 0, 0, 0, 0, 0, 0, 0, 0],
-    }
+impl Model for Numbers {
+    ghost use Rattle.std.specs.Prelude.{ℕ, List, ◌≤◌, take};
+    ghost use Rattle.locked_node.specs.CallNumbers.{WIDEST};
+
+    ghost Value = { List ℕ };
+
+    ghost view = { λ n. take n.count n.items };
+
+    ghost invariant = { λ n. n.count ≤ WIDEST };
 }
 
-fn leave_numbers(pass: &PassRecord, reply: &LeaveReply<PassRecord>) -> [u64; WIDEST]
-    ensures { result ≡ take 11 (numbers_of (Exchange.Leave pass.now reply.now) ++ replicate 11 0) }
-{
-    let peer = u64::from(pass.key.peer.get());
-    let key = number_of_key(&pass.key.to_bytes());
-    match reply {
-        LeaveReply::Holding(again) => [
-            peer,
-            pass.incarnation,
-            pass.number,
-            u64::from(again.key.peer.get()),
-            again.incarnation,
-            again.number,
-            key,
-            number_of_key(&again.key.to_bytes()),
-            0,
-            0,
-            0,
-        ],
-        LeaveReply::Left | LeaveReply::Stale | LeaveReply::Exhausted => {
-            [
-                peer,
-                pass.incarnation,
-                pass.number,
-                key,
-                0,
-                0,
-                0,
-                0,
-                0,
-                0,
-                0,
-            ]
+impl Numbers {
+    /// No number.
+    pub(crate) const fn new() -> Numbers
+        ensures { result ≡ [] }
+    {
+        Numbers {
+            items: [0; WIDEST],
+            count: 0,
         }
     }
-}
 
-fn acquire_numbers(
-    pass: &PassRecord,
-    reply: &AcquireReply<LinkRecord, PermitRecord>,
-) -> [u64; WIDEST]
-    ensures { result ≡ take 11 (numbers_of (Exchange.Acquire pass.now reply.now) ++ replicate 11 0) }
-{
-    let peer = u64::from(pass.key.peer.get());
-    let key = number_of_key(&pass.key.to_bytes());
-    match reply {
-        AcquireReply::Got(lease) => [
-            peer,
-            pass.incarnation,
-            pass.number,
-            u64::from(lease.peer.get()),
-            lease.incarnation,
-            lease.link.get(),
-            u64::from(lease.at.database.get()),
-            u64::from(lease.at.index),
-            key,
-            0,
-            0,
-        ],
-        AcquireReply::Open(permit) => [
-            peer,
-            pass.incarnation,
-            pass.number,
-            u64::from(permit.peer.get()),
-            permit.incarnation,
-            permit.number,
-            u64::from(permit.at.database.get()),
-            u64::from(permit.at.index),
-            key,
-            0,
-            0,
-        ],
-        AcquireReply::Waiting
-        | AcquireReply::Holding
-        | AcquireReply::Stale
-        | AcquireReply::Exhausted => {
-            [
-                peer,
-                pass.incarnation,
-                pass.number,
-                key,
-                0,
-                0,
-                0,
-                0,
-                0,
-                0,
-                0,
-            ]
+    /// The numbers of a call. They are written in place, since a copy of what was just written is
+    /// slow to read.
+    pub(crate) fn read(&mut self, call: &Exchange)
+        requires { self.old ≡ [] }
+        ensures { self.new ≡ numbers_of call.now }
+    {
+        match call {
+            Exchange::Join(database, secret, reply) => {
+                if let Ok(pass) = reply {
+                    self.pass(pass);
+                }
+                self.push(u64::from(database.get()));
+                self.push(u64::from(secret.get()));
+                if let Ok(pass) = reply {
+                    self.key(&pass.key.to_bytes());
+                }
+            }
+            Exchange::Leave(pass, reply) => {
+                self.pass(pass);
+                if let LeaveReply::Holding(again) = reply {
+                    self.pass(again);
+                }
+                self.key(&pass.key.to_bytes());
+                if let LeaveReply::Holding(again) = reply {
+                    self.key(&again.key.to_bytes());
+                }
+            }
+            Exchange::Acquire(pass, reply) => {
+                self.pass(pass);
+                match reply {
+                    AcquireReply::Got(lease) => self.link(lease),
+                    AcquireReply::Open(permit) => self.permit(permit),
+                    _ => {}
+                }
+                self.key(&pass.key.to_bytes());
+            }
+            Exchange::Up(permit, key, reply) => {
+                self.permit(permit);
+                match reply {
+                    UpReply::Up(lease) => self.link(lease),
+                    UpReply::Exhausted(again, ()) => self.permit(again),
+                    _ => {}
+                }
+                self.key(&key.to_bytes());
+            }
+            Exchange::UpFailed(permit, _) => self.permit(permit),
+            Exchange::Release(lease, _) | Exchange::Close(lease, _) => self.link(lease),
+            Exchange::Cancel(key, order) => self.cancel(key, order),
+            Exchange::Ended(ticket, _) | Exchange::Failed(ticket, _) => self.ticket(ticket),
+            Exchange::Restart(_) => {}
         }
     }
-}
 
-fn up_numbers(
-    permit: &PermitRecord,
-    key: ServerKey,
-    reply: &UpReply<LinkRecord, PermitRecord, ()>,
-) -> [u64; WIDEST]
-    ensures { result ≡ take 11 (numbers_of (Exchange.Up permit.now key reply.now) ++ replicate 11 0) }
-{
-    let key = number_of_key(&key.to_bytes());
-    match reply {
-        UpReply::Up(lease) => [
-            u64::from(permit.peer.get()),
-            permit.incarnation,
-            permit.number,
-            u64::from(permit.at.database.get()),
-            u64::from(permit.at.index),
-            u64::from(lease.peer.get()),
-            lease.incarnation,
-            lease.link.get(),
-            u64::from(lease.at.database.get()),
-            u64::from(lease.at.index),
-            key,
-        ],
-        UpReply::Exhausted(again, ()) => [
-            u64::from(permit.peer.get()),
-            permit.incarnation,
-            permit.number,
-            u64::from(permit.at.database.get()),
-            u64::from(permit.at.index),
-            u64::from(again.peer.get()),
-            again.incarnation,
-            again.number,
-            u64::from(again.at.database.get()),
-            u64::from(again.at.index),
-            key,
-        ],
-        UpReply::Stale(()) | UpReply::AtEnd(()) => [
-            u64::from(permit.peer.get()),
-            permit.incarnation,
-            permit.number,
-            u64::from(permit.at.database.get()),
-            u64::from(permit.at.index),
-            key,
-            0,
-            0,
-            0,
-            0,
-            0,
-        ],
+    /// The numbers, as a slice.
+    pub(crate) fn as_slice(&self) -> &[u64]
+        ensures value { result.now ≡ self.now }
+        ensures within { length result.now ≤ WIDEST }
+    {
+        &self.items[..self.count]
     }
-}
 
-fn permit_numbers(permit: &PermitRecord) -> [u64; WIDEST]
-    ensures { result ≡ take 11 (call.permit_numbers permit.now ++ replicate 11 0) }
-{
-    [
-        u64::from(permit.peer.get()),
-        permit.incarnation,
-        permit.number,
-        u64::from(permit.at.database.get()),
-        u64::from(permit.at.index),
-        0,
-        0,
-        0,
-        0,
-        0,
-        0,
-    ]
-}
-
-fn link_numbers(lease: &LinkRecord) -> [u64; WIDEST]
-    ensures { result ≡ take 11 (call.link_numbers lease.now ++ replicate 11 0) }
-{
-    [
-        u64::from(lease.peer.get()),
-        lease.incarnation,
-        lease.link.get(),
-        u64::from(lease.at.database.get()),
-        u64::from(lease.at.index),
-        0,
-        0,
-        0,
-        0,
-        0,
-        0,
-    ]
-}
-
-fn ticket_numbers(ticket: &TicketRecord) -> [u64; WIDEST]
-    ensures { result ≡ take 11 (call.ticket_numbers ticket.now ++ replicate 11 0) }
-{
-    [
-        u64::from(ticket.peer.get()),
-        ticket.incarnation,
-        ticket.number,
-        ticket.link.get(),
-        u64::from(ticket.at.database.get()),
-        u64::from(ticket.at.index),
-        0,
-        0,
-        0,
-        0,
-        0,
-    ]
-}
-
-fn cancel_numbers(key: &[u8; 8], order: &Order<TicketRecord>) -> [u64; WIDEST]
-    ensures { result ≡ take 11 (numbers_of (Exchange.Cancel key.now order.now) ++ replicate 11 0) }
-{
-    let asked = number_of_key(key);
-    match order {
-        Order::Serve(ticket, database, server) => [
-            u64::from(ticket.peer.get()),
-            ticket.incarnation,
-            ticket.number,
-            ticket.link.get(),
-            u64::from(ticket.at.database.get()),
-            u64::from(ticket.at.index),
-            u64::from(database.get()),
-            asked,
-            number_of_key(&server.to_bytes()),
-            0,
-            0,
-        ],
-        Order::Forward(peer, packet) => [
-            u64::from(peer.get()),
-            asked,
-            number_of_key(&packet[8..]),
-            0,
-            0,
-            0,
-            0,
-            0,
-            0,
-            0,
-            0,
-        ],
-        Order::Refused(_) => [asked, 0, 0, 0, 0, 0, 0, 0, 0, 0, 0],
+    // One more number.
+    fn push(&mut self, number: u64)
+        requires { length self.old < WIDEST }
+        ensures items { self.new ≡ self.old ++ number ∷ [] }
+        ensures count { length self.new ≡ length self.old + 1 }
+    {
+        self.items[self.count] = number;
+        self.count += 1;
     }
-}
 
-fn number_of_key(bytes: &[u8]) -> u64
-    requires { length bytes.now ≡ 8 }
-    ensures { result ≡ key_number bytes.now }
-{
-    BigEndian::read_u64(bytes)
+    // Eight key bytes.
+    fn key(&mut self, bytes: &[u8; 8])
+        requires { length self.old < WIDEST }
+        ensures items { self.new ≡ self.old ++ call.key_number bytes.now ∷ [] }
+        ensures count { length self.new ≡ length self.old + 1 }
+    {
+        self.push(BigEndian::read_u64(bytes));
+    }
+
+    // A place of the pools.
+    fn place(&mut self, at: &LinkPlace)
+        requires { length self.old + 2 ≤ WIDEST }
+        ensures items { self.new ≡ self.old ++ call.place_numbers at.now }
+        ensures count { length self.new ≡ length self.old + 2 }
+    {
+        self.push(u64::from(at.database.get()));
+        self.push(u64::from(at.index));
+    }
+
+    fn pass(&mut self, pass: &PassRecord)
+        requires { length self.old + 3 ≤ WIDEST }
+        ensures items { self.new ≡ self.old ++ call.pass_numbers pass.now }
+        ensures count { length self.new ≡ length self.old + 3 }
+    {
+        self.push(u64::from(pass.key.peer.get()));
+        self.push(pass.incarnation);
+        self.push(pass.number);
+    }
+
+    fn permit(&mut self, permit: &PermitRecord)
+        requires { length self.old + 5 ≤ WIDEST }
+        ensures items { self.new ≡ self.old ++ call.permit_numbers permit.now }
+        ensures count { length self.new ≡ length self.old + 5 }
+    {
+        self.push(u64::from(permit.peer.get()));
+        self.push(permit.incarnation);
+        self.push(permit.number);
+        self.place(&permit.at);
+    }
+
+    fn link(&mut self, lease: &LinkRecord)
+        requires { length self.old + 5 ≤ WIDEST }
+        ensures items { self.new ≡ self.old ++ call.link_numbers lease.now }
+        ensures count { length self.new ≡ length self.old + 5 }
+    {
+        self.push(u64::from(lease.peer.get()));
+        self.push(lease.incarnation);
+        self.push(lease.link.get());
+        self.place(&lease.at);
+    }
+
+    fn ticket(&mut self, ticket: &TicketRecord)
+        requires { length self.old + 6 ≤ WIDEST }
+        ensures items { self.new ≡ self.old ++ call.ticket_numbers ticket.now }
+        ensures count { length self.new ≡ length self.old + 6 }
+    {
+        self.push(u64::from(ticket.peer.get()));
+        self.push(ticket.incarnation);
+        self.push(ticket.number);
+        self.push(ticket.link.get());
+        self.place(&ticket.at);
+    }
+
+    // A cancel request. The key of a CancelRequest follows its length and its code, of four bytes
+    // each.
+    fn cancel(&mut self, key: &[u8; 8], order: &Order<TicketRecord>)
+        requires { self.old ≡ [] }
+        ensures { self.new ≡ numbers_of (Exchange.Cancel key.now order.now) }
+    {
+        match order {
+            Order::Serve(ticket, database, server) => {
+                self.ticket(ticket);
+                self.push(u64::from(database.get()));
+                self.key(key);
+                self.key(&server.to_bytes());
+            }
+            Order::Forward(peer, packet) => {
+                self.push(u64::from(peer.get()));
+                self.key(key);
+                self.push(BigEndian::read_u64(&packet[8..]));
+            }
+            Order::Refused(_) => self.key(key),
+        }
+    }
 }

@@ -1,31 +1,40 @@
 //! A node behind its lock, which any number of callers share.
 ghost use Rattle.std.specs.Prelude.{◌≡◌, ◌<◌, [], length, None};
-ghost use Rattle.locked_node.specs.Lock.{Took, Holds, Called, Given};
+ghost use Rattle.locked_node.specs.Lock.{Took, Holds, Calls, Called, Given};
 
+use crate::call::Call;
 use crate::caller::Caller;
 use crate::journal::Journal;
-use crate::share::{Both, Give, Hand, Look, Place, Rule, Share, Take};
+use crate::locked::Locked;
+use crate::log::MOST;
+use crate::rule::{Both, Give, Hand, Look, Place, Rule, Share, Take};
 use atomic_table::Table;
+use node_core::Exchange;
 use std::alloc::{AllocError, Global};
+use std::hint::spin_loop;
 use std::marker::Model;
 use std::snapshot::Snapshot;
 use std::sync::Wait;
 
-// What the lock's word says: it is free, it is taken, or it is taken and somebody may sleep till it is given back.
+// What the lock's word says: it is free, it is taken, or it is taken and somebody may sleep until
+// it is given back.
 const FREE: u64 = 0;
 
 const TAKEN: u64 = 1;
 
 const AWAITED: u64 = 2;
 
+// How often a caller looks at a taken lock before it sleeps.
+const LOOKS: u32 = 100;
+
 /// A node with its journal, behind a lock.
 #[derive(Drop)]
 pub struct Shared<S> {
-    pub(crate) table: Table<Journal<S>, Share, Snapshot<Journal<S>>, Rule, Global>,
+    pub(crate) table: Table<Locked<S>, Share, Snapshot<Locked<S>>, Rule, Global>,
 }
 
 impl<S> Model for Shared<S> {
-    ghost use Rattle.std.specs.Prelude.{◌≡◌};
+    ghost use Rattle.std.specs.Prelude.{◌≡◌, ◌<◌};
     ghost use Rattle.atomic_table.specs.Seated.{TableId, table_id_coded};
 
     ghost Value = { TableId };
@@ -34,29 +43,31 @@ impl<S> Model for Shared<S> {
 
     ghost view = { λ s. s.table.shared.table_id };
 
-    ghost invariant = { λ s. (s.table.shared.table_id.words ≡ 1) × (s.table.shared.table_id.slots ≡ 1) };
+    ghost invariant = { λ s. (0 < s.table.shared.table_id.words) × (s.table.shared.table_id.slots ≡ 1) };
 }
 
 impl<S: Drop> Shared<S> {
-    ghost use Rattle.std.specs.Prelude.{◌≤◌, ◌+◌, IfOk};
+    ghost use Rattle.std.specs.Prelude.{◌≤◌, ◌+◌, IfOk, MatchBool, true};
     ghost use Rattle.locked_node.specs.Totals.{all_calls};
-    ghost use Rattle.locked_node.specs.Journal.{log_all, CALL_LIMIT};
-    ghost use Rattle.locked_node.specs.Lock.{IsTotalOf, IsWhole, IsWithin, HANDED, handing, handed, joined};
+    ghost use Rattle.locked_node.specs.Journal.{journal_view, log_all, CALL_LIMIT};
+    ghost use Rattle.locked_node.specs.Lock.{Somewhere, IsTotalOf, IsWhole, IsAmong, IsWithin, HANDED, handing, handed, joined, stake};
 
-    /// A lock with this journal, and its first caller, which has the journal's totals and may make all calls
-    /// that are left.
+    /// A lock with this journal, and its first caller, which has the journal's totals and may make
+    /// all calls that are left.
     pub fn new(alloc: Global, journal: Journal<S>) -> Result<(Shared<S>, Caller<S>), AllocError>
         ensures lock { IfOk result (λ made. made.1.lock ≡ made.0) }
-        ensures start { IfOk result (λ made. made.1.start ≡ journal) }
-        ensures allowance { IfOk result (λ made. made.1.allowance + log_all journal.log ≡ CALL_LIMIT) }
-        ensures none { IfOk result (λ made. made.1.made ≡ []) }
+        ensures start { IfOk result (λ made. made.1.start ≡ journal_view journal) }
+        ensures allowance { IfOk result
+            (λ made. made.1.allowance + log_all journal.log ≡ CALL_LIMIT) }
+        ensures none { IfOk result (λ made. (made.1.made ≡ []) × (made.1.places ≡ [])) }
         ensures totals { IfOk result (λ made. IsTotalOf journal.log made.1.tally) }
     {
         let tally = journal.totals();
         let allowance = journal.calls_left();
-        let start = Snapshot::of(&journal);
+        let locked = Locked { journal };
+        let start = Snapshot::of(&locked);
         let mut slots = Vec::with_capacity(alloc, 1)?;
-        slots.push(journal)?;
+        slots.push(locked)?;
         let Ok((table, seat)) = Table::new(alloc, &[FREE], slots, &start) else {
             return Err(AllocError);
         };
@@ -68,11 +79,38 @@ impl<S: Drop> Shared<S> {
         Ok((Shared { table }, first))
     }
 
-    /// The journal, at the end. Where all callers were joined to this one, its totals are the journal's, and the
-    /// calls that they made led to the node's state.
+    /// The journal, at the end. If all callers were joined to this one, its totals are the
+    /// journal's, and its calls led to the node's state, in the order of their places.
     pub fn into_journal(self, caller: Caller<S>) -> Journal<S>
         requires own { caller.lock ≡ self }
-        ensures whole { caller.allowance + all_calls caller.tally ≡ CALL_LIMIT → IsWhole caller result }
+        ensures whole { caller.allowance + all_calls caller.tally ≡ CALL_LIMIT
+            → IsWhole caller (journal_view result) }
+    {
+        let (journal, _) = self.finish(caller);
+        journal
+    }
+
+    /// How many calls were made in all, those of the journal before the lock among them: at least
+    /// those of this caller, and at most as many as its allowance leaves.
+    pub fn total_calls(self, caller: Caller<S>) -> u128
+        requires own { caller.lock ≡ self }
+        ensures whole { caller.allowance + all_calls caller.tally ≡ CALL_LIMIT
+            → result ≡ all_calls caller.tally }
+        ensures least { all_calls caller.tally ≤ result }
+        ensures most { result + caller.allowance ≤ CALL_LIMIT }
+    {
+        let left = caller.allowance;
+        let (journal, free) = self.finish(caller);
+        // A lock that is taken is borrowed, and this one is owned: it is always free.
+        if free { journal.calls() } else { MOST - left }
+    }
+
+    // The journal, and whether the lock was free.
+    fn finish(self, caller: Caller<S>) -> (Journal<S>, bool)
+        requires own { caller.lock ≡ self }
+        ensures whole { caller.allowance + all_calls caller.tally ≡ CALL_LIMIT
+            → IsWhole caller (journal_view result.0) }
+        ensures among { result.1 ≡ true → IsAmong caller result.0.log }
     {
         let Shared { table } = self;
         let Caller {
@@ -81,39 +119,66 @@ impl<S: Drop> Shared<S> {
             tally: _,
         } = caller;
         let mut closed = table.close_with(seat);
-        let journal = closed.take(0);
+        let free = closed.word(0) == FREE;
+        let locked = closed.take(0);
         closed.free();
-        journal
+        let Locked { journal } = locked;
+        (journal, free)
     }
 
-    /// How many calls were made at all, those of the journal before the lock among them.
-    pub fn total_calls(self, caller: Caller<S>) -> u128
-        requires own { caller.lock ≡ self }
-        ensures whole { caller.allowance + all_calls caller.tally ≡ CALL_LIMIT → result ≡ all_calls caller.tally }
-        ensures within { result ≤ CALL_LIMIT }
+    // Takes the lock if it is free.
+    fn try_take(&self, seat: &mut Place<S>) -> bool
+        requires own { seat.old.table_id ≡ self.now }
+        requires may { 0 < seat.old.me.0.allowance }
+        requires empty { seat.old.me.1 ≡ [] }
+        ensures own { seat.new.table_id ≡ seat.old.table_id }
+        ensures taken { MatchBool result (Took seat.old.me seat.new.me × Holds seat.new.me)
+            (seat.new.me ≡ seat.old.me) }
     {
-        self.into_journal(caller).calls()
+        self.table
+            .shared
+            .compare_exchange::<Take>(seat, 0, FREE, TAKEN)
+            == FREE
     }
 
-    // Takes the lock. Who finds it taken sleeps till it is given back.
+    // What the lock's word says, as soon as the lock is free or somebody sleeps, and after a
+    // hundred looks at most.
+    fn look(&self) -> u64 {
+        let shared = &self.table.shared;
+        for _ in 0..LOOKS {
+            let word = shared.peek(0);
+            if word != TAKEN {
+                return word;
+            }
+            spin_loop();
+        }
+        TAKEN
+    }
+
+    // Takes the lock. A caller that finds it taken looks at it for a while, and then sleeps until
+    // it is given back.
     pub(crate) fn take<R: Wait>(&self, rt: &R, seat: &mut Place<S>)
         requires own { seat.old.table_id ≡ self.now }
-        requires idle { seat.old.me.0.found ≡ None }
         requires may { 0 < seat.old.me.0.allowance }
         requires empty { seat.old.me.1 ≡ [] }
         ensures own { seat.new.table_id ≡ seat.old.table_id }
         ensures took { Took seat.old.me seat.new.me }
         ensures holds { Holds seat.new.me }
     {
+        if self.try_take(seat) {
+            return;
+        }
         let shared = &self.table.shared;
-        if shared.compare_exchange::<Take>(seat, 0, FREE, TAKEN) == FREE {
+        let mut word = self.look();
+        if word == FREE && self.try_take(seat) {
             return;
         }
         for _ in rt.forever() {
-            if shared.swap::<Take>(seat, 0, AWAITED) == FREE {
+            if word != AWAITED && shared.swap::<Take>(seat, 0, AWAITED) == FREE {
                 return;
             }
             shared.park(rt, 0, AWAITED as u32);
+            word = self.look();
         }
         unreachable!()
     }
@@ -123,7 +188,8 @@ impl<S: Drop> Shared<S> {
         requires own { seat.old.table_id ≡ self.now }
         requires idle { seat.old.me.0.found ≡ None }
         requires more { HANDED < seat.old.me.0.allowance }
-        ensures own { (seat.new.table_id ≡ seat.old.table_id) × (result.table_id ≡ seat.old.table_id) }
+        ensures own { (seat.new.table_id ≡ seat.old.table_id)
+            × (result.table_id ≡ seat.old.table_id) }
         ensures left { seat.new.me ≡ (handing seat.old.me.0, seat.old.me.1) }
         ensures right { result.me ≡ (handed seat.old.me.0, []) }
     {
@@ -135,7 +201,7 @@ impl<S: Drop> Shared<S> {
         requires own { (seat.old.table_id ≡ self.now) × (other.table_id ≡ self.now) }
         requires idle { (seat.old.me.0.found ≡ None) × (other.me.0.found ≡ None) }
         requires empty { (seat.old.me.1 ≡ []) × (other.me.1 ≡ []) }
-        requires some { 0 < seat.old.me.0.allowance + (length seat.old.me.0.begun + length seat.old.me.0.made) }
+        requires some { 0 < stake seat.old.me.0 }
         ensures own { seat.new.table_id ≡ seat.old.table_id }
         ensures both { seat.new.me ≡ (joined seat.old.me.0 other.me.0, []) }
         ensures within { IsWithin seat.new.me.0 }
@@ -143,6 +209,24 @@ impl<S: Drop> Shared<S> {
         let shared = &self.table.shared;
         shared.join_seat::<Both>(seat, other);
         shared.load::<Look>(seat, 0);
+    }
+
+    // Makes a call of any step on the journal that the seat holds.
+    pub(crate) fn make<C: Call<S>>(
+        &self,
+        seat: &mut Place<S>,
+        call: C,
+        entry: &mut Exchange,
+    ) -> C::Reply
+        requires own { seat.old.table_id ≡ self.now }
+        requires holds { Holds seat.old.me }
+        requires can { C.can_make seat.old.me.0.start.view.pools call }
+        ensures own { seat.new.table_id ≡ seat.old.table_id }
+        ensures calls { Calls seat.old.me (C.exchange call result) seat.new.me }
+        ensures entry { entry.new ≡ C.exchange call result }
+        ensures streams { Somewhere (C.streams call result) }
+    {
+        seat.slot_mut(&self.table.shared, 0).make(call, entry)
     }
 
     // Gives the lock back, with one call more in the journal.

@@ -1,8 +1,10 @@
 //! Calls counted by their kind, with the sums of their numbers.
-ghost use Rattle.std.specs.Prelude.{◌≡◌, ◌+◌, ◌%◌, ◌^◌, ◌<◌, ℕ, slice_index, length};
+ghost use Rattle.std.specs.Prelude.{◌≡◌, ◌+◌, ◌≤◌, ◌^◌, ◌<◌, length};
+ghost use Rattle.locked_node.specs.CallNumbers.{WIDEST};
+ghost use Rattle.locked_node.specs.Totals.{SumsUp};
 
-use crate::kind::{KINDS, Kind};
-use crate::numbers::{WIDEST, call_numbers};
+use crate::call_kind::{CallKind, KINDS};
+use crate::numbers::{Numbers, WIDEST};
 use node_core::Exchange;
 
 /// The calls of one kind.
@@ -27,13 +29,14 @@ const NO_CALL: Row = Row {
 
 impl Row {
     // One more call with these numbers.
-    fn count(&mut self, numbers: &[u64; WIDEST])
-        requires { self.old.calls + 1 < 2 ^ 128 }
+    fn count(&mut self, numbers: &[u64])
+        requires room { self.old.calls + 1 < 2 ^ 128 }
+        requires within { length numbers.now ≤ WIDEST }
         ensures calls { self.new.calls ≡ self.old.calls + 1 }
-        ensures sums { (position : ℕ) → slice_index self.new.sums position ≡ (slice_index self.old.sums position + slice_index numbers.now position) % 2 ^ 128 }
+        ensures sums { SumsUp self.old.sums numbers.now self.new.sums }
     {
         self.calls += 1;
-        for i in 0..WIDEST {
+        for i in 0..numbers.len() {
             self.sums[i] = self.sums[i].wrapping_add(u128::from(numbers[i]));
         }
     }
@@ -42,7 +45,7 @@ impl Row {
     fn merge(&mut self, other: &Row)
         requires { self.old.calls + other.now.calls < 2 ^ 128 }
         ensures calls { self.new.calls ≡ self.old.calls + other.now.calls }
-        ensures sums { (position : ℕ) → slice_index self.new.sums position ≡ (slice_index self.old.sums position + slice_index other.now.sums position) % 2 ^ 128 }
+        ensures sums { SumsUp self.old.sums other.now.sums self.new.sums }
     {
         self.calls += other.calls;
         for i in 0..WIDEST {
@@ -65,14 +68,14 @@ impl Tally {
     }
 
     /// How many calls of this kind there are.
-    pub fn calls(&self, kind: Kind) -> u128
+    pub fn calls(&self, kind: CallKind) -> u128
         ensures { result ≡ calls_at self.now (index_of kind) }
     {
         self.rows[kind.index()].calls
     }
 
     /// The sums of the numbers of the calls of this kind, by position, modulo 2^128.
-    pub fn sums(&self, kind: Kind) -> [u128; WIDEST]
+    pub fn sums(&self, kind: CallKind) -> [u128; WIDEST]
         ensures { result ≡ (row_at self.now (index_of kind)).sums }
     {
         self.rows[kind.index()].sums
@@ -83,9 +86,11 @@ impl Tally {
         requires { all_calls self.old < 2 ^ 127 }
         ensures { Counts self.old call.now self.new }
     {
-        let kind = Kind::of(call);
+        let mut numbers = Numbers::new();
+        numbers.read(call);
+        let kind = CallKind::of(call);
         let row = &mut self.rows[kind.index()];
-        row.count(&call_numbers(call));
+        row.count(numbers.as_slice());
     }
 
     /// Counts the calls of another tally too.

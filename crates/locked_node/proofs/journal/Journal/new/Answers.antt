@@ -6,9 +6,9 @@ use Rattle.locked_node.proofs.journal.Journal.new.Goals as goal
 pub invariant_of-result : goal.invariant_of-result
 invariant_of-result g c = record {
   past = [];
-  first = c.args.core;
-  base = c.args.core;
+  first = c.args.core.view;
+  base = c.args.core.view;
   before = refl;
-  after = subst (λ t. Replay c.args.core t c.args.core) (sym c.in_ok-log.ensures.tail) refl;
+  after = subst (λ t. Replay c.args.core.view t c.args.core.view) (sym c.in_ok-log.ensures.tail) refl;
   totals = tally_none c.in_ok-log.log.trimmed c.in_ok-log.ensures.trimmed;
 }

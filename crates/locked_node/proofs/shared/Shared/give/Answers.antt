@@ -7,6 +7,6 @@ use Rattle.locked_node.proofs.shared.Shared.give.Goals as goal
 pub swap-requires : goal.swap-requires
 swap-requires g c = let called = c.requires.called in (
   c.requires.own ∙ sym c.self.view_is,
-  (let w = c.self.invariant.0 in omega (arith, w)),
-  lock_gives _ _ _ c.args.seat.now.me called.old called.call called.new (step c.self.inside.table.shared.table_id.slots 0 0 0 none) called.found called.slot called.step,
+  c.self.invariant.0,
+  lock_gives _ _ _ c.args.seat.now.me called.old called.call called.new (step c.self.inside.table.shared.table_id.slots 0 0 0 none) called.may called.found called.slot called.step,
 )

@@ -1,6 +1,6 @@
-use Rattle.std.proofs.Common.{◌≡◌, ◌+◌, ◌%◌, ◌^◌, ◌<◌, ◌≤◌, ℕ, get_or}
+use Rattle.std.proofs.Common.{◌≡◌, ◌+◌}
+use Rattle.locked_node.proofs.Tallies.{Summed}
 use Rattle.locked_node.proofs.tally.Row.merge.Given as goal
 
--- the sums below i are added up
 abbrev pub invariant-loop-i : goal.invariant-loop-i
-invariant-loop-i l = (l.self.calls ≡ l.fn.self.calls + l.other.calls) × ((p : ℕ) → p < l.i → get_or l.self.sums p 0 ≡ (get_or l.fn.self.sums p 0 + get_or l.other.sums p 0) % 2 ^ 128) × ((p : ℕ) → l.i ≤ p → get_or l.self.sums p 0 ≡ get_or l.fn.self.sums p 0)
+invariant-loop-i l = (l.self.calls ≡ l.fn.self.calls + l.other.calls) × Summed l.i l.fn.self.sums l.other.sums l.self.sums

@@ -1,6 +1,7 @@
-use Rattle.std.proofs.Common.{rules, ◌≡◌, ℕ, ◌+◌, ◌%◌, ◌^◌, get_or, length, ap, ◌∙◌, arith}
-use Rattle.locked_node.specs.CallNumbers.{index_of, numbers_of}
-use Rattle.locked_node.proofs.Tallies.{no_row, counts_row, get_padded}
+use Rattle.std.proofs.Common.{rules, ◌≡◌, ℕ, List, get_or, length, ap, subst, ◌∙◌, arith}
+use Rattle.locked_node.specs.CallNumbers.{index_of}
+use Rattle.locked_node.specs.Totals.{SumsUp}
+use Rattle.locked_node.proofs.Tallies.{no_row, counts_row}
 use Rattle.locked_node.proofs.tally.Tally.count.Goals as goal
 
 pub returns : goal.returns
@@ -8,7 +9,6 @@ returns c =
     let long : length c.args.self.now.rows ≡ 46 = search rules in
     counts_row c.args.self.now.rows c.index.result _ c.args.call.now
     (omega arith)
-    (c.index.ensures.value ∙ ap index_of c.of-kind.ensures.kind)
+    (c.index.ensures.value ∙ ap index_of c.of-kind.ensures)
     c.count.ensures.calls
-    (λ p. c.count.ensures.sums p ∙ ap (λ (x : ℕ). (get_or (get_or c.args.self.now.rows c.index.result no_row).sums p 0 + x) % 2 ^ 128)
-    (ap (λ l. get_or l p 0) c.call_numbers.ensures.value ∙ get_padded (numbers_of c.args.call.now) 11 11 p c.call_numbers.ensures.short))
+    (subst (λ (numbers : List ℕ). SumsUp (get_or c.args.self.now.rows c.index.result no_row).sums numbers c.count.new.self.sums) (c.as_slice.ensures.value ∙ c.read.ensures) c.count.ensures.sums)

@@ -1,0 +1,11 @@
+//! Tests of a node behind its lock, by one thread and by several: replies, counts and sums, which no clause fixes.
+#![tactic(auto)]
+
+#[cfg(test)]
+mod answers;
+#[cfg(test)]
+mod links;
+#[cfg(test)]
+mod nodes;
+#[cfg(test)]
+mod threads;
