@@ -18,7 +18,7 @@ ini_number Missing = 26
 ini_number NotInProfile = 27
 ini_number Memory = 28
 
--- a fault in a line; want of memory is in none
+-- a fault in a line; out of memory has line 0
 abbrev pub fault_at : ℕ → IniCode → IniError
 fault_at line Memory = record { line = 0; code = Memory }
 fault_at line code = record { line = line; code = code }

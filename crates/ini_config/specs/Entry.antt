@@ -53,11 +53,15 @@ host_value text = if slice_index text 0 == 47 then Err NotInProfile else Ok text
 
 -- one more word's value: first that its name is new, then the value
 unfoldable pub word_given : Words → WordName → List ℕ → Result Words IniCode
-word_given w word.Host text = once w.host (host_value text) >>= λ given. Ok (record w { host = given })
-word_given w word.Port text = once w.port (number_in 1 65535 text) >>= λ given. Ok (record w { port = given })
+word_given w word.Host text = once w.host (host_value text)
+    >>= λ given. Ok (record w { host = given })
+word_given w word.Port text = once w.port (number_in 1 65535 text)
+    >>= λ given. Ok (record w { port = given })
 word_given w word.User text = once w.user (Ok text) >>= λ given. Ok (record w { user = given })
-word_given w word.Dbname text = once w.dbname (Ok text) >>= λ given. Ok (record w { dbname = given })
-word_given w word.PoolSize text = once w.pool_size (number_in 1 65535 text) >>= λ given. Ok (record w { pool_size = given })
+word_given w word.Dbname text = once w.dbname (Ok text)
+    >>= λ given. Ok (record w { dbname = given })
+word_given w word.PoolSize text = once w.pool_size (number_in 1 65535 text)
+    >>= λ given. Ok (record w { pool_size = given })
 
 -- one more word: its form, its name, its value
 unfoldable pub word_read : EntryKind → Words → List ℕ → Result Words IniCode
@@ -80,7 +84,9 @@ is_quote b = b == 39
 
 -- the words of a value, which has no quote
 unfoldable pub value_words : EntryKind → List ℕ → Result Words IniCode
-value_words k value = if list_any is_quote value then Err NotInProfile else words_read k no_words (words value)
+value_words k value = if list_any is_quote value
+    then Err NotInProfile
+    else words_read k no_words (words value)
 
 -- an entry of [databases], before the defaults of the node
 pub record DatabaseGiven : Type 0 where
@@ -91,9 +97,17 @@ pub record DatabaseGiven : Type 0 where
   pub dbname : Option (List ℕ)
   pub pool_size : Option ℕ
 
--- what the entry says of the database, with the entry's name and the node's pool size where it says nothing
+-- what the entry says of the database, with the entry's name and the node's pool size where it says
+-- nothing
 abbrev pub with_defaults : ℕ → DatabaseGiven → DatabaseSettings
-with_defaults pool d = record { name = d.name; host = d.host; port = d.port; user = d.user; dbname = unwrap_or d.dbname d.name; pool_size = unwrap_or d.pool_size pool }
+with_defaults pool d = record {
+  name = d.name;
+  host = d.host;
+  port = d.port;
+  user = d.user;
+  dbname = unwrap_or d.dbname d.name;
+  pool_size = unwrap_or d.pool_size pool;
+}
 
 -- an entry of [databases]: its words, and those that it has to have
 unfoldable pub database_entry : List ℕ → List ℕ → Result DatabaseGiven IniCode
@@ -102,7 +116,14 @@ database_entry name value = do
   host ← needed w.host
   port ← needed w.port
   user ← needed w.user
-  Ok (record { name = name; host = host; port = port; user = user; dbname = w.dbname; pool_size = w.pool_size })
+  Ok (record {
+    name = name;
+    host = host;
+    port = port;
+    user = user;
+    dbname = w.dbname;
+    pool_size = w.pool_size;
+  })
 
 -- an entry of [peers]; its pool size is 1 where it says nothing
 unfoldable pub peer_entry : ℕ → List ℕ → Result PeerSettings IniCode

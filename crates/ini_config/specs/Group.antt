@@ -1,4 +1,5 @@
--- Groups of nodes that peer with each other (own; PgBouncer configuration manual, peer_id and [peers]).
+-- Groups of nodes that peer with each other (own; PgBouncer configuration manual, peer_id and
+-- [peers]).
 use Rattle.std.specs.Prelude.{ℕ, ◌≢◌, ◌<◌, ◌≤◌, Bool, IsTrue, ◌==◌, List, length, All, AllPairs}
 use Rattle.std.specs.List.{list_any}
 use Rattle.ini_config.specs.Node.{NodeSettings, PeerSettings}
@@ -15,7 +16,7 @@ Differ s t = s.peer_id ≢ t.peer_id
 abbrev pub ListEachOther : NodeSettings → NodeSettings → Type 0
 ListEachOther s t = IsTrue (lists s t.peer_id) × IsTrue (lists t s.peer_id)
 
--- where there are two nodes or more, none has the number 0, which says that a node doesn't peer
+-- where there are two nodes or more, none has the number 0, which is that of a node without peers
 abbrev pub AllPeer : List NodeSettings → Type 0
 AllPeer nodes = 2 ≤ length nodes → All (λ (s : NodeSettings). 0 < s.peer_id) nodes
 

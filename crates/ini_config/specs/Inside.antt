@@ -13,6 +13,8 @@ node_settings s = record {
   peer_id = s.peer_id;
   default_pool_size = s.default_pool_size;
   max_client_conn = s.max_client_conn;
-  databases = map (λ e. database_settings s.default_pool_size (string_bytes e.0) e.1) s.databases.entries;
+  databases = map
+      (λ e. database_settings s.default_pool_size (string_bytes e.0) e.1)
+      s.databases.entries;
   peers = map (λ e. peer_settings e.0 e.1) s.peers.entries;
 }

@@ -1,4 +1,5 @@
--- The keys of [pgbouncer] (PgBouncer configuration manual; the ranges and which are required are own).
+-- The keys of [pgbouncer] (PgBouncer configuration manual; the ranges and which are required are
+-- own).
 use Rattle.std.specs.Prelude.{ℕ, if◌then◌else◌, List, codes, Option, None, Result, Ok, Err}
 use Rattle.std.specs.Str.{bytes_eq}
 use Rattle.ini_config.specs.declared.fault.IniCode.{IniCode}
@@ -24,7 +25,15 @@ pub record Keys : Type 0 where
 
 -- before the first line of the section
 abbrev pub no_keys : Keys
-no_keys = record { pool_mode = None; auth_type = None; listen_addr = None; listen_port = None; peer_id = None; default_pool_size = None; max_client_conn = None }
+no_keys = record {
+  pool_mode = None;
+  auth_type = None;
+  listen_addr = None;
+  listen_port = None;
+  peer_id = None;
+  default_pool_size = None;
+  max_client_conn = None;
+}
 
 -- the names of the keys
 unfoldable pub key_name : List ℕ → Result KeyName IniCode
@@ -40,7 +49,9 @@ key_name text =
 
 -- transaction pooling alone
 unfoldable pub pool_mode_value : List ℕ → Result PoolMode IniCode
-pool_mode_value text = if bytes_eq text (codes "transaction") then Ok Transaction else Err NotInProfile
+pool_mode_value text = if bytes_eq text (codes "transaction")
+    then Ok Transaction
+    else Err NotInProfile
 
 -- trust alone
 unfoldable pub auth_type_value : List ℕ → Result AuthType IniCode
@@ -52,10 +63,17 @@ address_value text = if bytes_eq text (codes "*") then Err NotInProfile else Ok 
 
 -- one more key's value: first that the key is new, then the value
 unfoldable pub key_given : Keys → KeyName → List ℕ → Result Keys IniCode
-key_given k key.PoolMode text = once k.pool_mode (pool_mode_value text) >>= λ given. Ok (record k { pool_mode = given })
-key_given k key.AuthType text = once k.auth_type (auth_type_value text) >>= λ given. Ok (record k { auth_type = given })
-key_given k key.ListenAddr text = once k.listen_addr (address_value text) >>= λ given. Ok (record k { listen_addr = given })
-key_given k key.ListenPort text = once k.listen_port (number_in 1 65535 text) >>= λ given. Ok (record k { listen_port = given })
-key_given k key.PeerId text = once k.peer_id (number_in 0 16383 text) >>= λ given. Ok (record k { peer_id = given })
-key_given k key.DefaultPoolSize text = once k.default_pool_size (number_in 1 65535 text) >>= λ given. Ok (record k { default_pool_size = given })
-key_given k key.MaxClientConn text = once k.max_client_conn (number_in 1 65536 text) >>= λ given. Ok (record k { max_client_conn = given })
+key_given k key.PoolMode text = once k.pool_mode (pool_mode_value text)
+    >>= λ given. Ok (record k { pool_mode = given })
+key_given k key.AuthType text = once k.auth_type (auth_type_value text)
+    >>= λ given. Ok (record k { auth_type = given })
+key_given k key.ListenAddr text = once k.listen_addr (address_value text)
+    >>= λ given. Ok (record k { listen_addr = given })
+key_given k key.ListenPort text = once k.listen_port (number_in 1 65535 text)
+    >>= λ given. Ok (record k { listen_port = given })
+key_given k key.PeerId text = once k.peer_id (number_in 0 16383 text)
+    >>= λ given. Ok (record k { peer_id = given })
+key_given k key.DefaultPoolSize text = once k.default_pool_size (number_in 1 65535 text)
+    >>= λ given. Ok (record k { default_pool_size = given })
+key_given k key.MaxClientConn text = once k.max_client_conn (number_in 1 65536 text)
+    >>= λ given. Ok (record k { max_client_conn = given })

@@ -1,7 +1,9 @@
--- What the settings of a node are: the values of a settings file, by name, with the defaults (own grammar).
+-- What the settings of a node are: the values of a settings file, by name, with the defaults (own
+-- grammar).
 use Rattle.std.specs.Prelude.{ℕ, ◌<◌, ◌≤◌, ◌^◌, List, length, sum_by}
 
--- a database of the node: where its server is, as whom and to which database links log in there, and how many links there may be
+-- a database of the node: where its server is, as whom and to which database links log in there,
+-- and how many links there may be
 pub record DatabaseSettings : Type 0 where
   pub name : List ℕ
   pub host : List ℕ

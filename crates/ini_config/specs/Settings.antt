@@ -1,4 +1,5 @@
--- Settings texts: their lines, sections and keys, and what the whole text says (own grammar, after PgBouncer's).
+-- Settings texts: their lines, sections and keys, and what the whole text says (own grammar, after
+-- PgBouncer's).
 use Rattle.std.specs.Prelude.{ℕ, suc, Bool, true, false, ◌&&◌, ◌||◌, ◌==◌, ◌-◌, nat_lt, if◌then◌else◌, List, [], ◌∷◌, ◌++◌, length, map, codes, slice_index, slice_get, take, unwrap_or, Option, Some, None, Result, Ok, Err}
 use Rattle.std.specs.List.{list_any, list_all}
 use Rattle.std.specs.Option.{ok_or}
@@ -16,7 +17,8 @@ use Rattle.ini_config.specs.Node.{PeerSettings, NodeSettings, pool_total}
 use Rattle.ini_config.specs.Keys.{Keys, no_keys, key_name, key_given}
 use Rattle.ini_config.specs.Entry.{DatabaseGiven, with_defaults, database_entry, peer_entry}
 
--- what the lines so far gave: the sections in the order of their opening, the keys of [pgbouncer], the entries in order
+-- what the lines so far gave: the sections in the order of their opening, the keys of [pgbouncer],
+-- the entries in order
 pub record Given : Type 0 where
   pub opened : List Section
   pub keys : Keys
@@ -44,18 +46,22 @@ same_section Databases Databases = true
 same_section Peers Peers = true
 same_section s t = false
 
--- what stands between a `[` at the front and a `]` at the end
+-- the text between a `[` at the front and a `]` at the end
 unfoldable pub bracketed : List ℕ → Option (List ℕ)
 bracketed [] = None
-bracketed (b ∷ bs) = if (b == 91) && (slice_index bs (length bs - 1) == 93) then Some (take (length bs - 1) bs) else None
+bracketed (b ∷ bs) = if (b == 91) && (slice_index bs (length bs - 1) == 93)
+    then Some (take (length bs - 1) bs)
+    else None
 
 -- a section opens once
 unfoldable pub section_opened : Given → List ℕ → Result Given IniCode
 section_opened g text = do
   s ← section_named text
-  if list_any (same_section s) g.opened then Err Repeated else Ok (record g { opened = g.opened ++ s ∷ [] })
+  if list_any (same_section s) g.opened
+      then Err Repeated
+      else Ok (record g { opened = g.opened ++ s ∷ [] })
 
--- the section that a line stands in: the last that was opened
+-- the section of a line: the last that was opened
 abbrev pub section_of : Given → Result Section IniCode
 section_of g = ok_or (slice_get g.opened (length g.opened - 1)) BadLine
 
@@ -68,11 +74,15 @@ is_reserved s key = false
 
 -- a key of letters and digits of ASCII and `_`
 unfoldable pub key_form : Section → List ℕ → Result (List ℕ) IniCode
-key_form s key = if is_reserved s key then Err NotInProfile else (if list_all is_key_byte key then Ok key else Err BadLine)
+key_form s key = if is_reserved s key
+    then Err NotInProfile
+    else (if list_all is_key_byte key then Ok key else Err BadLine)
 
 -- room for one more entry, of at most 64, which wasn't given before
 unfoldable pub one_more : Bool → ℕ → Result ℕ IniCode
-one_more given count = if given then Err Repeated else (if nat_lt count 64 then Ok count else Err OutOfRange)
+one_more given count = if given
+    then Err Repeated
+    else (if nat_lt count 64 then Ok count else Err OutOfRange)
 
 -- a key and its value in their section
 unfoldable pub key_in : Given → Section → List ℕ → List ℕ → Result Given IniCode
@@ -81,7 +91,8 @@ key_in g Pgbouncer key value = do
   keys ← key_given g.keys name value
   Ok (record g { keys = keys })
 key_in g Databases key value = do
-  count ← one_more (list_any (λ (d : DatabaseGiven). bytes_eq key d.name) g.databases) (length g.databases)
+  count ← one_more (list_any (λ (d : DatabaseGiven). bytes_eq key d.name) g.databases)
+      (length g.databases)
   d ← database_entry key value
   Ok (record g { databases = g.databases ++ d ∷ [] })
 key_in g Peers key value = do
@@ -126,7 +137,8 @@ in_line n (Err c) = Err (fault_at n c)
 -- what the lines give, of which the first has this number: the first fault goes before the others
 unfoldable pub lines_given : Given → ℕ → List (List ℕ) → Result Given IniError
 lines_given g n [] = Ok g
-lines_given g n (line ∷ more) = in_line n (line_given g (trimmed line)) >>= λ h. lines_given h (suc n) more
+lines_given g n (line ∷ more) = in_line n (line_given g (trimmed line))
+    >>= λ h. lines_given h (suc n) more
 
 -- ---- the whole text
 

@@ -23,11 +23,11 @@ trim_back bs = reverse (trim_front (reverse bs))
 abbrev pub trimmed : List ℕ → List ℕ
 trimmed bs = trim_back (trim_front bs)
 
--- whether nothing stands there
+-- whether the text is empty
 abbrev pub is_empty : List ℕ → Bool
 is_empty bs = length bs == 0
 
--- what stands between blanks
+-- the words between blanks
 unfoldable pub words : List ℕ → List (List ℕ)
 words bs = filter (λ w. not (is_empty w)) (slice_split is_blank bs)
 
@@ -35,9 +35,11 @@ words bs = filter (λ w. not (is_empty w)) (slice_split is_blank bs)
 abbrev pub is_equals : ℕ → Bool
 is_equals b = b == 61
 
--- what stands before the first `=` and after it
+-- the text before the first `=`, and the text after it
 unfoldable pub cut_at_equals : List ℕ → Result (List ℕ × List ℕ) IniCode
-cut_at_equals bs = if list_any is_equals bs then Ok (before_first is_equals bs, after_first is_equals bs) else Err BadLine
+cut_at_equals bs = if list_any is_equals bs
+    then Ok (before_first is_equals bs, after_first is_equals bs)
+    else Err BadLine
 
 -- a name and a value, neither empty
 unfoldable pub pair_of : List ℕ → List ℕ → Result (List ℕ × List ℕ) IniCode
@@ -47,13 +49,16 @@ pair_of name value = if is_empty name || is_empty value then Err BadLine else Ok
 abbrev pub is_key_byte : ℕ → Bool
 is_key_byte b = is_ascii_alphanumeric b || (b == 95)
 
--- decimal digits, no zero in front of another
+-- decimal digits, without leading zeros
 abbrev pub is_number : List ℕ → Bool
-is_number bs = not (is_empty bs) && list_all is_ascii_digit bs && not ((slice_index bs 0 == 48) && nat_lt 1 (length bs))
+is_number bs = not (is_empty bs) && list_all is_ascii_digit bs
+    && not ((slice_index bs 0 == 48) && nat_lt 1 (length bs))
 
 -- the number that the text is, within its range
 unfoldable pub number_in : ℕ → ℕ → List ℕ → Result ℕ IniCode
 number_in low high bs =
     if is_number bs
-    then (if nat_le low (digits_value 10 bs) && nat_le (digits_value 10 bs) high then Ok (digits_value 10 bs) else Err OutOfRange)
+    then (if nat_le low (digits_value 10 bs) && nat_le (digits_value 10 bs) high
+    then Ok (digits_value 10 bs)
+    else Err OutOfRange)
     else Err BadNumber

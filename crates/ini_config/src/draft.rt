@@ -1,4 +1,4 @@
-//! What the lines of a settings file gave so far.
+//! What has been read of a settings file so far.
 ghost use Rattle.std.specs.Prelude.{◌≡◌, ◌≤◌, ◌==◌, length};
 ghost use Rattle.ini_config.specs.Settings.{bracketed, same_section};
 ghost use Rattle.std.specs.List.{list_any};
@@ -17,7 +17,8 @@ use std::alloc::Global;
 
 const MAX_LINE: usize = 8000;
 
-/// What the lines gave: the sections in the order of their opening, the keys of `[pgbouncer]`, the entries.
+/// What has been read: the sections in the order of their opening, the keys of `[pgbouncer]`, the
+/// entries.
 #[derive(Drop)]
 pub(crate) struct Draft {
     alloc: Global,
@@ -34,7 +35,7 @@ impl Draft {
     ghost use Rattle.ini_config.specs.Settings.{nothing, section_of, section_opened, key_in, key_line, line_given};
     ghost use Rattle.ini_config.specs.View.{given_seen};
 
-    /// Nothing was given.
+    /// Nothing has been read.
     pub(crate) fn new(alloc: Global) -> Draft
         ensures { given_seen result ≡ nothing }
     {
@@ -50,7 +51,8 @@ impl Draft {
     /// One more line, without the blanks at its ends.
     #[tactic(auto, unfolding(crate::specs::Settings::line_given))]
     pub(crate) fn take_line(&mut self, line: &str) -> Result<(), IniCode>
-        ensures { Gives (λ _. given_seen self.new) result (line_given (given_seen self.old) line.now) }
+        ensures { Gives (λ _. given_seen self.new) result
+            (line_given (given_seen self.old) line.now) }
     {
         match line.as_bytes() {
             [] | [b';' | b'#', ..] => return Ok(()),
@@ -68,7 +70,8 @@ impl Draft {
 
     #[tactic(auto, unfolding(crate::specs::Settings::section_opened))]
     fn open(&mut self, name: &str) -> Result<(), IniCode>
-        ensures { Gives (λ _. given_seen self.new) result (section_opened (given_seen self.old) name.now) }
+        ensures { Gives (λ _. given_seen self.new) result
+            (section_opened (given_seen self.old) name.now) }
     {
         let section = Section::of(name)?;
         if is_among(section, &self.opened) {
@@ -86,7 +89,8 @@ impl Draft {
 
     #[tactic(auto, unfolding(crate::specs::Settings::key_line))]
     fn take_key_line(&mut self, line: &str) -> Result<(), IniCode>
-        ensures { Gives (λ _. given_seen self.new) result (key_line (given_seen self.old) line.now) }
+        ensures { Gives (λ _. given_seen self.new) result
+            (key_line (given_seen self.old) line.now) }
     {
         let (key, value) = cut_at_equals(line)?;
         let (key, value) = pair_of(trimmed(key), trimmed(value))?;
@@ -98,7 +102,8 @@ impl Draft {
     // A key and its value in their section.
     #[tactic(auto, unfolding(crate::specs::Settings::key_in))]
     fn take_key(&mut self, section: Section, key: &str, value: &str) -> Result<(), IniCode>
-        ensures { Gives (λ _. given_seen self.new) result (key_in (given_seen self.old) section key.now value.now) }
+        ensures { Gives (λ _. given_seen self.new) result
+            (key_in (given_seen self.old) section key.now value.now) }
     {
         match section {
             Section::Pgbouncer => {
@@ -112,7 +117,8 @@ impl Draft {
 
     #[tactic(auto, unfolding(crate::specs::Settings::key_in))]
     fn take_database(&mut self, name: &str, value: &str) -> Result<(), IniCode>
-        ensures { Gives (λ _. given_seen self.new) result (key_in (given_seen self.old) Section.Databases name.now value.now) }
+        ensures { Gives (λ _. given_seen self.new) result
+            (key_in (given_seen self.old) Section.Databases name.now value.now) }
     {
         room_for_database(&self.databases, name)?;
         let entry = DatabaseEntry::read(self.alloc, value)?;
@@ -121,7 +127,8 @@ impl Draft {
 
     #[tactic(auto, unfolding(crate::specs::Settings::key_in))]
     fn take_peer(&mut self, number: &str, value: &str) -> Result<(), IniCode>
-        ensures { Gives (λ _. given_seen self.new) result (key_in (given_seen self.old) Section.Peers number.now value.now) }
+        ensures { Gives (λ _. given_seen self.new) result
+            (key_in (given_seen self.old) Section.Peers number.now value.now) }
     {
         let number = peer_value(1, number)?;
         room_for_peer(&self.peers, number)?;
@@ -130,7 +137,7 @@ impl Draft {
     }
 }
 
-// What stands between the brackets of a section line.
+// The text between the brackets of a section line.
 #[tactic(auto, unfolding(crate::specs::Settings::bracketed))]
 fn bracketed(line: &str) -> Option<&str>
     ensures { option_map (λ name. name.now) result ≡ bracketed line.now }

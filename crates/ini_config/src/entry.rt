@@ -39,7 +39,8 @@ impl DatabaseEntry {
     /// The entry of a database, of any name, with this value.
     #[tactic(auto, unfolding(crate::specs::Entry::database_entry))]
     pub(crate) fn read(alloc: Global, value: &str) -> Result<DatabaseEntry, IniCode>
-        ensures { (name : List ℕ) → Gives (database_given name) result (database_entry name value.now) }
+        ensures { (name : List ℕ)
+            → Gives (database_given name) result (database_entry name value.now) }
     {
         let words = EntryWords::read(alloc, EntryKind::Database, value)?;
         let host = words.host.ok_or(IniCode::Missing)?;

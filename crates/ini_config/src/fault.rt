@@ -30,7 +30,7 @@ pub enum IniCode {
     /// A required key or name isn't there.
     #[error("26 Missing")]
     Missing,
-    /// PgBouncer has it, this profile doesn't.
+    /// A feature of PgBouncer that pgpeer doesn't have.
     #[error("27 NotInProfile")]
     NotInProfile,
     /// Memory ran out.
@@ -88,7 +88,7 @@ pub struct IniError {
 impl IniError {
     ghost use Rattle.ini_config.specs.Codes.{fault_at};
 
-    /// The fault of a line. Want of memory is in none.
+    /// The fault of a line. Out of memory has line 0.
     pub(crate) fn at(line: usize, code: IniCode) -> IniError
         ensures { result ≡ fault_at line code }
     {

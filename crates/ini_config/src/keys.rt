@@ -8,7 +8,7 @@ use crate::values::{address_value, once, peer_value, size_value};
 use pg_ids::PeerNo;
 use std::alloc::Global;
 
-/// What a key can give.
+/// What a key sets.
 #[derive(Clone, Copy, Debug, PartialEq, Eq)]
 pub(crate) enum KeyName {
     PoolMode,
@@ -80,7 +80,7 @@ impl AuthType {
     }
 }
 
-/// What the lines of `[pgbouncer]` gave so far.
+/// What has been read of `[pgbouncer]` so far.
 #[derive(Drop)]
 pub(crate) struct PoolerKeys {
     pub pool_mode: Option<PoolMode>,
@@ -100,7 +100,7 @@ impl PoolerKeys {
     ghost use Rattle.ini_config.specs.Keys.{key_given, no_keys};
     ghost use Rattle.ini_config.specs.View.{keys_seen};
 
-    /// Nothing was given.
+    /// Nothing has been read.
     pub(crate) fn new() -> PoolerKeys
         ensures { keys_seen result ≡ no_keys }
     {
@@ -118,7 +118,8 @@ impl PoolerKeys {
     /// One more key's value.
     #[tactic(auto, unfolding(crate::specs::Keys::key_given))]
     pub(crate) fn give(&mut self, alloc: Global, name: KeyName, text: &str) -> Result<(), IniCode>
-        ensures { Gives (λ _. keys_seen self.new) result (key_given (keys_seen self.old) name text.now) }
+        ensures { Gives (λ _. keys_seen self.new) result
+            (key_given (keys_seen self.old) name text.now) }
     {
         match name {
             KeyName::PoolMode => once(&mut self.pool_mode, PoolMode::of(text)),

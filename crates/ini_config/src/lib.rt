@@ -11,8 +11,6 @@ mod node_settings;
 mod plain;
 mod read;
 mod section;
-#[cfg(test)]
-mod tests;
 mod text;
 mod values;
 mod words;

@@ -8,7 +8,8 @@ use crate::fault::GroupError;
 use crate::node_settings::Settings;
 use std::marker::Model;
 
-/// The settings of the nodes of one group, in the order in which they were given. There may be none.
+/// The settings of the nodes of one group, in the order in which they were given. There may be no
+/// nodes.
 #[derive(Drop)]
 pub struct Group {
     nodes: Vec<Settings>,
@@ -27,14 +28,16 @@ impl Model for Group {
 }
 
 impl Group {
-    /// The nodes as a group, or the first refusal of 42, 40 and 41 that applies. A refusal drops the settings.
+    /// The nodes as a group, or the first refusal of 42, 40 and 41 that applies. A refusal drops the
+    /// settings.
     pub fn check(nodes: Vec<Settings>) -> Result<Group, GroupError>
         ensures accepted { IsOk result ↔ IsGroup nodes.items }
         ensures nodes { IfOk result (λ group. group ≡ nodes.items) }
 
         // Which refusal it is.
         ensures no_peering { IsErrOf result GroupError.NoPeering ↔ ¬ AllPeer nodes.items }
-        ensures same_peer { IsErrOf result GroupError.SamePeer ↔ (AllPeer nodes.items × ¬ PeersDiffer nodes.items) }
+        ensures same_peer { IsErrOf result GroupError.SamePeer
+            ↔ (AllPeer nodes.items × ¬ PeersDiffer nodes.items) }
         ensures missing_peer { IsErrOf result GroupError.MissingPeer
             ↔ (AllPeer nodes.items × PeersDiffer nodes.items × ¬ AllListed nodes.items) }
     {

@@ -86,7 +86,7 @@ impl Settings {
         self.listen_port
     }
 
-    /// The node's number in its group. 0 says that it doesn't peer.
+    /// The node's number in its group, or 0 for a node without peers.
     pub fn peer_id(&self) -> PeerNo
         ensures { result ≡ self.now.peer_id }
     {
@@ -191,13 +191,14 @@ impl Settings {
     }
 }
 
-// The pool size of each database, of which some leave it to the default.
+// The pool size of each database: its own, or the default.
 fn pools_of(
     alloc: Global,
     databases: &IndexMap<String, DatabaseEntry>,
     default: u16,
 ) -> Result<Vec<u16>, AllocError>
-    ensures { IfOk result (λ v. v.items ≡ map (λ d. unwrap_or d.pool_size default) (values databases.now)) }
+    ensures { IfOk result
+        (λ v. v.items ≡ map (λ d. unwrap_or d.pool_size default) (values databases.now)) }
 {
     databases
         .values()

@@ -19,9 +19,9 @@ const SERVER_PORT: u16 = 5432;
 const PEER_PORT: u16 = 6432;
 
 impl Settings {
-    /// The settings of a node with one database, whose host and port are the same for all such nodes: a `pool` of
-    /// 1 to 65535 links, 1 to 65536 `clients`, at most 64 `peers`, each from 1 and none twice. The only error is
-    /// want of memory.
+    /// The settings of a node with one database, whose host and port are the same for all such nodes: a
+    /// `pool` of 1 to 65535 links, 1 to 65536 `clients`, at most 64 `peers`, each from 1 and none twice.
+    /// The only error is out of memory.
     pub fn plain(
         alloc: Global,
         peer: PeerNo,
@@ -35,7 +35,8 @@ impl Settings {
         requires peers { length peers.items ≤ 64 }
         requires numbered { All (λ number. 0 < number) peers.items }
         requires distinct { AllPairs (λ a b. a ≢ b) peers.items }
-        ensures { IfOk result (λ settings. settings ≡ plain_settings peer peers.items pool clients) }
+        ensures { IfOk result
+            (λ settings. settings ≡ plain_settings peer peers.items pool clients) }
     {
         let mut databases = IndexMap::new(alloc);
         let database = DatabaseEntry {
@@ -61,7 +62,8 @@ impl Settings {
 
 fn plain_peers(alloc: Global, peers: &[PeerNo]) -> Result<IndexMap<PeerNo, PeerEntry>, AllocError>
     requires { AllPairs (λ a b. a ≢ b) peers.now }
-    ensures { IfOk result (λ m. map (λ e. peer_settings e.0 e.1) m.entries ≡ map plain_peer peers.now) }
+    ensures { IfOk result
+        (λ m. map (λ e. peer_settings e.0 e.1) m.entries ≡ map plain_peer peers.now) }
 {
     let mut entries = IndexMap::new(alloc);
     for number in peers {

@@ -24,8 +24,8 @@ const MAX_CLIENTS: u32 = 100;
 
 const MAX_LINKS: u32 = 65535;
 
-/// The settings that the text says, or its first fault: lines in order, then what is missing or too much in all.
-/// A fault that isn't in the text is want of memory.
+/// The settings of the text, or its first fault: lines in order, then what is missing or too much in
+/// the whole text. Any other error is out of memory.
 pub fn read_settings(alloc: Global, text: &str) -> Result<Settings, IniError>
     ensures { MatchResult result
         (λ settings. settings_of text.now ≡ Ok settings)
@@ -50,7 +50,7 @@ fn in_line<T>(number: usize, read: Result<T, IniCode>) -> Result<T, IniError>
     }
 }
 
-// The settings that were given, with the defaults.
+// The settings of the lines, with the defaults.
 #[tactic(auto, unfolding(crate::specs::Settings::settings_given))]
 fn settings(draft: Draft) -> Result<Settings, IniCode>
     ensures { Gives (λ settings. settings) result (settings_given (given_seen draft)) }

@@ -33,7 +33,8 @@ fn trim_front(text: &str) -> &str
 }
 
 fn without_first_blank(text: &str) -> Option<&str>
-    ensures blank { MatchOption result (trim_front text.now ≡ text.now) (λ rest. trim_front text.now ≡ trim_front rest.now) }
+    ensures blank { MatchOption result (trim_front text.now ≡ text.now)
+        (λ rest. trim_front text.now ≡ trim_front rest.now) }
     ensures shorter { IfSome result (λ rest. length rest.now < length text.now) }
 {
     match text.strip_prefix(' ') {
@@ -53,7 +54,8 @@ fn trim_back(text: &str) -> &str
 }
 
 fn without_last_blank(text: &str) -> Option<&str>
-    ensures blank { MatchOption result (trim_back text.now ≡ text.now) (λ rest. trim_back text.now ≡ trim_back rest.now) }
+    ensures blank { MatchOption result (trim_back text.now ≡ text.now)
+        (λ rest. trim_back text.now ≡ trim_back rest.now) }
     ensures shorter { IfSome result (λ rest. length rest.now < length text.now) }
 {
     match text.strip_suffix(' ') {
@@ -64,7 +66,8 @@ fn without_last_blank(text: &str) -> Option<&str>
 
 /// The first word of the text and what follows it.
 pub(crate) fn next_word(text: &str) -> Option<(&str, &str)>
-    ensures words { MatchOption result (words text.now ≡ []) (λ cut. words text.now ≡ cut.0.now ∷ words cut.1.now) }
+    ensures words { MatchOption result (words text.now ≡ [])
+        (λ cut. words text.now ≡ cut.0.now ∷ words cut.1.now) }
     ensures shorter { IfSome result (λ cut. length cut.1.now < length text.now) }
 {
     let text = trim_front(text);
@@ -105,8 +108,8 @@ fn value_of(text: &str) -> Option<u32>
     text.parse().ok()
 }
 
-/// The number that the text is, from `low` to `high`: decimal digits with no zero in front of another. A text that is no
-/// number is `BadNumber`, and another number is `OutOfRange`.
+/// Parses a number from `low` to `high`: decimal digits, without leading zeros. Fails with `BadNumber`
+/// for a text that is no number, and with `OutOfRange` for any other number.
 #[tactic(auto, unfolding(crate::specs::Text::number_in))]
 pub fn number_in(low: u32, high: u32, text: &str) -> Result<u32, IniCode>
     ensures value { result ≡ number_in low high text.now }
@@ -121,7 +124,7 @@ pub fn number_in(low: u32, high: u32, text: &str) -> Result<u32, IniCode>
     }
 }
 
-/// What stands before the first `=` and after it.
+/// The text before the first `=`, and the text after it.
 pub(crate) fn cut_at_equals(text: &str) -> Result<(&str, &str), IniCode>
     ensures { Answers (λ cut. (cut.0.now, cut.1.now)) result (cut_at_equals text.now) }
 {
@@ -131,7 +134,8 @@ pub(crate) fn cut_at_equals(text: &str) -> Result<(&str, &str), IniCode>
 /// A name and a value, neither empty.
 #[tactic(auto, unfolding(crate::specs::Text::pair_of))]
 pub(crate) fn pair_of<'a>(name: &'a str, value: &'a str) -> Result<(&'a str, &'a str), IniCode>
-    ensures { Answers (λ pair. (pair.0.now, pair.1.now)) result (pair_of name.entry.now value.entry.now) }
+    ensures { Answers (λ pair. (pair.0.now, pair.1.now)) result
+        (pair_of name.entry.now value.entry.now) }
 {
     if name.is_empty() || value.is_empty() {
         return Err(IniCode::BadLine);

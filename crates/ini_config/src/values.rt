@@ -10,9 +10,11 @@ use crate::text::number_in;
 use pg_ids::PeerNo;
 use std::alloc::Global;
 
-/// Fills a place that wasn't filled before.
+/// Sets a value that isn't set yet.
 pub(crate) fn once<T: Drop>(place: &mut Option<T>, value: Result<T, IniCode>) -> Result<(), IniCode>
-    ensures once { MatchResult result (λ _. once place.old value ≡ Ok place.new) (λ e. once place.old value ≡ Err e) }
+    ensures once { MatchResult result
+        (λ _. once place.old value ≡ Ok place.new)
+        (λ e. once place.old value ≡ Err e) }
     ensures place { (place.new ≡ place.old) ⊎ ((v : T) × (value ≡ Ok v) × (place.new ≡ Some v)) }
 {
     if place.is_some() {

@@ -9,7 +9,7 @@ use crate::text::{cut_at_equals, next_word, pair_of};
 use crate::values::{host_value, once, size_value, text_value};
 use std::alloc::Global;
 
-/// What a word can give.
+/// What a word sets.
 #[derive(Clone, Copy, Debug, PartialEq, Eq)]
 pub(crate) enum WordName {
     Host,
@@ -19,7 +19,7 @@ pub(crate) enum WordName {
     PoolSize,
 }
 
-/// Which table the words of an entry go by.
+/// Which words an entry may have.
 #[derive(Clone, Copy, Debug, PartialEq, Eq)]
 pub(crate) enum EntryKind {
     Database,
@@ -69,7 +69,7 @@ impl WordName {
     }
 }
 
-/// What the words of an entry gave so far.
+/// What has been read of an entry so far.
 #[derive(Drop)]
 pub(crate) struct EntryWords {
     pub host: Option<String>,
@@ -125,7 +125,8 @@ impl EntryWords {
     // One more word.
     #[tactic(auto, unfolding(crate::specs::Entry::word_read))]
     fn take_word(&mut self, alloc: Global, kind: EntryKind, text: &str) -> Result<(), IniCode>
-        ensures { Gives (λ _. words_seen self.new) result (word_read kind (words_seen self.old) text.now) }
+        ensures { Gives (λ _. words_seen self.new) result
+            (word_read kind (words_seen self.old) text.now) }
     {
         let (name, value) = cut_at_equals(text)?;
         let (name, value) = pair_of(name, value)?;
@@ -136,7 +137,8 @@ impl EntryWords {
     // One more word's value.
     #[tactic(auto, unfolding(crate::specs::Entry::word_given))]
     fn give(&mut self, alloc: Global, name: WordName, text: &str) -> Result<(), IniCode>
-        ensures { Gives (λ _. words_seen self.new) result (word_given (words_seen self.old) name text.now) }
+        ensures { Gives (λ _. words_seen self.new) result
+            (word_given (words_seen self.old) name text.now) }
     {
         match name {
             WordName::Host => once(&mut self.host, host_value(alloc, text)),

@@ -1,6 +1,7 @@
-//! Whole files: what is missing or too much in all, blanks, ends of lines, lengths and want of memory.
+//! Whole files: what is missing or too much in the whole, blanks, ends of lines, lengths and running
+//! out of memory.
 use super::{LEAST, expect_answer, joined, settings_of};
-use crate::{DatabaseNo, IniCode, IniError, Settings, read_settings};
+use ini_config::{DatabaseNo, IniCode, IniError, Settings, read_settings};
 use std::alloc::Global;
 use std::process::Abort;
 use std::test::Fail;
@@ -129,7 +130,8 @@ const DATABASE: &str = " = host=a port=1 user=b\n";
 
 const PEER: &str = " = host=a port=1\n";
 
-// The required lines, a section, and entries 1 to `count`, each of them `name`, its number and `values`.
+// The required lines, a section, and entries 1 to `count`, each of them `name`, its number and
+// `values`.
 fn many(
     alloc: Global,
     section: &str,
@@ -167,11 +169,11 @@ fn many_entries(rt: HostRuntime) -> Result<(), Fail> {
     expect_limit(&rt, "[peers]\n", "", PEER, "1 = a")
 }
 
-// Any allocation may be refused: then memory is the fault, in no line.
+// Any allocation may fail: then the fault is out of memory, with line 0.
 #[test]
 fn each_allocation(rt: HostRuntime) {
-    let text =
-        "[pgbouncer]\npool_mode=transaction\nauth_type=trust\nlisten_addr=a\n[databases]\na=host=b port=1 user=c dbname=d\n[peers]\n2=host=b port=1";
+    let text = "[pgbouncer]\npool_mode=transaction\nauth_type=trust\nlisten_addr=a\n[databases]\n\
+        a=host=b port=1 user=c dbname=d\n[peers]\n2=host=b port=1";
     match read_settings(rt.alloc(), text) {
         Ok(settings) => assert_eq!(rt; settings.listen_addr(), "a"),
         Err(fault) => assert_eq!(rt;

@@ -1,6 +1,6 @@
 //! Groups of nodes, accepted and refused.
 use super::{LEAST, joined, settings_of};
-use crate::{Group, GroupError, Settings};
+use ini_config::{Group, GroupError, Settings};
 use std::alloc::Global;
 use std::process::Abort;
 use std::test::Fail;

@@ -1,6 +1,6 @@
 //! A small file: what each of its lines gives, and changes of one line.
 use super::{expect_answer, settings_of};
-use crate::{Database, DatabaseNo, IniCode, Settings};
+use ini_config::{Database, DatabaseNo, IniCode, Settings};
 use pg_ids::PeerNo;
 use std::alloc::Global;
 use std::process::Abort;

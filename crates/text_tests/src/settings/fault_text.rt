@@ -1,5 +1,5 @@
 //! Refusals by their numbers, and as they are written.
-use crate::{GroupError, IniCode, IniError};
+use ini_config::{GroupError, IniCode, IniError};
 use std::test::Fail;
 
 const CODES: [(IniCode, u8, &str); 9] = [

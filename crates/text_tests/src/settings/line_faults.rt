@@ -1,6 +1,7 @@
-//! Faults of one line: each line is the last of its text, after [pgbouncer], [databases] or [peers], or with no section.
+//! Faults of one line: each line is the last of its text, after [pgbouncer], [databases] or [peers],
+//! or with no section.
 use super::{expect_answer, joined};
-use crate::IniCode;
+use ini_config::IniCode;
 use std::alloc::Global;
 use std::process::Abort;
 use std::test::Fail;
@@ -94,7 +95,7 @@ const PEER_LINES: [(&str, &str, IniCode); 9] = [
     (PEERS, "3 = port=1", IniCode::Missing),
 ];
 
-// A fault in a later line isn't told.
+// A fault in a later line isn't reported.
 const LATER: &str = "\n%\n";
 
 fn expect_row(

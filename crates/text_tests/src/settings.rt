@@ -1,5 +1,5 @@
-//! Tests by subject, and what they share: texts, and what is read from one.
-use crate::{IniCode, IniError, Settings, read_settings};
+//! Settings files and groups by subject, and what their tests share: texts, and how one is read.
+use ini_config::{IniCode, IniError, Settings, read_settings};
 use std::alloc::{AllocError, Global};
 use std::process::Abort;
 use std::test::Fail;
@@ -14,7 +14,7 @@ mod whole_files;
 // The required lines, and no more.
 const LEAST: &str = "[pgbouncer]\npool_mode=transaction\nauth_type=trust\nlisten_addr=a\n";
 
-// The parts of a text, one behind the other.
+// The parts of a text, one after another.
 fn joined(alloc: Global, parts: &[&str]) -> Result<String, Fail> {
     let mut text = String::new(alloc);
     for part in parts {
@@ -23,7 +23,7 @@ fn joined(alloc: Global, parts: &[&str]) -> Result<String, Fail> {
     Ok(text)
 }
 
-// The settings of a text that is no fault: what is left to fail is want of memory, which is told as such.
+// The settings of a text without a fault. Out of memory is returned as `AllocError`.
 fn settings_of(alloc: Global, text: &str) -> Result<Settings, Fail> {
     match read_settings(alloc, text) {
         Ok(settings) => Ok(settings),
@@ -32,7 +32,7 @@ fn settings_of(alloc: Global, text: &str) -> Result<Settings, Fail> {
     }
 }
 
-// The text has a fault of this code in this line, or none.
+// Asserts that the text has a fault of this code in this line, or none.
 #[track_caller]
 fn expect_answer(
     rt: &(impl Abort + Alloc<A = Global>),

@@ -1,5 +1,5 @@
 //! Settings that come from no file.
-use crate::{DatabaseNo, Settings};
+use ini_config::{DatabaseNo, Settings};
 use pg_ids::PeerNo;
 use std::alloc::{AllocError, Global};
 use std::process::Abort;
