@@ -8,9 +8,9 @@ use Rattle.ini_config.specs.Group.{AllPeer, PeersDiffer, AllListed}
 use Rattle.ini_config.specs.declared.fault.GroupError.{GroupError}
 use Rattle.ini_config.specs.declared.fault.GroupError.TheVariants.{SamePeer, MissingPeer, NoPeering, Memory}
 use Rattle.pgpeer.specs.declared.fault.Fault.{Fault}
-use Rattle.pgpeer.specs.declared.fault.Fault.TheVariants as told
+use Rattle.pgpeer.specs.declared.fault.Fault.TheVariants as fault
 use Rattle.pgpeer.proofs.WordList.{AllZip-next}
-use Rattle.pgpeer.specs.Files.{Folder, Says, SayInOrder, HasFault, IsFirstFault, MakeNoGroup, IsFileFault, IsFault}
+use Rattle.pgpeer.specs.Files.{Folder, Says, SayInOrder, HasFault, IsFirstFault, MakeNoGroup, IsFileFault, IsUnread, IsCheckFault}
 use Rattle.std.specs.Result.{IfErr, IsErrAnd}
 
 -- `?` passes a refusal on as it is
@@ -23,31 +23,46 @@ module _ (folder : Folder) (files : List (Bor (List ℕ))) (i : ℕ) (d : Bor (L
   pub SayInOrder-next : (node : NodeSettings) → i < length files → SayInOrder folder (map (λ w. w.now) (take i files)) nodes → Says (folder (get_or files i d).now) node → SayInOrder folder (map (λ w. w.now) (take (i + 1) files)) (nodes ++ node ∷ [])
   SayInOrder-next node within said says = AllZip-next (λ file n. Says (folder file) n) files i nodes d node within said says
 
+  -- the file at a place stands between the others
+  place_at : i < length files → map (λ w. w.now) files ≡ map (λ w. w.now) (take i files) ++ (get_or files i d).now ∷ map (λ w. w.now) (drop (suc i) files)
+  place_at within =
+      ap (map (λ (w : Bor (List ℕ)). w.now)) (sym (take-append-drop i files) ∙ ap (λ rest. take i files ++ rest) (drop-cons files i d within))
+      ∙ map-append (λ (w : Bor (List ℕ)). w.now) (take i files) (get_or files i d ∷ drop (suc i) files)
+
   -- the file at a place is the first with a fault
   pub IsFirstFault-at : (error : IniError) → i < length files → SayInOrder folder (map (λ w. w.now) (take i files)) nodes → HasFault (folder (get_or files i d).now) error → IsFirstFault folder (map (λ w. w.now) files) (get_or files i d).now error
   IsFirstFault-at error within said fault = record {
     before = map (λ w. w.now) (take i files);
     after = map (λ w. w.now) (drop (suc i) files);
-    place = ap (map (λ (w : Bor (List ℕ)). w.now)) (sym (take-append-drop i files) ∙ ap (λ rest. take i files ++ rest) (drop-cons files i d within)) ∙ map-append (λ (w : Bor (List ℕ)). w.now) (take i files) (get_or files i d ∷ drop (suc i) files);
+    place = place_at within;
     nodes = nodes;
     said = said;
     fault = fault;
   }
 
-  -- what is told of the file at a place
-  pub IsFault-at : (fault : Fault) → i < length files → SayInOrder folder (map (λ w. w.now) (take i files)) nodes → IsFileFault (folder (get_or files i d).now) (get_or files i d).now fault → IsFault folder (map (λ w. w.now) files) fault
-  IsFault-at (told.InFile file error) within said (same, inl memory) = inl memory
-  IsFault-at (told.InFile file error) within said (same, inr fault) = inr (subst (λ name. IsFirstFault folder (map (λ w. w.now) files) name error) (sym same) (IsFirstFault-at error within said fault))
-  IsFault-at (told.File text) within said _ = tt
-  IsFault-at told.Memory within said _ = tt
-  IsFault-at (told.Usage text) within said never = absurd never
-  IsFault-at (told.OfGroup error) within said never = absurd never
-  IsFault-at (told.Packet number) within said never = absurd never
-  IsFault-at told.NotACancel within said never = absurd never
-  IsFault-at (told.Unexpected number) within said never = absurd never
-  IsFault-at (told.UnexpectedReply reply) within said never = absurd never
+  -- the file at a place can't be read
+  pub IsUnread-at : i < length files → SayInOrder folder (map (λ w. w.now) (take i files)) nodes → IsUnread folder (map (λ w. w.now) files) (get_or files i d).now
+  IsUnread-at within said = record {
+    before = map (λ w. w.now) (take i files);
+    after = map (λ w. w.now) (drop (suc i) files);
+    place = place_at within;
+    nodes = nodes;
+    said = said;
+  }
 
--- nodes that are no group are told of
+  -- the fault of the file at a place
+  pub IsCheckFault-at : (f : Fault) → i < length files → SayInOrder folder (map (λ w. w.now) (take i files)) nodes → IsFileFault (folder (get_or files i d).now) (get_or files i d).now f → IsCheckFault folder (map (λ w. w.now) files) f
+  IsCheckFault-at (fault.InFile file error) within said (same, inl memory) = inl memory
+  IsCheckFault-at (fault.InFile file error) within said (same, inr fault) = inr (subst (λ name. IsFirstFault folder (map (λ w. w.now) files) name error) (sym same) (IsFirstFault-at error within said fault))
+  IsCheckFault-at (fault.Unread file reason) within said same = subst (IsUnread folder (map (λ w. w.now) files)) (sym same) (IsUnread-at within said)
+  IsCheckFault-at fault.Memory within said _ = tt
+  IsCheckFault-at (fault.Usage text) within said never = absurd never
+  IsCheckFault-at (fault.OfGroup error) within said never = absurd never
+  IsCheckFault-at (fault.Packet number) within said never = absurd never
+  IsCheckFault-at fault.NotACancel within said never = absurd never
+  IsCheckFault-at (fault.Unexpected reply) within said never = absurd never
+
+-- nodes that are no group
 pub MakeNoGroup-of : (folder : Folder) (files : List (List ℕ)) (nodes : List NodeSettings) (error : GroupError) → SayInOrder folder files nodes → (error ≡ NoPeering → ¬ AllPeer nodes) → (error ≡ SamePeer → AllPeer nodes × ¬ PeersDiffer nodes) → (error ≡ MissingPeer → AllPeer nodes × PeersDiffer nodes × ¬ AllListed nodes) → (error ≡ Memory) ⊎ MakeNoGroup folder files error
 MakeNoGroup-of folder files nodes NoPeering said zero same missing = inr record { nodes = nodes; said = said; fault = zero refl }
 MakeNoGroup-of folder files nodes SamePeer said zero same missing = inr record { nodes = nodes; said = said; fault = same refl }

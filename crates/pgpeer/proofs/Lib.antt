@@ -1,5 +1,6 @@
+pub mod ArgumentLemmas
 pub mod CallLemmas
 pub mod FileLemmas
 pub mod PacketLemmas
-pub mod WordLemmas
 pub mod WordList
+pub mod WritingLemmas

@@ -1,23 +1,32 @@
--- The clients among the words of the program (own).
-use Rattle.std.specs.Prelude.{ℕ, ◌≡◌, List, [], ◌++◌, Option, Some, None, Ok, codes}
-use Rattle.std.specs.List.{AllZip}
+-- The clients among the arguments of the program (own).
+use Rattle.std.specs.Prelude.{ℕ, nat_le, if◌then◌else◌, List, length, Option, Some, None}
+use Rattle.std.specs.Option.{option_map}
+use Rattle.std.specs.Result.{result_ok}
 use Rattle.hex.specs.Hex.{decode_sized}
-use Rattle.ini_config.specs.Text.{number_in}
+use Rattle.pgpeer.specs.Arguments.{Text, cut_at}
+use Rattle.pgpeer.specs.Numbers.{◌>>=◌, each, between_commas, number_from}
 use Rattle.pgpeer.specs.declared.live_client.LiveClient.{LiveClient}
 
--- what stands behind a secret: nothing, or a colon and 16 hexadecimal digits, which are a server's key
-abbrev pub IsBehind : List ℕ → Option (List ℕ) → Type 0
-IsBehind rest None = rest ≡ []
-IsBehind rest (Some key) = (digits : List ℕ) × (rest ≡ codes ":" ++ digits) × (decode_sized digits 8 ≡ Ok key)
+-- the eight bytes that 16 hexadecimal digits are
+abbrev pub eight_bytes : Text → Option (List ℕ)
+eight_bytes digits = result_ok (decode_sized digits 8)
 
--- the word names this client: its secret in decimal digits, and then nothing else, or its server's key
-pub record IsClient (word : List ℕ) (client : LiveClient) : Type 0 where
-  pub secret : List ℕ
-  pub rest : List ℕ
-  pub parts : word ≡ secret ++ rest
-  pub number : number_in 0 4294967295 secret ≡ Ok client.secret
-  pub server_key : IsBehind rest client.server_key
+-- the server's key that stands behind a colon, where there is a colon
+abbrev pub key_behind : Option Text → Option (Option (List ℕ))
+key_behind None = Some None
+key_behind (Some digits) = option_map Some (eight_bytes digits)
 
--- the words name these clients, in order
-abbrev pub AreClients : List (List ℕ) → List LiveClient → Type 0
-AreClients words clients = AllZip IsClient words clients
+-- a client: its secret in decimal digits, and then nothing else, or a colon (58) and its server's key
+unfoldable pub client_of : Text → Option LiveClient
+client_of text = do
+  secret ← number_from 0 4294967295 (cut_at 58 text).0
+  server_key ← key_behind (cut_at 58 text).1
+  Some (record { secret = secret; server_key = server_key })
+
+-- at most 65,535 clients
+abbrev pub allowed_clients : List LiveClient → Option (List LiveClient)
+allowed_clients clients = if nat_le (length clients) 65535 then Some clients else None
+
+-- the clients that a text names
+abbrev pub clients_of : Option Text → Option (List LiveClient)
+clients_of text = each client_of (between_commas text) >>= allowed_clients

@@ -1,23 +1,26 @@
 -- What settings files say, where it is known what they hold, and their first fault (own).
-use Rattle.std.specs.Prelude.{ℕ, ◌≡◌, ◌⊎◌, List, ◌∷◌, ◌++◌, Option, IfSome, Ok, Err, string_bytes, ⊤}
+use Rattle.std.specs.Prelude.{ℕ, ◌≡◌, ◌⊎◌, List, ◌∷◌, ◌++◌, Option, IfSome, Ok, Err, length, string_bytes, ⊤}
 use Rattle.std.specs.List.{AllZip}
+use Rattle.std.specs.Str.{IsUtf8}
 use Rattle.ini_config.specs.declared.fault.IniError.{IniError}
 use Rattle.ini_config.specs.declared.fault.GroupError.{GroupError}
 use Rattle.ini_config.specs.declared.fault.GroupError.TheVariants.{SamePeer, MissingPeer, NoPeering, Memory}
 use Rattle.ini_config.specs.Codes.{IsMemory}
-use Rattle.ini_config.specs.Group.{AllPeer, PeersDiffer, AllListed}
+use Rattle.ini_config.specs.Group.{AllPeer, PeersDiffer, AllListed, IsGroup}
 use Rattle.ini_config.specs.Node.{NodeSettings}
 use Rattle.ini_config.specs.Settings.{settings_of}
 use Rattle.pgpeer.specs.declared.fault.Fault.{Fault}
-use Rattle.pgpeer.specs.declared.fault.Fault.TheVariants as told
+use Rattle.pgpeer.specs.declared.fault.Fault.TheVariants as fault
+use Rattle.pgpeer.specs.Texts.{group_text}
 
 -- what files with these names hold, each where it is known
 abbrev pub Folder : Type 0
 Folder = List ℕ → Option (List ℕ)
 
--- the text that was read is what the file holds, where that is known
-abbrev pub Holds : Option (List ℕ) → List ℕ → Type 0
-Holds known text = IfSome known (λ bytes. text ≡ bytes)
+-- the text, which is UTF-8, is what the file holds, where that is known
+pub record Holds (known : Option (List ℕ)) (text : List ℕ) : Type 0 where
+  pub same : IfSome known (λ bytes. text ≡ bytes)
+  pub utf8 : IsUtf8 text
 
 -- the node is what the file's text says
 pub record Says (known : Option (List ℕ)) (node : NodeSettings) : Type 0 where
@@ -57,30 +60,33 @@ pub record MakeNoGroup (folder : Folder) (files : List (List ℕ)) (error : Grou
   pub said : SayInOrder folder files nodes
   pub fault : IsGroupFault nodes error
 
--- The fault names this file and this error, unless there was no memory for the name.
-abbrev pub Names : List ℕ → IniError → Fault → Type 0
-Names name refused (told.InFile file error) = (string_bytes file ≡ name) × (error ≡ refused)
-Names name refused told.Memory = ⊤
-Names name refused fault = ⊥
+-- this file can't be read, and each file before it says what a node is
+pub record IsUnread (folder : Folder) (files : List (List ℕ)) (file : List ℕ) : Type 0 where
+  pub before : List (List ℕ)
+  pub after : List (List ℕ)
+  pub place : files ≡ before ++ file ∷ after
+  pub nodes : List NodeSettings
+  pub said : SayInOrder folder before nodes
 
--- The fault says that a file can't be read, or that memory ran out.
-abbrev pub IsUnread : Fault → Type 0
-IsUnread (told.File text) = ⊤
-IsUnread told.Memory = ⊤
-IsUnread fault = ⊥
-
--- A fault is told of the file with this name: its own first, or that it can't be read, or that memory ran out.
-abbrev pub IsFileFault : Option (List ℕ) → List ℕ → Fault → Type 0
-IsFileFault known name (told.InFile file error) = (string_bytes file ≡ name) × (IsMemory error ⊎ HasFault known error)
-IsFileFault known name (told.File text) = ⊤
-IsFileFault known name told.Memory = ⊤
-IsFileFault known name fault = ⊥
-
--- A fault is told of files: the first of a file, or else of the group, or that a file can't be read, or that memory
+-- Why files make no group: the first fault of a file, that it can't be read, or else why they are no group; or memory
 -- ran out.
-abbrev pub IsFault : Folder → List (List ℕ) → Fault → Type 0
-IsFault folder files (told.InFile file error) = IsMemory error ⊎ IsFirstFault folder files (string_bytes file) error
-IsFault folder files (told.OfGroup error) = (error ≡ Memory) ⊎ MakeNoGroup folder files error
-IsFault folder files (told.File text) = ⊤
-IsFault folder files told.Memory = ⊤
-IsFault folder files fault = ⊥
+abbrev pub IsCheckFault : Folder → List (List ℕ) → Fault → Type 0
+IsCheckFault folder files (fault.InFile file error) = IsMemory error ⊎ IsFirstFault folder files (string_bytes file) error
+IsCheckFault folder files (fault.OfGroup error) = (error ≡ Memory) ⊎ MakeNoGroup folder files error
+IsCheckFault folder files (fault.Unread file reason) = IsUnread folder files (string_bytes file)
+IsCheckFault folder files fault.Memory = ⊤
+IsCheckFault folder files _ = ⊥
+
+-- The fault is one of the file with this name: its own first, or that it can't be read, or that memory ran out.
+abbrev pub IsFileFault : Option (List ℕ) → List ℕ → Fault → Type 0
+IsFileFault known name (fault.InFile file error) = (string_bytes file ≡ name) × (IsMemory error ⊎ HasFault known error)
+IsFileFault known name (fault.Unread file reason) = string_bytes file ≡ name
+IsFileFault known name fault.Memory = ⊤
+IsFileFault known name _ = ⊥
+
+-- the line names how many nodes the files' group has, whose settings the files say, in order
+pub record IsGroupLine (folder : Folder) (files : List (List ℕ)) (line : List ℕ) : Type 0 where
+  pub nodes : List NodeSettings
+  pub said : SayInOrder folder files nodes
+  pub group : IsGroup nodes
+  pub text : line ≡ group_text (length nodes)

@@ -1,8 +1,10 @@
-pub mod Texts
+pub mod Arguments
+pub mod Finds
 pub mod Numbers
-pub mod PlainWords
 pub mod Clients
+pub mod Request
+pub mod Texts
+pub mod Statuses
 pub mod Decision
 pub mod Files
-pub mod Calls
-pub mod Statuses
+pub mod Answer

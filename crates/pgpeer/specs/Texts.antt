@@ -1,12 +1,21 @@
 -- What the program writes (own).
-use Rattle.std.specs.Prelude.{ℕ, List, ◌++◌, codes}
+use Rattle.std.specs.Prelude.{ℕ, List, ◌++◌, codes, string_bytes}
 use Rattle.std.specs.Fmt.{decimal}
 use Rattle.hex.specs.Hex.{encode_lower}
+use Rattle.ini_config.specs.Codes.{ini_number, group_number}
+use Rattle.ini_config.specs.declared.fault.IniCode.{IniCode}
+use Rattle.ini_config.specs.declared.fault.IniCode.TheVariants as ini
+use Rattle.ini_config.specs.declared.fault.GroupError.{GroupError}
+use Rattle.ini_config.specs.declared.fault.GroupError.TheVariants as group
 use Rattle.pg_ids.specs.declared.client_key.ClientKey.{ClientKey}
 use Rattle.lease.specs.declared.ticket.TicketRecord.{TicketRecord}
 use Rattle.node_core.specs.Refusals.{cancel_number}
 use Rattle.node_core.specs.declared.exchange.Order.{Order}
 use Rattle.node_core.specs.declared.exchange.Order.TheVariants.{Serve, Forward, Refused}
+use Rattle.pgpeer.specs.declared.fault.Fault.{Fault}
+use Rattle.pgpeer.specs.declared.fault.Fault.TheVariants.{Usage, InFile, OfGroup, Unread, Packet, NotACancel, Unexpected, Memory}
+use Rattle.pgpeer.specs.declared.fault.Reply.{Reply}
+use Rattle.pgpeer.specs.declared.fault.Reply.TheVariants as reply
 
 -- the parts of a key
 abbrev pub key_text : ClientKey → List ℕ
@@ -33,3 +42,47 @@ order_text (Refused refusal) = refused_text (cancel_number refusal)
 -- how many nodes a group has
 abbrev pub group_text : ℕ → List ℕ
 group_text count = codes "group of " ++ decimal count ++ codes " nodes\n"
+
+-- ---- faults
+
+-- the name of a refusal of a settings file
+abbrev pub ini_name : IniCode → List ℕ
+ini_name ini.BadLine = codes "BadLine"
+ini_name ini.UnknownSection = codes "UnknownSection"
+ini_name ini.UnknownKey = codes "UnknownKey"
+ini_name ini.BadNumber = codes "BadNumber"
+ini_name ini.OutOfRange = codes "OutOfRange"
+ini_name ini.Repeated = codes "Repeated"
+ini_name ini.Missing = codes "Missing"
+ini_name ini.NotInProfile = codes "NotInProfile"
+ini_name ini.Memory = codes "Memory"
+
+-- the name of a refusal of a group
+abbrev pub group_name : GroupError → List ℕ
+group_name group.SamePeer = codes "SamePeer"
+group_name group.MissingPeer = codes "MissingPeer"
+group_name group.NoPeering = codes "NoPeering"
+group_name group.Memory = codes "Memory"
+
+-- a number and a name
+abbrev pub numbered : ℕ → List ℕ → List ℕ
+numbered number name = decimal number ++ codes " " ++ name ++ codes "\n"
+
+-- an answer of the node, by its number or its name
+abbrev pub reply_text : Reply → List ℕ
+reply_text (reply.Number number) = decimal number
+reply_text reply.Got = codes "got"
+reply_text reply.Waiting = codes "waiting"
+reply_text reply.Closed = codes "closed"
+
+-- what a fault is written as
+abbrev pub fault_text : Fault → List ℕ
+fault_text (Usage text) = string_bytes text
+fault_text (InFile file error) =
+    string_bytes file ++ codes ":" ++ decimal error.line ++ codes ": " ++ numbered (ini_number error.code) (ini_name error.code)
+fault_text (OfGroup error) = numbered (group_number error) (group_name error)
+fault_text (Unread file reason) = string_bytes file ++ codes ": " ++ string_bytes reason ++ codes "\n"
+fault_text (Packet number) = codes "packet " ++ decimal number ++ codes "\n"
+fault_text NotACancel = codes "not a cancel\n"
+fault_text (Unexpected reply) = codes "unexpected answer: " ++ reply_text reply ++ codes "\n"
+fault_text Memory = codes "out of memory\n"

@@ -1,7 +1,6 @@
 //! `pgpeer check`: whether settings files make a group.
-ghost use Rattle.std.specs.Prelude.{◌≡◌, IfErr, IfOk, MatchResult, map, string_bytes};
-ghost use Rattle.pgpeer.specs.Calls.{TellsGroup};
-ghost use Rattle.pgpeer.specs.Files.{Holds, IsFault, IsFileFault, IsUnread, Names, SayInOrder, Says};
+ghost use Rattle.std.specs.Prelude.{◌≡◌, ◌⊎◌, IfErr, IfOk, IfSome, MatchResult, String, map, string_bytes};
+ghost use Rattle.pgpeer.specs.Files.{IsCheckFault, IsFileFault, IsGroupLine, SayInOrder, Says};
 ghost use Rattle.pgpeer.specs.Texts.{group_text};
 
 use crate::fault::Fault;
@@ -10,11 +9,11 @@ use ini_config::{Group, GroupError, IniCode, IniError, Settings, read_settings};
 use std::alloc::Global;
 use std::io::{Error, ErrorKind, Read};
 
-/// The line that tells how many nodes these files make a group of. The files are judged in order, then the
-/// group, and the first fault alone is told.
+/// The line that names how many nodes these files make a group of. The files are judged in order, then the group, and
+/// the first fault alone is returned.
 pub fn check_line<O: Opener>(alloc: Global, opener: &O, files: &[&str]) -> Result<String, Fault>
-    ensures group { IfOk result (λ line. TellsGroup (O.text opener.now) (map (λ file. file.now) files.now) (string_bytes line)) }
-    ensures refused { IfErr result (λ fault. IsFault (O.text opener.now) (map (λ file. file.now) files.now) fault) }
+    ensures group { IfOk result (λ line. IsGroupLine (O.text opener.now) (map (λ file. file.now) files.now) (string_bytes line)) }
+    ensures refused { IfErr result (λ fault. IsCheckFault (O.text opener.now) (map (λ file. file.now) files.now) fault) }
 {
     match Group::check(settings_of(alloc, opener, files)?) {
         Ok(group) => {
@@ -34,7 +33,7 @@ fn group_line(alloc: Global, count: usize) -> Result<String, Fault>
 // The settings that the files say, in order.
 fn settings_of<O: Opener>(alloc: Global, opener: &O, files: &[&str]) -> Result<Vec<Settings>, Fault>
     ensures said { IfOk result (λ nodes. SayInOrder (O.text opener.now) (map (λ file. file.now) files.now) nodes.items) }
-    ensures refused { IfErr result (λ fault. IsFault (O.text opener.now) (map (λ file. file.now) files.now) fault) }
+    ensures refused { IfErr result (λ fault. IsCheckFault (O.text opener.now) (map (λ file. file.now) files.now) fault) }
 {
     let mut nodes = Vec::new(alloc);
     for file in files {
@@ -60,7 +59,7 @@ fn node_of<O: Opener>(alloc: Global, opener: &O, file: &str) -> Result<Settings,
 
 // What the file holds.
 fn text_of<O: Opener>(alloc: Global, opener: &O, file: &str) -> Result<String, Fault>
-    ensures held { IfOk result (λ text. Holds (O.text opener.now file.now) (string_bytes text)) }
+    ensures held { IfOk result (λ text. IfSome (O.text opener.now file.now) (λ bytes. string_bytes text ≡ bytes)) }
     ensures refused { IfErr result (λ fault. IsFileFault (O.text opener.now file.now) file.now fault) }
 {
     let mut text = String::new(alloc);
@@ -77,14 +76,14 @@ fn text_of<O: Opener>(alloc: Global, opener: &O, file: &str) -> Result<String, F
     }
 }
 
-/// What is told of a file for which there was no memory.
+/// The fault of a file for which there was no memory.
 const OUT_OF_MEMORY: IniError = IniError {
     line: 0,
     code: IniCode::Memory,
 };
 
 fn in_file(alloc: Global, file: &str, error: IniError) -> Fault
-    ensures { Names file.now error result }
+    ensures { (result ≡ Fault.Memory) ⊎ ((name : String Global) × (string_bytes name ≡ file.now) × (result ≡ Fault.InFile name error)) }
 {
     match String::from_str(alloc, file) {
         Ok(file) => Fault::InFile { file, error },
@@ -93,10 +92,13 @@ fn in_file(alloc: Global, file: &str, error: IniError) -> Fault
 }
 
 fn unread(alloc: Global, file: &str, error: &Error) -> Fault
-    ensures { IsUnread result }
+    ensures { (result ≡ Fault.Memory) ⊎ ((name reason : String Global) × (string_bytes name ≡ file.now) × (result ≡ Fault.Unread name reason)) }
 {
-    match format!(in alloc; "{file}: {error}") {
-        Ok(text) => Fault::File(text),
+    let Ok(reason) = format!(in alloc; "{error}") else {
+        return Fault::Memory;
+    };
+    match String::from_str(alloc, file) {
+        Ok(file) => Fault::Unread { file, reason },
         Err(_) => Fault::Memory,
     }
 }

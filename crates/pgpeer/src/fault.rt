@@ -1,50 +1,60 @@
 //! Why the program answers nothing.
-ghost use Rattle.std.specs.Prelude.{◌≡◌};
+ghost use Rattle.std.specs.Prelude.{◌≡◌, ◌++◌, IfOk, codes, string_bytes};
+ghost use Rattle.std.specs.Fmt.{decimal};
+ghost use Rattle.ini_config.specs.Codes.{ini_number};
 ghost use Rattle.pgpeer.specs.Statuses.{status_of};
+ghost use Rattle.pgpeer.specs.Texts.{fault_text, group_name, ini_name, numbered, reply_text};
+ghost use Rattle.pgpeer.specs.declared.fault.Fault.TheVariants.{Memory};
 
 use ini_config::{GroupError, IniCode, IniError};
-use std::alloc::{AllocError, AllocFailed};
-use thiserror::Error;
+use std::alloc::{AllocError, AllocFailed, Global};
 
-/// Why there is no answer. What is displayed goes to standard error, on a line of its own.
-#[derive(Debug, Drop, Error)]
+/// Why there is no answer.
+#[derive(Debug, Drop)]
 pub enum Fault {
-    /// The words ask for nothing that there is.
-    #[error("{0}")]
+    /// The arguments ask for nothing that there is. The text says so.
     Usage(String),
-    /// What a settings file says is refused, or there is no memory for it.
-    #[error("{file}:{error}")]
+    /// A settings file is refused, or there is no memory for it.
     InFile {
         /// The file's name.
         file: String,
         /// The file's first fault.
         error: IniError,
     },
-    /// What settings files say is refused as a group, or there is no memory for it.
-    #[error("{0}")]
+    /// Settings files are refused as a group, or there is no memory for it.
     OfGroup(GroupError),
     /// A file can't be read.
-    #[error("{0}")]
-    File(String),
+    Unread {
+        /// The file's name.
+        file: String,
+        /// Why it can't be read.
+        reason: String,
+    },
     /// A first packet is refused, by this number.
-    #[error("packet {0}")]
     Packet(u8),
     /// The packet asks for something else.
-    #[error("not a cancel")]
     NotACancel,
-    /// The node answered what can't come.
-    #[error("unexpected answer {0}")]
-    Unexpected(u8),
-    /// The node answered what can't come, and that has no number.
-    #[error("unexpected answer: {0}")]
-    UnexpectedReply(&'static str),
+    /// The node gave this answer, which can't come.
+    Unexpected(Reply),
     /// Memory ran out.
-    #[error("out of memory")]
     Memory,
 }
 
+/// An answer of the node that isn't expected.
+#[derive(Clone, Copy, Debug, PartialEq, Eq)]
+pub enum Reply {
+    /// A refusal, by its number.
+    Number(u8),
+    /// An idle link, in place of a permit.
+    Got,
+    /// No link yet.
+    Waiting,
+    /// The link is closed.
+    Closed,
+}
+
 impl Fault {
-    /// The status that the program ends with: 2 for its words and for settings, 1 for a fault in running.
+    /// The status that the program ends with: 2 for its arguments and for settings, 1 for a fault in running.
     pub fn status(&self) -> u8
         ensures { result ≡ status_of self.now }
     {
@@ -55,15 +65,96 @@ impl Fault {
             _ => 1,
         }
     }
+
+    /// What is written to standard error.
+    pub fn text(&self, alloc: Global) -> Result<String, AllocError>
+        ensures { IfOk result (λ text. string_bytes text ≡ fault_text self.now) }
+    {
+        match self {
+            Fault::Usage(text) => String::from_str(alloc, text.as_str()),
+            Fault::InFile { file, error } => in_file_text(alloc, file.as_str(), *error),
+            Fault::OfGroup(error) => numbered(alloc, error.number(), group_name(*error)),
+            Fault::Unread { file, reason } => unread_text(alloc, file.as_str(), reason.as_str()),
+            Fault::Packet(number) => format!(in alloc; "packet {number}\n"),
+            Fault::NotACancel => String::from_str(alloc, "not a cancel\n"),
+            Fault::Unexpected(reply) => reply.text(alloc),
+            Fault::Memory => String::from_str(alloc, "out of memory\n"),
+        }
+    }
+}
+
+fn in_file_text(alloc: Global, file: &str, error: IniError) -> Result<String, AllocError>
+    ensures { IfOk result (λ text. string_bytes text ≡ file.now ++ codes ":" ++ decimal error.line ++ codes ": " ++ numbered (ini_number error.code) (ini_name error.code)) }
+{
+    let line = error.line;
+    let number = error.code.number();
+    let name = ini_name(error.code);
+    format!(in alloc; "{file}:{line}: {number} {name}\n")
+}
+
+fn unread_text(alloc: Global, file: &str, reason: &str) -> Result<String, AllocError>
+    ensures { IfOk result (λ text. string_bytes text ≡ file.now ++ codes ": " ++ reason.now ++ codes "\n") }
+{
+    format!(in alloc; "{file}: {reason}\n")
+}
+
+fn numbered(alloc: Global, number: u8, name: &str) -> Result<String, AllocError>
+    ensures { IfOk result (λ text. string_bytes text ≡ numbered number name.now) }
+{
+    format!(in alloc; "{number} {name}\n")
+}
+
+fn ini_name(code: IniCode) -> &'static str
+    ensures { result.now ≡ ini_name code }
+{
+    match code {
+        IniCode::BadLine => "BadLine",
+        IniCode::UnknownSection => "UnknownSection",
+        IniCode::UnknownKey => "UnknownKey",
+        IniCode::BadNumber => "BadNumber",
+        IniCode::OutOfRange => "OutOfRange",
+        IniCode::Repeated => "Repeated",
+        IniCode::Missing => "Missing",
+        IniCode::NotInProfile => "NotInProfile",
+        IniCode::Memory => "Memory",
+    }
+}
+
+fn group_name(error: GroupError) -> &'static str
+    ensures { result.now ≡ group_name error }
+{
+    match error {
+        GroupError::SamePeer => "SamePeer",
+        GroupError::MissingPeer => "MissingPeer",
+        GroupError::NoPeering => "NoPeering",
+        GroupError::Memory => "Memory",
+    }
+}
+
+impl Reply {
+    fn text(self, alloc: Global) -> Result<String, AllocError>
+        ensures { IfOk result (λ text. string_bytes text ≡ codes "unexpected answer: " ++ reply_text self ++ codes "\n") }
+    {
+        match self {
+            Reply::Number(number) => format!(in alloc; "unexpected answer: {number}\n"),
+            Reply::Got => String::from_str(alloc, "unexpected answer: got\n"),
+            Reply::Waiting => String::from_str(alloc, "unexpected answer: waiting\n"),
+            Reply::Closed => String::from_str(alloc, "unexpected answer: closed\n"),
+        }
+    }
 }
 
 impl From<AllocError> for Fault {
+    ghost from_gives = { λ _ fault. fault ≡ Memory };
+
     fn from(_: AllocError) -> Fault {
         Fault::Memory
     }
 }
 
 impl<T: Drop> From<AllocFailed<T>> for Fault {
+    ghost from_gives = { λ _ fault. fault ≡ Memory };
+
     fn from(_: AllocFailed<T>) -> Fault {
         Fault::Memory
     }

@@ -1,61 +1,49 @@
 //! What clients hold, and the ticket of an order, handed back to their node.
-ghost use Rattle.std.specs.Prelude.{◌≡◌};
+ghost use Rattle.std.specs.Prelude.{◌≡◌, ◌+◌, ◌*◌, ◌≤◌, MatchResult, OnOk, vec_len};
+ghost use Rattle.pgpeer.specs.Decision.{Goes, Stops};
 
-use crate::decision::{EXHAUSTED, STALE};
-use crate::fault::Fault;
-use crate::held::{Held, NoStream, forfeit_passes};
+use crate::fault::Reply;
+use crate::held::{Held, NoStream};
+use crate::steps::{close, leave, report_failed};
 use lease::{Lease, Pass, Ticket};
-use link_pool::{CloseReply, FailedReply};
-use locked_node::{Caller, Journal, Shared};
-use node_core::LeaveReply;
-use std::alloc::Global;
+use locked_node::{Caller, Shared};
+use node_core::StepRefusal;
 use std::sync::Wait;
 
-/// The node is told that the request of a ticket failed, since nothing was carried. Then each link is closed, and
-/// then each client leaves.
+/// The request of a ticket is reported as failed, since nothing was carried. Then each link is closed, and then each
+/// client leaves. Each value is spent by a step of the node. The first reply that isn't expected ends it.
 pub fn hand_back<R: Wait>(
-    rt: &R,
-    alloc: Global,
-    journal: Journal<NoStream>,
-    ticket: Option<Ticket>,
-    held: Held,
-) -> Result<(), Fault> {
-    let Ok((shared, mut caller)) = Shared::new(alloc, journal) else {
-        if let Some(ticket) = ticket {
-            ticket.forfeit();
-        }
-        held.forfeit();
-        return Err(Fault::Memory);
-    };
-    let Held { passes, leases } = held;
-    let told = match ticket {
-        Some(ticket) => tell_failed(rt, &shared, &mut caller, ticket),
-        None => Ok(()),
-    };
-    let closed = close_all(rt, &shared, &mut caller, leases);
-    if let Err(fault) = told.and(closed) {
-        // A client whose link isn't closed could never leave.
-        forfeit_passes(passes);
-        return Err(fault);
-    }
-    leave_all(rt, &shared, &mut caller, passes)
-}
-
-// The request of a ticket failed. Its link's client holds that still, so the link is condemned.
-fn tell_failed<R: Wait>(
     rt: &R,
     shared: &Shared<NoStream>,
     caller: &mut Caller<NoStream>,
-    ticket: Ticket,
-) -> Result<(), Fault>
-    requires { caller.old.lock ≡ shared.now }
-    ensures { caller.new.lock ≡ caller.old.lock }
+    ticket: Option<Ticket>,
+    held: &mut Held,
+) -> Result<(), Reply>
+    requires own { caller.old.lock ≡ shared.now }
+    requires allowance { 1 + vec_len held.old.leases + 2 * vec_len held.old.passes ≤ caller.old.allowance }
+    ensures handed { MatchResult result (λ _. Goes caller.old caller.new) (λ reply. Stops caller.old reply caller.new) }
+    ensures all { OnOk result ((vec_len held.new.leases ≡ 0) × (vec_len held.new.passes ≡ 0)) }
 {
-    match shared.failed(rt, caller, ticket) {
-        FailedReply::Condemned => Ok(()),
-        FailedReply::Closed(_) => Err(Fault::UnexpectedReply("closed")),
-        FailedReply::Stale => Err(Fault::Unexpected(STALE)),
-        FailedReply::Exhausted => Err(Fault::Unexpected(EXHAUSTED)),
+    report(rt, shared, caller, ticket)?;
+    close_all(rt, shared, caller, &mut held.leases)?;
+    leave_all(rt, shared, caller, &mut held.passes)
+}
+
+// The request of a ticket, if there is one, failed.
+fn report<R: Wait>(
+    rt: &R,
+    shared: &Shared<NoStream>,
+    caller: &mut Caller<NoStream>,
+    ticket: Option<Ticket>,
+) -> Result<(), Reply>
+    requires own { caller.old.lock ≡ shared.now }
+    requires allowance { 1 ≤ caller.old.allowance }
+    ensures reported { MatchResult result (λ _. Goes caller.old caller.new) (λ reply. Stops caller.old reply caller.new) }
+    ensures allowance { OnOk result (caller.old.allowance ≤ caller.new.allowance + 1) }
+{
+    match ticket {
+        Some(ticket) => report_failed(rt, shared, caller, ticket),
+        None => Ok(()),
     }
 }
 
@@ -64,21 +52,18 @@ fn close_all<R: Wait>(
     rt: &R,
     shared: &Shared<NoStream>,
     caller: &mut Caller<NoStream>,
-    mut leases: Vec<Lease<NoStream>>,
-) -> Result<(), Fault>
-    requires { caller.old.lock ≡ shared.now }
-    ensures { caller.new.lock ≡ caller.old.lock }
+    leases: &mut Vec<Lease<NoStream>>,
+) -> Result<(), Reply>
+    requires own { caller.old.lock ≡ shared.now }
+    requires allowance { vec_len leases.old ≤ caller.old.allowance }
+    ensures closed { MatchResult result (λ _. Goes caller.old caller.new) (λ reply. Stops caller.old reply caller.new) }
+    ensures allowance { OnOk result (caller.old.allowance ≤ caller.new.allowance + vec_len leases.old) }
+    ensures all { OnOk result (vec_len leases.new ≡ 0) }
 {
-    let mut done = Ok(());
     while let Some(lease) = leases.pop() {
-        match shared.close(rt, caller, lease) {
-            CloseReply::Closed(_) => {}
-            CloseReply::Stale(_) => done = Err(Fault::Unexpected(STALE)),
-            CloseReply::Exhausted(_) => done = Err(Fault::Unexpected(EXHAUSTED)),
-        }
+        close(rt, shared, caller, lease)?;
     }
-    leases.destroy_empty();
-    done
+    Ok(())
 }
 
 // Each client leaves.
@@ -86,39 +71,38 @@ fn leave_all<R: Wait>(
     rt: &R,
     shared: &Shared<NoStream>,
     caller: &mut Caller<NoStream>,
-    mut passes: Vec<Pass>,
-) -> Result<(), Fault>
-    requires { caller.old.lock ≡ shared.now }
-    ensures { caller.new.lock ≡ caller.old.lock }
+    passes: &mut Vec<Pass>,
+) -> Result<(), Reply>
+    requires own { caller.old.lock ≡ shared.now }
+    requires allowance { 2 * vec_len passes.old ≤ caller.old.allowance }
+    ensures left { MatchResult result (λ _. Goes caller.old caller.new) (λ reply. Stops caller.old reply caller.new) }
+    ensures all { OnOk result (vec_len passes.new ≡ 0) }
 {
-    let mut done = Ok(());
     while let Some(pass) = passes.pop() {
-        if let Err(fault) = leave(rt, shared, caller, pass) {
-            done = Err(fault);
-        }
+        leave_twice(rt, shared, caller, pass)?;
     }
-    passes.destroy_empty();
-    done
+    Ok(())
 }
 
-// A client leaves. While it holds something, it is asked again.
-fn leave<R: Wait>(
+// A client leaves. Where it holds something it is asked once more; nobody else has this lock, so no answer after that
+// can be another.
+fn leave_twice<R: Wait>(
     rt: &R,
     shared: &Shared<NoStream>,
     caller: &mut Caller<NoStream>,
     pass: Pass,
-) -> Result<(), Fault>
-    requires { caller.old.lock ≡ shared.now }
-    ensures { caller.new.lock ≡ caller.old.lock }
+) -> Result<(), Reply>
+    requires own { caller.old.lock ≡ shared.now }
+    requires allowance { 2 ≤ caller.old.allowance }
+    ensures left { MatchResult result (λ _. Goes caller.old caller.new) (λ reply. Stops caller.old reply caller.new) }
+    ensures allowance { OnOk result (caller.old.allowance ≤ caller.new.allowance + 2) }
 {
-    let mut pass = pass;
-    for _ in rt.forever() {
-        match shared.leave(rt, caller, pass) {
-            LeaveReply::Left => return Ok(()),
-            LeaveReply::Holding(again) => pass = again,
-            LeaveReply::Stale => return Err(Fault::Unexpected(STALE)),
-            LeaveReply::Exhausted => return Err(Fault::Unexpected(EXHAUSTED)),
-        }
-    }
-    unreachable!()
+    let Some(pass) = leave(rt, shared, caller, pass)? else {
+        return Ok(());
+    };
+    let Some(pass) = leave(rt, shared, caller, pass)? else {
+        return Ok(());
+    };
+    pass.forfeit();
+    Err(Reply::Number(StepRefusal::Holding.number()))
 }

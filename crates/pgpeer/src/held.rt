@@ -1,5 +1,5 @@
 //! What the clients of a node hold until it is handed back.
-ghost use Rattle.std.specs.Prelude.{◌+◌, ◌≤◌, IfOk, vec_capacity, vec_len};
+ghost use Rattle.std.specs.Prelude.{◌≡◌, ◌≤◌, IfOk, vec_capacity, vec_len};
 
 use lease::{Lease, Pass};
 use std::alloc::{AllocError, Global};
@@ -17,10 +17,11 @@ pub struct Held {
 }
 
 impl Held {
-    /// Nothing, with room for what so many clients hold.
+    /// Nothing, with room for what this many clients hold.
     pub fn with_room(alloc: Global, clients: usize) -> Result<Held, AllocError>
-        ensures passes { IfOk result (λ held. vec_len held.passes + clients ≤ vec_capacity held.passes) }
-        ensures leases { IfOk result (λ held. vec_len held.leases + clients ≤ vec_capacity held.leases) }
+        ensures none { IfOk result (λ held. (vec_len held.passes ≡ 0) × (vec_len held.leases ≡ 0)) }
+        ensures passes { IfOk result (λ held. clients ≤ vec_capacity held.passes) }
+        ensures leases { IfOk result (λ held. clients ≤ vec_capacity held.leases) }
     {
         let passes = Vec::with_capacity(alloc, clients)?;
         let Ok(leases) = Vec::with_capacity(alloc, clients) else {
@@ -30,7 +31,7 @@ impl Held {
         Ok(Held { passes, leases })
     }
 
-    /// Spends all without a step. The journal of these clients is at its end.
+    /// Spends all that is left without a step. The journal of these clients is at its end.
     pub fn forfeit(self) {
         let Held { passes, leases } = self;
         forfeit_leases(leases);
@@ -45,8 +46,7 @@ fn forfeit_leases(mut leases: Vec<Lease<NoStream>>) {
     leases.destroy_empty();
 }
 
-/// Spends these passes without a step. The journal of their clients is at its end.
-pub fn forfeit_passes(mut passes: Vec<Pass>) {
+fn forfeit_passes(mut passes: Vec<Pass>) {
     while let Some(pass) = passes.pop() {
         pass.forfeit();
     }

@@ -1,19 +1,20 @@
-//! The clients among the words.
-ghost use Rattle.std.specs.Prelude.{◌≡◌, ◌<◌, ◌≤◌, IfOk, Ok, length};
+//! The clients among the arguments.
+ghost use Rattle.std.specs.Prelude.{◌≡◌, ◌≤◌, Some, IfOk, length};
 ghost use Rattle.std.specs.Option.{option_map};
-ghost use Rattle.hex.specs.Hex.{decode_sized};
-ghost use Rattle.ini_config.specs.Text.{number_in};
-ghost use Rattle.pgpeer.specs.Clients.{AreClients, IsClient};
-ghost use Rattle.pgpeer.specs.Numbers.{between_commas};
+ghost use Rattle.pgpeer.specs.Clients.{client_of, clients_of, eight_bytes};
+ghost use Rattle.pgpeer.specs.Finds.{Finds, Reads};
+ghost use Rattle.pgpeer.specs.Numbers.{number_from};
 
-use crate::fault::Fault;
-use crate::number::{between_commas, number};
+use crate::arguments::cut_at;
+use crate::list::{Item, items};
+use crate::wrong::{Place, Wrong};
 use hex::FromHex;
+use ini_config::number_in;
 use pg_ids::{Secret, ServerKey};
 use std::alloc::Global;
 
-/// The most clients that the words name.
-const CLIENTS: usize = 65535;
+/// The most clients that arguments name.
+pub const CLIENTS: usize = 65535;
 
 /// A client that is logged in.
 #[derive(Clone, Copy, Debug, PartialEq, Eq)]
@@ -24,70 +25,56 @@ pub struct LiveClient {
     pub server_key: Option<ServerKey>,
 }
 
-/// The clients that a text names, between its commas: at most 65535, each by `SECRET` or `SECRET:KEYHEX`.
-pub fn live_clients(alloc: Global, text: Option<&str>) -> Result<Vec<LiveClient>, Fault>
-    ensures clients { IfOk result (λ clients. AreClients (between_commas (option_map (λ t. t.now) text.entry)) clients.items) }
+impl Item for LiveClient {
+    ghost use Rattle.pgpeer.specs.Clients.{client_of};
+
+    ghost item_of = { client_of };
+
+    fn read<'a>(text: &'a str) -> Result<LiveClient, Wrong<'a>> {
+        client(text)
+    }
+}
+
+/// The clients that a text names, at most 65535, each by `SECRET` or `SECRET:KEYHEX`.
+pub fn live_clients<'a>(alloc: Global, text: Option<&'a str>) -> Result<Vec<LiveClient>, Wrong<'a>>
+    ensures value { Finds (λ clients. clients.items) result (clients_of (option_map (λ t. t.now) text.entry)) }
     ensures limit { IfOk result (λ clients. length clients.items ≤ 65535) }
 {
-    let mut clients = Vec::new(alloc);
-    let words = between_commas(alloc, text)?;
-    for word in &words {
-        let client = one_more_client(alloc, clients.len(), word)?;
-        clients.push(client)?;
+    let clients = items::<LiveClient>(alloc, text)?;
+    if clients.len() > CLIENTS {
+        return Err(Wrong::Value(Place::ClientTooMany, ""));
     }
     Ok(clients)
 }
 
-// The client that a word names, behind so many.
-fn one_more_client(alloc: Global, count: usize, word: &str) -> Result<LiveClient, Fault>
-    ensures value { IfOk result (λ client. IsClient word.now client) }
-    ensures room { IfOk result (λ _. count < 65535) }
+// The client that a text names.
+#[tactic(auto, unfolding(crate::specs::Clients::client_of))]
+fn client<'a>(text: &'a str) -> Result<LiveClient, Wrong<'a>>
+    ensures { Reads (λ client. client) result (client_of text.now) }
 {
-    let client = client_of(alloc, word)?;
-    if count >= CLIENTS {
-        return Err(Fault::Usage(format!(in alloc;
-            "--live {word}: there are at most {CLIENTS} clients"
-        )?));
-    }
-    Ok(client)
-}
-
-// The client that a word names.
-fn client_of(alloc: Global, word: &str) -> Result<LiveClient, Fault>
-    ensures { IfOk result (λ client. IsClient word.now client) }
-{
-    let Some((secret, digits)) = word.split_once(':') else {
-        return Ok(LiveClient {
-            secret: secret_of(alloc, word, word)?,
-            server_key: None,
-        });
+    let (secret, digits) = cut_at(text, ':');
+    let secret = secret_of(secret)?;
+    let server_key = match digits {
+        Some(digits) => Some(server_key_of(digits)?),
+        None => None,
     };
-    Ok(LiveClient {
-        secret: secret_of(alloc, word, secret)?,
-        server_key: Some(server_key_of(alloc, word, digits)?),
-    })
+    Ok(LiveClient { secret, server_key })
 }
 
-// The secret that this part of a word is.
-fn secret_of(alloc: Global, word: &str, part: &str) -> Result<Secret, Fault>
-    ensures { IfOk result (λ secret. number_in 0 4294967295 part.now ≡ Ok secret) }
+fn secret_of<'a>(text: &'a str) -> Result<Secret, Wrong<'a>>
+    ensures { Reads (λ secret. secret) result (number_from 0 4294967295 text.now) }
 {
-    match number(part, 0, u32::MAX) {
-        Some(secret) => Ok(Secret(secret)),
-        None => Err(Fault::Usage(format!(in alloc;
-            "--live {word}: secrets from 0 to 4294967295 are wanted, with commas between"
-        )?)),
+    match number_in(0, u32::MAX, text) {
+        Ok(secret) => Ok(Secret(secret)),
+        Err(_) => Err(Wrong::Value(Place::Secret, text)),
     }
 }
 
-// The server's key that this part of a word is.
-fn server_key_of(alloc: Global, word: &str, part: &str) -> Result<ServerKey, Fault>
-    ensures { IfOk result (λ key. decode_sized part.now 8 ≡ Ok key) }
+fn server_key_of<'a>(digits: &'a str) -> Result<ServerKey, Wrong<'a>>
+    ensures { Reads (λ key. key) result (eight_bytes digits.now) }
 {
-    match <[u8; 8] as FromHex>::from_hex(part) {
+    match <[u8; 8] as FromHex>::from_hex(digits) {
         Ok(key) => Ok(ServerKey(key)),
-        Err(_) => Err(Fault::Usage(format!(in alloc;
-            "--live {word}: 16 hexadecimal digits are wanted behind the colon"
-        )?)),
+        Err(_) => Err(Wrong::Value(Place::ServerKey, digits)),
     }
 }

@@ -1,4 +1,4 @@
-//! Tests by subject, and what they share: what the program answers to words.
+//! Tests by subject, and what they share: the program's answer to arguments.
 use crate::answer::answer;
 use files::{Files, all_files};
 use std::alloc::Global;
@@ -14,7 +14,7 @@ mod links;
 mod orders;
 mod packets;
 mod usage;
-mod wrong_words;
+mod wrong_values;
 
 // A request for slot 0 of pooler 2, with secret 1 and hops 3.
 const ONE: &str = "0000001004d2162e0008000000000007";
@@ -37,7 +37,7 @@ fn answered(rt: &(impl Wait + Alloc<A = Global>), words: &[&str]) -> Answer {
     Answer { status, out, err }
 }
 
-// The program answers these words with this status, and writes these texts to standard output and standard error.
+// These arguments are answered with this status, and these texts on standard output and standard error.
 #[track_caller]
 fn expect_answer(
     rt: &(impl Abort + Wait + Alloc<A = Global>),
@@ -52,7 +52,7 @@ fn expect_answer(
     assert_eq!(rt; answer.err.as_slice(), err.as_bytes(), "{words:?}");
 }
 
-// The same of a line of words with a space between.
+// The same of a line of arguments with a space between.
 #[track_caller]
 fn expect_line(
     rt: &(impl Abort + Wait + Alloc<A = Global>),
@@ -65,6 +65,24 @@ fn expect_line(
     expect_answer(rt, &words, status, out, err);
     Ok(())
 }
+
+// These arguments are refused: status 2, nothing on standard output, and on standard error this line, the usage of
+// the command and where help is.
+#[track_caller]
+fn expect_refused(
+    rt: &(impl Abort + Wait + Alloc<A = Global>),
+    words: &[&str],
+    line: &str,
+    usage: &str,
+) -> Result<(), Fail> {
+    let text = format!(in rt.alloc();
+        "error: {line}\n\nUsage: pgpeer {usage}\n\nFor more information, try '--help'.\n"
+    )?;
+    expect_answer(rt, words, 2, "", text.as_str());
+    Ok(())
+}
+
+const DECIDE: &str = "decide --me N [--peers P,P..] [--live C,C..] HEX";
 
 fn contains(text: &[u8], part: &[u8]) -> bool {
     text.windows(part.len().max(1)).any(|window| window == part)

@@ -2,7 +2,7 @@
 use super::{answered, expect_line};
 use std::test::Fail;
 
-// The words, the status, and what is written to standard output and standard error.
+// The arguments, the status, and what is written to standard output and standard error.
 const GROUPS: [(&str, u8, &str, &str); 10] = [
     ("check small", 0, "group of 1 nodes\n", ""),
     ("check small two", 0, "group of 2 nodes\n", ""),

@@ -3,7 +3,7 @@ use super::expect_line;
 use std::test::Fail;
 
 // A key's digits, and its line.
-const KEYS: [(&str, &str); 4] = [
+const KEYS: [(&str, &str); 5] = [
     ("key 0008000000000007", "peer 2 slot 0 secret 1 hops 3\n"),
     (
         "key ffffffffffffffff",
@@ -14,6 +14,7 @@ const KEYS: [(&str, &str); 4] = [
         "peer 16383 slot 65535 secret 4294967295 hops 3\n",
     ),
     ("key 0000000000000000", "peer 0 slot 0 secret 0 hops 0\n"),
+    ("key -- 0008000000000007", "peer 2 slot 0 secret 1 hops 3\n"),
 ];
 
 #[test]

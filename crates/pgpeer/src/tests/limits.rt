@@ -1,5 +1,5 @@
 //! As many peers and clients as there may be, and more.
-use super::{ONE, expect_answer};
+use super::{DECIDE, ONE, expect_answer, expect_refused};
 use std::alloc::Global;
 use std::process::Abort;
 use std::sync::Wait;
@@ -15,9 +15,9 @@ fn peers(rt: HostRuntime) -> Result<(), Fail> {
     let forward = "forward 2 0000001004d2162e0008000000000006\n";
     expect_among_peers(&rt, peers.as_str(), 0, forward, "");
     peers.push_str(",65")?;
-    let many = "--peers 65: there are at most 64 peers\n";
-    expect_among_peers(&rt, peers.as_str(), 2, "", many);
-    Ok(())
+    let many = "too many values for '--peers <P,P..>': expected at most 64";
+    let words = ["decide", "--me", "1", "--peers", peers.as_str(), ONE];
+    expect_refused(&rt, &words, many, DECIDE)
 }
 
 #[track_caller]
@@ -48,12 +48,12 @@ fn sixty_thousand_clients(rt: HostRuntime) -> Result<(), Fail> {
 #[test]
 fn too_many_clients(rt: HostRuntime) -> Result<(), Fail> {
     let live = repeated(rt.alloc(), "7", 65536)?;
-    let many = "--live 7: there are at most 65535 clients\n";
-    expect_among_clients(&rt, live.as_str(), ONE, 2, "", many);
-    Ok(())
+    let many = "too many values for '--live <C,C..>': expected at most 65535";
+    let words = ["decide", "--me", "2", "--live", live.as_str(), ONE];
+    expect_refused(&rt, &words, many, DECIDE)
 }
 
-// The word so many times, with commas between.
+// This text this many times, with commas between.
 fn repeated(alloc: Global, word: &str, count: u32) -> Result<String, Fail> {
     let mut text = String::from_str(alloc, word)?;
     for _ in 1..count {

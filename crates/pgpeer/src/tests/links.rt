@@ -2,7 +2,7 @@
 use super::expect_line;
 use std::test::Fail;
 
-// The words, and the order.
+// The arguments, and the order.
 const ORDERS: [(&str, &str); 14] = [
     (
         "decide --me 2 --live 1:1112131415161718 0000001004d2162e0008000000000004",
@@ -37,7 +37,7 @@ const ORDERS: [(&str, &str); 14] = [
         "decide --me 2 --live 4294967295:ffffffffffffffff 0000001004d2162e00080003ffffffff",
         "serve ffffffffffffffff\n",
     ),
-    // Two links: the key of the client's own is told.
+    // Two links: each request gets the key of its own client's.
     (
         "decide --me 2 --live 1:1112131415161718,5:2122232425262728 0000001004d2162e0008000000000007",
         "serve 1112131415161718\n",

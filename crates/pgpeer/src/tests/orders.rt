@@ -2,7 +2,7 @@
 use super::expect_line;
 use std::test::Fail;
 
-// The words, and the order.
+// The arguments, and the order.
 const ORDERS: [(&str, &str); 13] = [
     (
         "decide --me 1 --peers 2 0000001004d2162e0008000000000007",
@@ -66,8 +66,8 @@ fn orders(rt: HostRuntime) -> Result<(), Fail> {
     Ok(())
 }
 
-// Words in other orders, which the parser of options reads.
-const OTHER_ORDERS: [(&str, &str); 4] = [
+// Options in other orders and forms.
+const OTHER_ORDERS: [(&str, &str); 6] = [
     (
         "decide 0000001004d2162e0008000000000007 --me 1 --peers 2",
         "forward 2 0000001004d2162e0008000000000006\n",
@@ -84,10 +84,18 @@ const OTHER_ORDERS: [(&str, &str); 4] = [
         "decide --live 1 0000001004d2162e0008000000000007 --me 2",
         "refused 63\n",
     ),
+    (
+        "decide --peers=2 --me=1 0000001004d2162e0008000000000007",
+        "forward 2 0000001004d2162e0008000000000006\n",
+    ),
+    (
+        "decide --me 1 --peers=2 -- 0000001004d2162e0008000000000007",
+        "forward 2 0000001004d2162e0008000000000006\n",
+    ),
 ];
 
 #[test]
-fn words_in_other_orders(rt: HostRuntime) -> Result<(), Fail> {
+fn options_in_other_orders(rt: HostRuntime) -> Result<(), Fail> {
     for (words, line) in OTHER_ORDERS {
         expect_line(&rt, words, 0, line, "")?;
     }

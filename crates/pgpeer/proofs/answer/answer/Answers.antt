@@ -1,9 +1,6 @@
-use Rattle.std.proofs.Common.{inr, ap, ⊎_elim, ◌∙◌}
-use Rattle.pgpeer.specs.Statuses.{status_of}
+use Rattle.std.proofs.KnownBytes.{Keeps-refl}
+use Rattle.pgpeer.proofs.WritingLemmas.{answers_fault}
 use Rattle.pgpeer.proofs.answer.answer.Goals as goal
 
--- only memory keeps the program from telling a key
-pub returns-in-Err-clause-key : goal.returns-in-Err-clause-key
-returns-in-Err-clause-key g c hex key call =
-    let memory = c.in-Err.ensures.key hex key call in
-    inr (⊎_elim (λ as_told. as_told ∙ ap status_of memory) (λ failed. failed) c.write_fault.ensures)
+pub returns-in-Err : goal.returns-in-Err
+returns-in-Err g c = answers_fault _ _ _ _ c.in-Err.fault c.write_fault.result c.in-Err.ensures.fault c.write_fault.ensures (Keeps-refl _)

@@ -1,9 +1,15 @@
-use Rattle.std.proofs.Common.{◌≡◌, vec_len}
+use Rattle.std.proofs.Common.{◌≡◌, ◌+◌, ◌≤◌, vec_len}
+use Rattle.pgpeer.specs.Decision.{Goes}
 use Rattle.pgpeer.proofs.hand_back.close_all.Given as goal
 
--- the caller stays one of this lock
+-- the links so far were closed, each by a call
 abbrev pub invariant-loop-lease : goal.invariant-loop-lease
-invariant-loop-lease g l = (l.caller.lock ≡ l.shared) × (l.caller.lock ≡ l.fn.caller.lock)
+invariant-loop-lease g l =
+    record {
+      lock : l.caller.lock ≡ l.shared;
+      goes : Goes l.fn.caller l.caller;
+      allowance : l.fn.caller.allowance + vec_len l.leases ≤ l.caller.allowance + vec_len l.fn.leases;
+    }
 
 abbrev pub decreases-loop-lease : goal.decreases-loop-lease
 decreases-loop-lease g l = vec_len l.leases

@@ -1,9 +1,15 @@
-use Rattle.std.proofs.Common.{◌≡◌, vec_len}
+use Rattle.std.proofs.Common.{◌≡◌, ◌+◌, ◌*◌, ◌≤◌, vec_len}
+use Rattle.pgpeer.specs.Decision.{Goes}
 use Rattle.pgpeer.proofs.hand_back.leave_all.Given as goal
 
--- the caller stays one of this lock
+-- the clients so far left, each by two calls at most
 abbrev pub invariant-loop-pass : goal.invariant-loop-pass
-invariant-loop-pass g l = (l.caller.lock ≡ l.shared) × (l.caller.lock ≡ l.fn.caller.lock)
+invariant-loop-pass g l =
+    record {
+      lock : l.caller.lock ≡ l.shared;
+      goes : Goes l.fn.caller l.caller;
+      allowance : l.fn.caller.allowance + 2 * vec_len l.passes ≤ l.caller.allowance + 2 * vec_len l.fn.passes;
+    }
 
 abbrev pub decreases-loop-pass : goal.decreases-loop-pass
 decreases-loop-pass g l = vec_len l.passes

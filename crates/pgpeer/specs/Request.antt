@@ -1,0 +1,130 @@
+-- What each list of arguments asks the program for (own).
+use Rattle.std.specs.Prelude.{ℕ, Bool, true, false, ◌&&◌, if◌then◌else◌, List, [], ◌∷◌, map, Option, Some, None, codes}
+use Rattle.std.specs.Option.{option_map}
+use Rattle.std.specs.Result.{result_ok}
+use Rattle.std.specs.Str.{bytes_eq}
+use Rattle.hex.specs.Hex.{decode_of}
+use Rattle.pg_ids.specs.Key.{key_bytes}
+use Rattle.pgpeer.specs.Arguments.{Text, Given, given_by_all, asks_help}
+use Rattle.pgpeer.specs.Numbers.{◌>>=◌, only_one, at_most_one, number_from, peers_of}
+use Rattle.pgpeer.specs.Clients.{eight_bytes, clients_of}
+use Rattle.pgpeer.specs.declared.live_client.LiveClient.{LiveClient}
+use Rattle.pgpeer.specs.declared.command_name.CommandName.{CommandName}
+use Rattle.pgpeer.specs.declared.command_name.CommandName.TheVariants as command
+use Rattle.pgpeer.specs.declared.command_name.FirstArgument.{FirstArgument}
+use Rattle.pgpeer.specs.declared.command_name.FirstArgument.TheVariants as first
+use Rattle.pgpeer.specs.declared.request.Request.{Request as RequestGiven}
+use Rattle.pgpeer.specs.declared.request.Request.TheVariants as request
+use Rattle.pgpeer.specs.declared.decide_request.DecideRequest.{DecideRequest}
+
+-- a node's own number, its peers in order, its clients in order, and the bytes of a first packet
+pub record Decision : Type 0 where
+  pub me : ℕ
+  pub peers : List ℕ
+  pub clients : List LiveClient
+  pub packet : List ℕ
+
+-- a key's parts, by its eight bytes; a decision; whether files make a group; help on a command or on the program; the
+-- program's version
+pub data Asked : Type 0 where
+  Key : (bytes : List ℕ) → Asked
+  Decide : Decision → Asked
+  Check : (files : List Text) → Asked
+  Help : Option CommandName → Asked
+  Version : Asked
+
+-- the command of this name
+unfoldable pub command_named : Text → Option CommandName
+command_named name =
+    if bytes_eq name (codes "key") then Some command.Key
+    else (if bytes_eq name (codes "decide") then Some command.Decide
+    else (if bytes_eq name (codes "check") then Some command.Check
+    else None))
+
+-- what the first argument says: help or the version whatever follows, help on what follows, or a command
+unfoldable pub first_of : Text → Option FirstArgument
+first_of argument =
+    if bytes_eq argument (codes "-h") then Some first.Help
+    else (if bytes_eq argument (codes "--help") then Some first.Help
+    else (if bytes_eq argument (codes "-V") then Some first.Version
+    else (if bytes_eq argument (codes "--version") then Some first.Version
+    else (if bytes_eq argument (codes "help") then Some first.HelpOn
+    else option_map first.Command (command_named argument)))))
+
+-- whether no option is given
+abbrev pub is_none : List Text → Bool
+is_none [] = true
+is_none (text ∷ rest) = false
+
+abbrev pub no_option : Given → Bool
+no_option given = is_none given.me && (is_none given.peers && is_none given.live)
+
+-- `key` wants 16 hexadecimal digits and nothing else
+abbrev pub key_of : List Text → Option Asked
+key_of texts = do
+  digits ← only_one texts
+  bytes ← eight_bytes digits
+  Some (Key bytes)
+
+abbrev pub key_asked : Given → Option Asked
+key_asked given = if no_option given then key_of given.plain else None
+
+-- `check` wants files, one or more, and nothing else
+abbrev pub files_of : List Text → Option Asked
+files_of [] = None
+files_of (file ∷ files) = Some (Check (file ∷ files))
+
+abbrev pub check_asked : Given → Option Asked
+check_asked given = if no_option given then files_of given.plain else None
+
+-- the node's number, its peers, its clients and the packet, by their texts
+abbrev pub decision_of : Text → Option Text → Option Text → Text → Option Decision
+decision_of me_text peers_text live_text packet_text = do
+  me ← number_from 0 16383 me_text
+  peers ← peers_of peers_text
+  clients ← clients_of live_text
+  packet ← result_ok (decode_of packet_text)
+  Some (record { me = me; peers = peers; clients = clients; packet = packet })
+
+-- `decide` wants the node's number once, its peers and its clients at most once, and a packet in hexadecimal digits
+abbrev pub decide_asked : Given → Option Asked
+decide_asked given = do
+  me ← only_one given.me
+  peers ← at_most_one given.peers
+  live ← at_most_one given.live
+  packet ← only_one given.plain
+  option_map Decide (decision_of me peers live packet)
+
+abbrev pub asked_of : CommandName → Given → Option Asked
+asked_of command.Key given = key_asked given
+asked_of command.Decide given = decide_asked given
+asked_of command.Check given = check_asked given
+
+-- help on one command, or on the program
+abbrev pub topic_of : List Text → Option Asked
+topic_of [] = Some (Help None)
+topic_of (name ∷ []) = option_map (λ found. Help (Some found)) (command_named name)
+topic_of (name ∷ another ∷ rest) = None
+
+abbrev pub asked_behind : FirstArgument → List Text → Option Asked
+asked_behind first.Help rest = Some (Help None)
+asked_behind first.Version rest = Some Version
+asked_behind first.HelpOn rest = topic_of rest
+asked_behind (first.Command name) rest =
+    if asks_help rest then Some (Help (Some name)) else (given_by_all rest >>= asked_of name)
+
+-- what arguments ask for, and none where they ask for nothing that there is
+abbrev pub asked : List Text → Option Asked
+asked [] = None
+asked (argument ∷ rest) = first_of argument >>= (λ found. asked_behind found rest)
+
+-- what a request asks for
+abbrev pub decision_in : DecideRequest → Decision
+decision_in given = record { me = given.me; peers = given.peers.items; clients = given.clients.items; packet = given.packet.items }
+
+abbrev pub asked_in : RequestGiven → Asked
+asked_in (request.Key key) = Key (key_bytes key)
+asked_in (request.Decide given) = Decide (decision_in given)
+asked_in (request.Check files) = Check (map (λ file. file.now) files.items)
+asked_in (request.Help topic) = Help topic
+asked_in request.Version = Version
