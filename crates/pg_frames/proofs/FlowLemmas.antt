@@ -1,6 +1,6 @@
 -- Frames that are handed out in pieces: heads, and what is kept, step by step.
-use Rattle.std.proofs.Common.{◌≡◌, ℕ, ◌+◌, ◌*◌, ◌/◌, ◌%◌, ◌-◌, ◌<◌, ◌≤◌, ◌==◌, true, false, IsTrue, is_some, Result, Ok, Err, List, [], ◌∷◌, ◌++◌, length, take, drop, get_or, map, Option, Some, None, ◌⊎◌, inl, inr, refl, sym, ap, ◌∙◌, subst, arith, unwrap_or, append_assoc, append-nil, length-append, take-append-drop}
-use Rattle.std.proofs.lemmas.List.{nil_from_length, drop_all, drop-append-le, length-take-le, length-drop, map-append}
+use Rattle.std.proofs.Common.{◌≡◌, ℕ, ◌+◌, ◌-◌, ◌<◌, ◌==◌, true, false, IsTrue, is_some, List, [], ◌∷◌, ◌++◌, length, take, drop, map, Option, Some, None, inl, inr, refl, sym, ap, ◌∙◌, subst, arith, unwrap_or, append_assoc, append-nil, length-append, take-append-drop}
+use Rattle.std.proofs.lemmas.List.{nil_from_length, drop_all, drop-append-le, length-take-le, map-append}
 use Rattle.std.proofs.lemmas.List.Concat.{flat_map-append}
 use Rattle.std.proofs.lemmas.Bool.{cases_lt, false≢true, eqb-true}
 use Rattle.std.specs.List.{AllByRecursion, flat_map}
@@ -14,31 +14,31 @@ use Rattle.pg_frames.specs.declared.parts.OwnedPiece.TheVariants.{Head, Part, Ta
 use Rattle.pg_frames.specs.FrameText.{text, texts, IsFrame, BeginsNoFrame, Cuts, fault_at, HasFault}
 use Rattle.std.specs.Result.{result_err}
 use Rattle.pg_frames.specs.Passage.{Passage, after, fed, start, answer_of, IsHead, head_text, BeginsNoHead, HasNoNext, Hands}
-use Rattle.pg_frames.specs.Parts.{owned_of, ArePartsOf, AreWhole, IsBegun, AreOfRest, HandsOut, IsOpen, SoFar, Drained}
-use Rattle.pg_frames.proofs.TextLemmas.{IsBytes, fault_at_header, is_no_type, is_short, is_low, is_high, is_good, front_is, fault_at_type, fault_at_low, fault_at_high, no_frame-part, no_frame-short}
+use Rattle.pg_frames.specs.Parts.{owned_of, ArePartsOf, AreWhole, AreOfRest, HandsOut, IsOpen, SoFar, Drained}
+use Rattle.pg_frames.proofs.TextLemmas.{IsBytes, fault_at_header, is_no_type, is_short, is_low, is_high, is_good, front_is, fault_at_type, fault_at_low, fault_at_high, no_frame-part, no_frame-short, text_is, head_front}
 use Rattle.pg_frames.proofs.CutLemmas.{texts-append, each-append, cuts_after, cuts_none, cuts_once, fault_once, fault_at-more, cuts-fault, fault_at_nothing, some_fault}
 
 -- what stands in the length field of a head
-pub head_number : (kind size : ℕ) (more : List ℕ) → IsHead kind size → big_number 4 (drop 1 (head_text kind size ++ more)) ≡ size
+pub head_number : (kind size : ℕ) (more : List ℕ) → IsHead kind size
+    → big_number 4 (drop 1 (head_text kind size ++ more)) ≡ size
 head_number kind size more is = omega (arith, is.high)
 
 -- no fault stands at a head of the format
-pub head_fault : (kind size : ℕ) (more : List ℕ) → IsHead kind size → fault_at (head_text kind size ++ more) ≡ None
-head_fault kind size more is = fault_at_header kind _ is.type_byte (omega arith) (omega (arith, is.low, is.high)) (omega (arith, is.high))
+pub head_fault : (kind size : ℕ) (more : List ℕ) → IsHead kind size
+    → fault_at (head_text kind size ++ more) ≡ None
+head_fault kind size more is =
+    fault_at_header kind _ is.type_byte (omega arith) (omega (arith, is.low, is.high))
+    (omega (arith, is.high))
 
 -- where a fault stands, no head does
-pub no_head-fault : (bytes : List ℕ) (fault : FrameError) → fault_at bytes ≡ Some fault → BeginsNoHead bytes
+pub no_head-fault : (bytes : List ℕ) (fault : FrameError) → fault_at bytes ≡ Some fault
+    → BeginsNoHead bytes
 no_head-fault bytes fault stands kind size more is e =
     some_fault fault (sym (ap fault_at e ∙ head_fault kind size more is) ∙ stands)
 
 -- nor in fewer bytes than it takes
 pub no_head-short : (bytes : List ℕ) → length bytes < 5 → BeginsNoHead bytes
 no_head-short bytes short kind size more is e = omega (arith, ap length e)
-
--- a frame's text is a head and the body
-text_is : (f : Frame) (more : List ℕ) → text f ++ more ≡ head_text f.kind (4 + length f.body) ++ (f.body ++ more)
-unfolding text
-text_is f more = refl
 
 frame_head : (f : Frame) → IsFrame f → IsHead f.kind (4 + length f.body)
 frame_head f is = record { type_byte = is.type_byte; low = omega arith; high = is.size }
@@ -48,52 +48,49 @@ pub no_frame-no_head : (bytes : List ℕ) → BeginsNoHead bytes → BeginsNoFra
 no_frame-no_head bytes none f more is e =
     none f.kind (4 + length f.body) (f.body ++ more) (frame_head f is) (e ∙ text_is f more)
 
--- the head that stands at the front
-head_front_of : (k b3 b2 b1 b0 : ℕ) (rest : List ℕ) (size : ℕ) → b3 < 256 → b2 < 256 → b1 < 256 → b0 < 256 → size ≡ b3 * 16777216 + (b2 * 65536 + (b1 * 256 + b0)) → k ∷ b3 ∷ b2 ∷ b1 ∷ b0 ∷ rest ≡ head_text k size ++ rest
-head_front_of k b3 b2 b1 b0 rest size f3 f2 f1 f0 number =
-    let c3 : b3 ≡ size / 16777216 % 256 = omega arith in
-    let c2 : b2 ≡ size / 65536 % 256 = omega arith in
-    let c1 : b1 ≡ size / 256 % 256 = omega arith in
-    let c0 : b0 ≡ size % 256 = omega arith in
-    cc
-
-pub head_front : (bytes : List ℕ) (size : ℕ) → IsBytes bytes → 5 ≤ length bytes → size ≡ big_number 4 (drop 1 bytes) → bytes ≡ head_text (get_or bytes 0 0) size ++ drop 5 bytes
-head_front [] size small fits number = absurd (omega arith)
-head_front (k ∷ []) size small fits number = absurd (omega arith)
-head_front (k ∷ b3 ∷ []) size small fits number = absurd (omega arith)
-head_front (k ∷ b3 ∷ b2 ∷ []) size small fits number = absurd (omega arith)
-head_front (k ∷ b3 ∷ b2 ∷ b1 ∷ []) size small fits number = absurd (omega arith)
-head_front (k ∷ b3 ∷ b2 ∷ b1 ∷ b0 ∷ rest) size small fits number =
-    head_front_of k b3 b2 b1 b0 rest size (small 1) (small 2) (small 3) (small 4) (omega arith)
-
 -- where no head and no fault stands, few bytes do
-pub few_left : (bytes : List ℕ) → IsBytes bytes → BeginsNoHead bytes → fault_at bytes ≡ None → length bytes < 5
+pub few_left : (bytes : List ℕ) → IsBytes bytes → BeginsNoHead bytes → fault_at bytes ≡ None
+    → length bytes < 5
 few_left [] small none stands = omega arith
 few_left (kind ∷ more) small none stands =
     elim (front_is kind more) [
       | is_no_type is ↦ absurd (some_fault _ (sym stands ∙ fault_at_type kind more is))
       | is_short is few ↦ omega arith
-      | is_low is whole few ↦ absurd (some_fault _ (sym stands ∙ fault_at_low kind more is whole few))
-      | is_high is whole many ↦ absurd (some_fault _ (sym stands ∙ fault_at_high kind more is whole many))
-      | is_good is whole enough fits ↦ absurd (none kind (big_number 4 more) _ (record { type_byte = is; low = enough; high = fits }) (head_front (kind ∷ more) _ small (omega arith) refl))
+      | is_low is whole few ↦ absurd
+          (some_fault _ (sym stands ∙ fault_at_low kind more is whole few))
+      | is_high is whole many ↦ absurd
+          (some_fault _ (sym stands ∙ fault_at_high kind more is whole many))
+      | is_good is whole enough fits ↦ absurd
+          (none kind (big_number 4 more) _ (record { type_byte = is; low = enough; high = fits })
+          (head_front (kind ∷ more) _ small (omega arith) refl))
     ]
 
 -- the fault of a stream that begins with no frame
-pub fault_here : (stream : List ℕ) (fault : Option FrameError) → BeginsNoFrame stream → HasFault stream fault → fault ≡ fault_at stream
+pub fault_here : (stream : List ℕ) (fault : Option FrameError) → BeginsNoFrame stream
+    → HasFault stream fault → fault ≡ fault_at stream
 fault_here stream fault none has =
-    fault_once stream fault (fault_at stream) has (record { frames = []; rest = stream; cuts = cuts_none stream none; stands = refl })
+    fault_once stream fault (fault_at stream) has
+    (record { frames = []; rest = stream; cuts = cuts_none stream none; stands = refl })
 
 pub has_none : HasFault [] None
-has_none = record { frames = []; rest = []; cuts = cuts_none [] (no_frame-short [] (omega arith)); stands = fault_at_nothing }
+has_none =
+    record {
+      frames = [];
+      rest = [];
+      cuts = cuts_none [] (no_frame-short [] (omega arith));
+      stands = fault_at_nothing;
+    }
 
 -- a fault that stands is found again, whatever is fed
-pub fault_stays : (passage : Passage) (piece : List ℕ) (fault : FrameError) → HasFault (after passage) (Some fault) → HasFault (after (fed passage piece)) (Some fault)
+pub fault_stays : (passage : Passage) (piece : List ℕ) (fault : FrameError)
+    → HasFault (after passage) (Some fault) → HasFault (after (fed passage piece)) (Some fault)
 fault_stays passage piece fault has =
     let body = unwrap_or passage.left 0 in
     elim (cases_lt (length passage.bytes) body) [
       | inl beyond ↦
           let none : drop body passage.bytes ≡ [] = drop_all body passage.bytes (omega arith) in
-          absurd (some_fault fault (fault_once [] None (Some fault) has_none (subst (λ (xs : List ℕ). HasFault xs (Some fault)) none has)))
+          absurd (some_fault fault (fault_once [] None (Some fault) has_none
+          (subst (λ (xs : List ℕ). HasFault xs (Some fault)) none has)))
       | inr within ↦
           let more : HasFault (after passage ++ piece) (Some fault) = record {
             frames = has.frames;
@@ -101,148 +98,204 @@ fault_stays passage piece fault has =
             cuts = cuts-fault (after passage) piece has.frames has.rest fault has.cuts has.stands;
             stands = fault_at-more has.rest piece fault has.stands;
           } in
-          subst (λ (xs : List ℕ). HasFault xs (Some fault)) (sym (drop-append-le body passage.bytes piece within)) more
+          subst (λ (xs : List ℕ). HasFault xs (Some fault))
+          (sym (drop-append-le body passage.bytes piece within)) more
     ]
 
 -- where nothing can be handed out and no fault stands, few bytes are kept
-pub few_kept : (left : Option ℕ) (bytes : List ℕ) → IsBytes bytes → HasNoNext left bytes → HasFault (drop (unwrap_or left 0) bytes) None → length bytes < 5
-few_kept None bytes small none has = few_left bytes small none (sym (fault_here bytes None (no_frame-no_head bytes none) has))
+pub few_kept : (left : Option ℕ) (bytes : List ℕ) → IsBytes bytes → HasNoNext left bytes
+    → HasFault (drop (unwrap_or left 0) bytes) None → length bytes < 5
+few_kept None bytes small none has =
+    few_left bytes small none (sym (fault_here bytes None (no_frame-no_head bytes none) has))
 few_kept (Some left) bytes small none has = omega (arith, ap length none.1)
 
 -- the pieces of whole frames, one list after another
-AreWhole-append : (fs gs : List Frame) (a b : List OwnedPiece) → AreWhole fs a → AreWhole gs b → AreWhole (fs ++ gs) (a ++ b)
+AreWhole-append : (fs gs : List Frame) (a b : List OwnedPiece) → AreWhole fs a → AreWhole gs b
+    → AreWhole (fs ++ gs) (a ++ b)
 AreWhole-append [] gs a b p q = subst (AreWhole gs) (ap (λ xs. xs ++ b) (sym p)) q
 AreWhole-append (f ∷ fs) gs a b p q =
     let parts = map Part p.0 in (
       p.0,
       p.1 ++ b,
       p.2,
-      ap (λ xs. xs ++ b) p.3 ∙ ap (λ xs. Head f.kind (4 + length f.body) ∷ xs) (append_assoc parts (Tail ∷ p.1) b),
+      ap (λ xs. xs ++ b) p.3
+          ∙ ap (λ xs. Head f.kind (4 + length f.body) ∷ xs) (append_assoc parts (Tail ∷ p.1) b),
       AreWhole-append fs gs p.1 b p.4 q,
     )
 
+-- the same whole frames were handed out, and this of the next
+so_far_on : (stream stream' : List ℕ) (pieces pieces' begun : List OwnedPiece) (opened : List ℕ)
+    (old new : Passage) (so_far : SoFar stream pieces old) → IsOpen new.left opened begun
+    → stream' ≡ texts so_far.frames ++ (opened ++ new.bytes) → pieces' ≡ so_far.whole ++ begun
+    → SoFar stream' pieces' new
+so_far_on stream stream' pieces pieces' begun opened old new so_far is_open stream_is all = record {
+  frames = so_far.frames;
+  whole = so_far.whole;
+  opened = opened;
+  begun = begun;
+  each = so_far.each;
+  are_whole = so_far.are_whole;
+  is_open = is_open;
+  stream_is = stream_is;
+  all = all;
+}
+
 -- the head that is handed out
-so_far_head : (stream : List ℕ) (pieces : List OwnedPiece) (old new : Passage) (kind size : ℕ) → SoFar stream pieces old → Hands old (Some (lent.Head kind size)) new → SoFar stream (pieces ++ Head kind size ∷ []) new
+so_far_head : (stream : List ℕ) (pieces : List OwnedPiece) (old new : Passage) (kind size : ℕ)
+    → SoFar stream pieces old → Hands old (Some (lent.Head kind size)) new
+    → SoFar stream (pieces ++ Head kind size ∷ []) new
 so_far_head stream pieces old new kind size so_far hands =
-    let closed : (so_far.opened ≡ []) × (so_far.begun ≡ []) = subst (λ (l : Option ℕ). IsOpen l so_far.opened so_far.begun) hands.0 so_far.is_open in
+    let closed : (so_far.opened ≡ []) × (so_far.begun ≡ []) =
+    subst (λ (l : Option ℕ). IsOpen l so_far.opened so_far.begun) hands.0 so_far.is_open in
     let opened : IsOpen (Some (size - 4)) (head_text kind size) (Head kind size ∷ []) = (
       kind,
       size,
       [],
       refl,
-      record { head = hands.1; parts = []; are_parts = record { each = tt; whole = refl }; pieces_are = refl },
+      record {
+        head = hands.1;
+        parts = [];
+        are_parts = record { each = tt; whole = refl };
+        pieces_are = refl;
+      },
       omega (arith, hands.1.low),
     ) in
-    record {
-      frames = so_far.frames;
-      whole = so_far.whole;
-      opened = head_text kind size;
-      begun = Head kind size ∷ [];
-      each = so_far.each;
-      are_whole = so_far.are_whole;
-      is_open = subst (λ (l : Option ℕ). IsOpen l (head_text kind size) (Head kind size ∷ [])) (sym hands.3) opened;
-      stream_is = so_far.stream_is ∙ ap (λ xs. texts so_far.frames ++ (xs ++ old.bytes)) closed.0 ∙ ap (λ xs. texts so_far.frames ++ xs) hands.2;
-      all = ap (λ xs. xs ++ Head kind size ∷ []) (so_far.all ∙ ap (λ xs. so_far.whole ++ xs) closed.1 ∙ append-nil so_far.whole);
-    }
+    so_far_on stream stream pieces _ (Head kind size ∷ []) (head_text kind size) old new so_far
+    (subst (λ (l : Option ℕ). IsOpen l (head_text kind size) (Head kind size ∷ [])) (sym hands.3)
+    opened)
+    (so_far.stream_is ∙ ap (λ xs. texts so_far.frames ++ (xs ++ old.bytes)) closed.0
+    ∙ ap (λ xs. texts so_far.frames ++ xs) hands.2)
+    (ap (λ xs. xs ++ Head kind size ∷ [])
+    (so_far.all ∙ ap (λ xs. so_far.whole ++ xs) closed.1 ∙ append-nil so_far.whole))
 
 -- parts, and one more
-parts_more : (body part : List ℕ) (parts : List (List ℕ)) → ArePartsOf body parts → 0 < length part → ArePartsOf (body ++ part) (parts ++ part ∷ [])
+parts_more : (body part : List ℕ) (parts : List (List ℕ)) → ArePartsOf body parts → 0 < length part
+    → ArePartsOf (body ++ part) (parts ++ part ∷ [])
 parts_more body part parts are some =
     let one : flat_map (λ p. p) (part ∷ []) ≡ part = append-nil part in
     record {
       each = each_more parts part are.each some;
-      whole = ap (λ xs. xs ++ part) are.whole ∙ ap (λ xs. flat_map (λ p. p) parts ++ xs) (sym one) ∙ sym (flat_map-append (λ p. p) parts (part ∷ []));
+      whole = ap (λ xs. xs ++ part) are.whole ∙ ap (λ xs. flat_map (λ p. p) parts ++ xs) (sym one)
+          ∙ sym (flat_map-append (λ p. p) parts (part ∷ []));
     }
   where
-    each_more : (ps : List (List ℕ)) (p : List ℕ) → AllByRecursion (λ q. 0 < length q) ps → 0 < length p → AllByRecursion (λ q. 0 < length q) (ps ++ p ∷ [])
+    each_more : (ps : List (List ℕ)) (p : List ℕ) → AllByRecursion (λ q. 0 < length q) ps
+        → 0 < length p → AllByRecursion (λ q. 0 < length q) (ps ++ p ∷ [])
     each_more [] p all one = (one, tt)
     each_more (q ∷ ps) p all one = (all.0, each_more ps p all.1 one)
 
 -- the part that is handed out
-so_far_part : (stream : List ℕ) (pieces : List OwnedPiece) (old new : Passage) (part : List ℕ) (more : ℕ) → SoFar stream pieces old → 0 < length part → old.left ≡ Some (length part + more) → old.bytes ≡ part ++ new.bytes → new.left ≡ Some more → SoFar stream (pieces ++ Part part ∷ []) new
+so_far_part : (stream : List ℕ) (pieces : List OwnedPiece) (old new : Passage) (part : List ℕ)
+    (more : ℕ) → SoFar stream pieces old → 0 < length part → old.left ≡ Some (length part + more)
+    → old.bytes ≡ part ++ new.bytes → new.left ≡ Some more
+    → SoFar stream (pieces ++ Part part ∷ []) new
 so_far_part stream pieces old new part more so_far some left_is bytes_are left_then =
-    let was : IsOpen (Some (length part + more)) so_far.opened so_far.begun = subst (λ (l : Option ℕ). IsOpen l so_far.opened so_far.begun) left_is so_far.is_open in
+    let was : IsOpen (Some (length part + more)) so_far.opened so_far.begun =
+    subst (λ (l : Option ℕ). IsOpen l so_far.opened so_far.begun) left_is so_far.is_open in
     let kind = was.0 in
     let size = was.1 in
     let body = was.2 in
     let begun = was.4 in
-    let added : so_far.begun ++ Part part ∷ [] ≡ Head kind size ∷ map Part (begun.parts ++ part ∷ []) = ap (λ xs. xs ++ Part part ∷ []) begun.pieces_are ∙ ap (λ xs. Head kind size ∷ xs) (sym (map-append Part begun.parts (part ∷ []))) in
+    let added : so_far.begun ++ Part part ∷ [] ≡ Head kind size ∷ map Part
+    (begun.parts ++ part ∷ []) = ap (λ xs. xs ++ Part part ∷ []) begun.pieces_are
+    ∙ ap (λ xs. Head kind size ∷ xs) (sym (map-append Part begun.parts (part ∷ []))) in
     let opened : IsOpen (Some more) (so_far.opened ++ part) (so_far.begun ++ Part part ∷ []) = (
       kind,
       size,
       body ++ part,
       ap (λ xs. xs ++ part) was.3 ∙ append_assoc (head_text kind size) body part,
-      record { head = begun.head; parts = begun.parts ++ part ∷ []; are_parts = parts_more body part begun.parts begun.are_parts some; pieces_are = added },
+      record {
+        head = begun.head;
+        parts = begun.parts ++ part ∷ [];
+        are_parts = parts_more body part begun.parts begun.are_parts some;
+        pieces_are = added;
+      },
       omega (arith, was.5, length-append body part),
     ) in
-    record {
-      frames = so_far.frames;
-      whole = so_far.whole;
-      opened = so_far.opened ++ part;
-      begun = so_far.begun ++ Part part ∷ [];
-      each = so_far.each;
-      are_whole = so_far.are_whole;
-      is_open = subst (λ (l : Option ℕ). IsOpen l (so_far.opened ++ part) (so_far.begun ++ Part part ∷ [])) (sym left_then) opened;
-      stream_is = so_far.stream_is ∙ ap (λ xs. texts so_far.frames ++ (so_far.opened ++ xs)) bytes_are ∙ ap (λ xs. texts so_far.frames ++ xs) (sym (append_assoc so_far.opened part new.bytes));
-      all = ap (λ xs. xs ++ Part part ∷ []) so_far.all ∙ append_assoc so_far.whole so_far.begun (Part part ∷ []);
-    }
+    so_far_on stream stream pieces _ (so_far.begun ++ Part part ∷ []) (so_far.opened ++ part) old
+    new so_far
+    (subst (λ (l : Option ℕ). IsOpen l (so_far.opened ++ part) (so_far.begun ++ Part part ∷ []))
+    (sym left_then) opened)
+    (so_far.stream_is ∙ ap (λ xs. texts so_far.frames ++ (so_far.opened ++ xs)) bytes_are
+    ∙ ap (λ xs. texts so_far.frames ++ xs) (sym (append_assoc so_far.opened part new.bytes)))
+    (ap (λ xs. xs ++ Part part ∷ []) so_far.all
+    ∙ append_assoc so_far.whole so_far.begun (Part part ∷ []))
 
 -- the frame whose body is there
 frame_of : ℕ → List ℕ → Frame
 frame_of kind body = record { kind = kind; body = body }
 
 -- the tail that is handed out
-so_far_tail : (stream : List ℕ) (pieces : List OwnedPiece) (old new : Passage) → SoFar stream pieces old → Hands old (Some lent.Tail) new → SoFar stream (pieces ++ Tail ∷ []) new
+so_far_tail : (stream : List ℕ) (pieces : List OwnedPiece) (old new : Passage)
+    → SoFar stream pieces old → Hands old (Some lent.Tail) new
+    → SoFar stream (pieces ++ Tail ∷ []) new
 unfolding frame_of
 so_far_tail stream pieces old new so_far hands =
-    let was : IsOpen (Some 0) so_far.opened so_far.begun = subst (λ (l : Option ℕ). IsOpen l so_far.opened so_far.begun) hands.0 so_far.is_open in
+    let was : IsOpen (Some 0) so_far.opened so_far.begun =
+    subst (λ (l : Option ℕ). IsOpen l so_far.opened so_far.begun) hands.0 so_far.is_open in
     let kind = was.0 in
     let size = was.1 in
     let body = was.2 in
     let begun = was.4 in
     let f = frame_of kind body in
     let sizes : size ≡ 4 + length body = omega (arith, was.5) in
-    let is : IsFrame f = record { type_byte = begun.head.type_byte; size = omega (arith, sizes, begun.head.high) } in
-    let pieces_are : so_far.begun ++ Tail ∷ [] ≡ Head kind (4 + length body) ∷ (map Part begun.parts ++ Tail ∷ []) = ap (λ xs. xs ++ Tail ∷ []) begun.pieces_are ∙ ap (λ n. Head kind n ∷ (map Part begun.parts ++ Tail ∷ [])) sizes in
-    let one : AreWhole (f ∷ []) (so_far.begun ++ Tail ∷ []) = (begun.parts, [], begun.are_parts, pieces_are, refl) in
-    let opened : so_far.opened ++ old.bytes ≡ text f ++ old.bytes = ap (λ xs. xs ++ old.bytes) was.3 ∙ append_assoc (head_text kind size) body old.bytes ∙ ap (λ n. head_text kind n ++ (body ++ old.bytes)) sizes ∙ sym (text_is f old.bytes) in
-    let joined : texts so_far.frames ++ text f ≡ texts (so_far.frames ++ f ∷ []) = ap (λ xs. texts so_far.frames ++ xs) (sym (append-nil (text f))) ∙ sym (texts-append so_far.frames (f ∷ [])) in
+    let is : IsFrame f =
+    record { type_byte = begun.head.type_byte; size = omega (arith, sizes, begun.head.high) } in
+    let pieces_are : so_far.begun ++ Tail ∷ [] ≡ Head kind
+    (4 + length body) ∷ (map Part begun.parts ++ Tail ∷ []) = ap (λ xs. xs ++ Tail ∷ [])
+    begun.pieces_are ∙ ap (λ n. Head kind n ∷ (map Part begun.parts ++ Tail ∷ [])) sizes in
+    let one : AreWhole (f ∷ []) (so_far.begun ++ Tail ∷ []) =
+    (begun.parts, [], begun.are_parts, pieces_are, refl) in
+    let opened : so_far.opened ++ old.bytes ≡ text f ++ old.bytes = ap (λ xs. xs ++ old.bytes) was.3
+    ∙ append_assoc (head_text kind size) body old.bytes
+    ∙ ap (λ n. head_text kind n ++ (body ++ old.bytes)) sizes ∙ sym (text_is f old.bytes) in
+    let joined : texts so_far.frames ++ text f ≡ texts (so_far.frames ++ f ∷ []) =
+    ap (λ xs. texts so_far.frames ++ xs) (sym (append-nil (text f)))
+    ∙ sym (texts-append so_far.frames (f ∷ [])) in
     record {
       frames = so_far.frames ++ f ∷ [];
       whole = so_far.whole ++ (so_far.begun ++ Tail ∷ []);
       opened = [];
       begun = [];
       each = each-append so_far.frames (f ∷ []) so_far.each (is, tt);
-      are_whole = AreWhole-append so_far.frames (f ∷ []) so_far.whole (so_far.begun ++ Tail ∷ []) so_far.are_whole one;
+      are_whole =
+          AreWhole-append so_far.frames (f ∷ []) so_far.whole (so_far.begun ++ Tail ∷ [])
+          so_far.are_whole one;
       is_open = subst (λ (l : Option ℕ). IsOpen l [] []) (sym hands.1) (refl, refl);
-      stream_is = so_far.stream_is ∙ ap (λ xs. texts so_far.frames ++ xs) opened ∙ sym (append_assoc (texts so_far.frames) (text f) old.bytes) ∙ ap (λ xs. xs ++ old.bytes) joined ∙ ap (λ xs. texts (so_far.frames ++ f ∷ []) ++ xs) (sym hands.2);
-      all = ap (λ xs. xs ++ Tail ∷ []) so_far.all ∙ append_assoc so_far.whole so_far.begun (Tail ∷ []) ∙ sym (append-nil (so_far.whole ++ (so_far.begun ++ Tail ∷ [])));
+      stream_is = so_far.stream_is ∙ ap (λ xs. texts so_far.frames ++ xs) opened
+          ∙ sym (append_assoc (texts so_far.frames) (text f) old.bytes)
+          ∙ ap (λ xs. xs ++ old.bytes) joined
+          ∙ ap (λ xs. texts (so_far.frames ++ f ∷ []) ++ xs) (sym hands.2);
+      all = ap (λ xs. xs ++ Tail ∷ []) so_far.all
+          ∙ append_assoc so_far.whole so_far.begun (Tail ∷ [])
+          ∙ sym (append-nil (so_far.whole ++ (so_far.begun ++ Tail ∷ [])));
     }
 
 -- any piece that is handed out
-pub so_far_piece : (stream : List ℕ) (pieces : List OwnedPiece) (old new : Passage) (piece : Piece) → SoFar stream pieces old → Hands old (Some piece) new → SoFar stream (pieces ++ owned_of piece ∷ []) new
-so_far_piece stream pieces old new (lent.Head kind size) so_far hands = so_far_head stream pieces old new kind size so_far hands
-so_far_piece stream pieces old new (lent.Part part) so_far hands = so_far_part stream pieces old new part.now hands.0 so_far hands.1 hands.2 hands.3 hands.4
-so_far_piece stream pieces old new lent.Tail so_far hands = so_far_tail stream pieces old new so_far hands
+pub so_far_piece : (stream : List ℕ) (pieces : List OwnedPiece) (old new : Passage) (piece : Piece)
+    → SoFar stream pieces old → Hands old (Some piece) new
+    → SoFar stream (pieces ++ owned_of piece ∷ []) new
+so_far_piece stream pieces old new (lent.Head kind size) so_far hands =
+    so_far_head stream pieces old new kind size so_far hands
+so_far_piece stream pieces old new (lent.Part part) so_far hands =
+    so_far_part stream pieces old new part.now hands.0 so_far hands.1 hands.2 hands.3 hands.4
+so_far_piece stream pieces old new lent.Tail so_far hands =
+    so_far_tail stream pieces old new so_far hands
 
 -- what is fed
-pub so_far_fed : (stream piece : List ℕ) (pieces : List OwnedPiece) (passage : Passage) → SoFar stream pieces passage → SoFar (stream ++ piece) pieces (fed passage piece)
+pub so_far_fed : (stream piece : List ℕ) (pieces : List OwnedPiece) (passage : Passage)
+    → SoFar stream pieces passage → SoFar (stream ++ piece) pieces (fed passage piece)
 so_far_fed stream piece pieces passage so_far =
-    let bytes = passage.bytes in
-    record {
-      frames = so_far.frames;
-      whole = so_far.whole;
-      opened = so_far.opened;
-      begun = so_far.begun;
-      each = so_far.each;
-      are_whole = so_far.are_whole;
-      is_open = so_far.is_open;
-      stream_is = ap (λ xs. xs ++ piece) so_far.stream_is ∙ append_assoc (texts so_far.frames) (so_far.opened ++ bytes) piece ∙ ap (λ xs. texts so_far.frames ++ xs) (append_assoc so_far.opened bytes piece);
-      all = so_far.all;
-    }
+    so_far_on stream (stream ++ piece) pieces pieces so_far.begun so_far.opened passage
+    (fed passage piece) so_far so_far.is_open
+    (ap (λ xs. xs ++ piece) so_far.stream_is
+    ∙ append_assoc (texts so_far.frames) (so_far.opened ++ passage.bytes) piece
+    ∙ ap (λ xs. texts so_far.frames ++ xs) (append_assoc so_far.opened passage.bytes piece))
+    so_far.all
 
 -- a fault in what follows some frames
-fault_after : (fs : List Frame) (stream : List ℕ) (fault : Option FrameError) → AllByRecursion IsFrame fs → HasFault stream fault → HasFault (texts fs ++ stream) fault
+fault_after : (fs : List Frame) (stream : List ℕ) (fault : Option FrameError)
+    → AllByRecursion IsFrame fs → HasFault stream fault → HasFault (texts fs ++ stream) fault
 fault_after fs stream fault each has = record {
   frames = fs ++ has.frames;
   rest = has.rest;
@@ -251,91 +304,187 @@ fault_after fs stream fault each has = record {
 }
 
 -- a head whose body isn't all there
-begun_none : (kind size : ℕ) (body : List ℕ) → IsHead kind size → 4 + length body < size → BeginsNoFrame (head_text kind size ++ body)
-begun_none kind size body is short = no_frame-part (head_text kind size ++ body) (omega (arith, head_number kind size body is))
+begun_none : (kind size : ℕ) (body : List ℕ) → IsHead kind size → 4 + length body < size
+    → BeginsNoFrame (head_text kind size ++ body)
+begun_none kind size body is short =
+    no_frame-part (head_text kind size ++ body) (omega (arith, head_number kind size body is))
 
 -- the fault in what follows the frame that is being handed out
-opened_fault : (kind size left : ℕ) (body bytes : List ℕ) (fault : Option FrameError) → IsHead kind size → 4 + length body + left ≡ size → HasFault (drop left bytes) fault → HasFault ((head_text kind size ++ body) ++ bytes) fault
+opened_fault : (kind size left : ℕ) (body bytes : List ℕ) (fault : Option FrameError)
+    → IsHead kind size → 4 + length body + left ≡ size → HasFault (drop left bytes) fault
+    → HasFault ((head_text kind size ++ body) ++ bytes) fault
 unfolding frame_of
 opened_fault kind size left body bytes fault is count has =
-    let parts : (head_text kind size ++ body) ++ bytes ≡ head_text kind size ++ (body ++ bytes) = append_assoc (head_text kind size) body bytes in
+    let parts : (head_text kind size ++ body) ++ bytes ≡ head_text kind size ++ (body ++ bytes) =
+    append_assoc (head_text kind size) body bytes in
     elim (cases_lt (length bytes) left) [
       | inl short ↦
-          let none : BeginsNoFrame (head_text kind size ++ (body ++ bytes)) = begun_none kind size (body ++ bytes) is (omega (arith, length-append body bytes)) in
+          let none : BeginsNoFrame (head_text kind size ++ (body ++ bytes)) =
+          begun_none kind size (body ++ bytes) is (omega (arith, length-append body bytes)) in
           let nothing : drop left bytes ≡ [] = drop_all left bytes (omega arith) in
-          let fault_is : None ≡ fault = fault_once [] None fault has_none (subst (λ (xs : List ℕ). HasFault xs fault) nothing has) in
-          let here : HasFault (head_text kind size ++ (body ++ bytes)) None = record { frames = []; rest = head_text kind size ++ (body ++ bytes); cuts = cuts_none _ none; stands = head_fault kind size (body ++ bytes) is } in
-          subst (λ (x : Option FrameError). HasFault ((head_text kind size ++ body) ++ bytes) x) fault_is (subst (λ (xs : List ℕ). HasFault xs None) (sym parts) here)
+          let fault_is : None ≡ fault =
+          fault_once [] None fault has_none
+          (subst (λ (xs : List ℕ). HasFault xs fault) nothing has) in
+          let here : HasFault (head_text kind size ++ (body ++ bytes)) None =
+          record {
+            frames = [];
+            rest = head_text kind size ++ (body ++ bytes);
+            cuts = cuts_none
+                _ none;
+            stands = head_fault kind size (body ++ bytes) is;
+          } in
+          subst (λ (x : Option FrameError). HasFault ((head_text kind size ++ body) ++ bytes) x)
+          fault_is (subst (λ (xs : List ℕ). HasFault xs None) (sym parts) here)
       | inr enough ↦
           let rest = take left bytes in
           let f = frame_of kind (body ++ rest) in
-          let len : length (body ++ rest) ≡ length body + left = omega (arith, length-append body rest, length-take-le left bytes enough) in
+          let len : length (body ++ rest) ≡ length body + left =
+          omega (arith, length-append body rest, length-take-le left bytes enough) in
           let sizes : size ≡ 4 + length (body ++ rest) = omega (arith, len) in
-          let frame_is : IsFrame f = record { type_byte = is.type_byte; size = omega (arith, sizes, is.high) } in
-          let bodies : body ++ bytes ≡ (body ++ rest) ++ drop left bytes = ap (λ xs. body ++ xs) (sym (take-append-drop left bytes)) ∙ sym (append_assoc body rest (drop left bytes)) in
-          let whole : (head_text kind size ++ body) ++ bytes ≡ text f ++ drop left bytes = parts ∙ ap (λ xs. head_text kind size ++ xs) bodies ∙ ap (λ n. head_text kind n ++ ((body ++ rest) ++ drop left bytes)) sizes ∙ sym (text_is f (drop left bytes)) in
-          let behind : HasFault (texts (f ∷ []) ++ drop left bytes) fault = fault_after (f ∷ []) (drop left bytes) fault (frame_is, tt) has in
+          let frame_is : IsFrame f =
+          record { type_byte = is.type_byte; size = omega (arith, sizes, is.high) } in
+          let bodies : body ++ bytes ≡ (body ++ rest) ++ drop left bytes =
+          ap (λ xs. body ++ xs) (sym (take-append-drop left bytes))
+          ∙ sym (append_assoc body rest (drop left bytes)) in
+          let whole : (head_text kind size ++ body) ++ bytes ≡ text f ++ drop left bytes = parts
+          ∙ ap (λ xs. head_text kind size ++ xs) bodies
+          ∙ ap (λ n. head_text kind n ++ ((body ++ rest) ++ drop left bytes)) sizes
+          ∙ sym (text_is f (drop left bytes)) in
+          let behind : HasFault (texts (f ∷ []) ++ drop left bytes) fault =
+          fault_after (f ∷ []) (drop left bytes) fault (frame_is, tt) has in
           let one : texts (f ∷ []) ≡ text f = append-nil (text f) in
-          subst (λ (xs : List ℕ). HasFault xs fault) (ap (λ xs. xs ++ drop left bytes) one ∙ sym whole) behind
+          subst (λ (xs : List ℕ). HasFault xs fault)
+          (ap (λ xs. xs ++ drop left bytes) one ∙ sym whole) behind
     ]
 
 -- the fault in a stream is the one in what is kept of it
-open_fault : (left : Option ℕ) (opened bytes : List ℕ) (begun : List OwnedPiece) (fault : Option FrameError) → IsOpen left opened begun → HasFault (drop (unwrap_or left 0) bytes) fault → HasFault (opened ++ bytes) fault
-open_fault None opened bytes begun fault open_ has = subst (λ (xs : List ℕ). HasFault (xs ++ bytes) fault) (sym open_.0) has
+open_fault : (left : Option ℕ) (opened bytes : List ℕ) (begun : List OwnedPiece)
+    (fault : Option FrameError) → IsOpen left opened begun
+    → HasFault (drop (unwrap_or left 0) bytes) fault → HasFault (opened ++ bytes) fault
+open_fault None opened bytes begun fault open_ has =
+    subst (λ (xs : List ℕ). HasFault (xs ++ bytes) fault) (sym open_.0) has
 open_fault (Some left) opened bytes begun fault open_ has =
-    subst (λ (xs : List ℕ). HasFault (xs ++ bytes) fault) (sym open_.3) (opened_fault open_.0 open_.1 left open_.2 bytes fault open_.4.head open_.5 has)
+    subst (λ (xs : List ℕ). HasFault (xs ++ bytes) fault) (sym open_.3)
+    (opened_fault open_.0 open_.1 left open_.2 bytes fault open_.4.head open_.5 has)
 
-pub so_far_fault : (stream : List ℕ) (pieces : List OwnedPiece) (passage : Passage) (fault : Option FrameError) → SoFar stream pieces passage → HasFault (after passage) fault → HasFault stream fault
+pub so_far_fault : (stream : List ℕ) (pieces : List OwnedPiece) (passage : Passage)
+    (fault : Option FrameError) → SoFar stream pieces passage → HasFault (after passage) fault
+    → HasFault stream fault
 so_far_fault stream pieces passage fault so_far has =
     subst (λ (xs : List ℕ). HasFault xs fault) (sym so_far.stream_is)
-    (fault_after so_far.frames (so_far.opened ++ passage.bytes) fault so_far.each (open_fault passage.left so_far.opened passage.bytes so_far.begun fault so_far.is_open has))
+    (fault_after so_far.frames (so_far.opened ++ passage.bytes) fault so_far.each
+    (open_fault passage.left so_far.opened passage.bytes so_far.begun fault so_far.is_open has))
 
 -- where nothing more can be handed out, the rest is what was begun
-rest_is : (left : Option ℕ) (opened bytes : List ℕ) (begun : List OwnedPiece) → IsOpen left opened begun → HasNoNext left bytes → BeginsNoFrame (opened ++ bytes) × AreOfRest (opened ++ bytes) begun
+rest_is : (left : Option ℕ) (opened bytes : List ℕ) (begun : List OwnedPiece)
+    → IsOpen left opened begun → HasNoNext left bytes → BeginsNoFrame (opened ++ bytes)
+    × AreOfRest (opened ++ bytes) begun
 rest_is None opened bytes begun open_ none =
-    subst (λ (xs : List ℕ). BeginsNoFrame (xs ++ bytes) × AreOfRest (xs ++ bytes) begun) (sym open_.0) (no_frame-no_head bytes none, inl (none, open_.1))
+    subst (λ (xs : List ℕ). BeginsNoFrame (xs ++ bytes) × AreOfRest (xs ++ bytes) begun)
+    (sym open_.0) (no_frame-no_head bytes none, inl (none, open_.1))
 rest_is (Some left) opened bytes begun open_ none =
-    let is : opened ++ bytes ≡ head_text open_.0 open_.1 ++ open_.2 = ap (λ xs. opened ++ xs) none.1 ∙ append-nil opened ∙ open_.3 in
-    subst (λ (xs : List ℕ). BeginsNoFrame xs × AreOfRest xs begun) (sym is)
-    (begun_none open_.0 open_.1 open_.2 open_.4.head (omega (arith, none.0, open_.5)), inr (open_.0, open_.1, open_.2, refl, open_.4))
+    let is : opened ++ bytes ≡ head_text open_.0 open_.1 ++ open_.2 =
+    ap (λ xs. opened ++ xs) none.1 ∙ append-nil opened ∙ open_.3 in
+    subst (λ (xs : List ℕ). BeginsNoFrame xs × AreOfRest xs begun) (sym is) (
+      begun_none open_.0 open_.1 open_.2 open_.4.head (omega (arith, none.0, open_.5)),
+      inr
+          (open_.0, open_.1, open_.2, refl, open_.4),
+    )
 
-pub so_far_cut : (stream : List ℕ) (pieces : List OwnedPiece) (passage : Passage) → SoFar stream pieces passage → HasNoNext passage.left passage.bytes → (frames : List Frame) × (rest : List ℕ) × Cuts stream frames rest × HandsOut frames rest pieces
+pub so_far_cut : (stream : List ℕ) (pieces : List OwnedPiece) (passage : Passage)
+    → SoFar stream pieces passage → HasNoNext passage.left passage.bytes → (frames : List Frame)
+    × (rest : List ℕ) × Cuts stream frames rest × HandsOut frames rest pieces
 so_far_cut stream pieces passage so_far none =
     let rest = so_far.opened ++ passage.bytes in
-    let says = rest_is passage.left so_far.opened passage.bytes so_far.begun so_far.is_open none in (
+    let says =
+    rest_is passage.left so_far.opened passage.bytes so_far.begun so_far.is_open none in (
       so_far.frames,
       rest,
       record { whole = so_far.stream_is; each = so_far.each; longest = says.0 },
-      record { whole = so_far.whole; begun = so_far.begun; are_whole = so_far.are_whole; of_rest = says.1; all = so_far.all },
+      record {
+        whole = so_far.whole;
+        begun = so_far.begun;
+        are_whole = so_far.are_whole;
+        of_rest = says.1;
+        all = so_far.all;
+      },
     )
 
 -- what is kept then has some fault, or none
-kept_fault : (left : Option ℕ) (bytes : List ℕ) → HasNoNext left bytes → (fault : Option FrameError) × HasFault (drop (unwrap_or left 0) bytes) fault
-kept_fault None bytes none = (fault_at bytes, record { frames = []; rest = bytes; cuts = cuts_none bytes (no_frame-no_head bytes none); stands = refl })
-kept_fault (Some left) bytes none = (None, subst (λ (xs : List ℕ). HasFault xs None) (sym (drop_all left bytes (omega (arith, ap length none.1, none.0)))) has_none)
+kept_fault : (left : Option ℕ) (bytes : List ℕ) → HasNoNext left bytes → (fault : Option FrameError)
+    × HasFault (drop (unwrap_or left 0) bytes) fault
+kept_fault None bytes none = (
+  fault_at bytes,
+  record {
+    frames = [];
+    rest = bytes;
+    cuts = cuts_none bytes (no_frame-no_head bytes none);
+    stands = refl;
+  },
+)
+kept_fault (Some left) bytes none = (
+  None,
+  subst (λ (xs : List ℕ). HasFault xs None)
+      (sym (drop_all left bytes (omega (arith, ap length none.1, none.0)))) has_none,
+)
 
 -- the fault that was returned is the one that still stands
-pub drained_from : (stream : List ℕ) (pieces : List OwnedPiece) (passage : Passage) (fault : Option FrameError) → SoFar stream pieces passage → HasNoNext passage.left passage.bytes → HasFault stream fault → Drained stream pieces passage fault
+pub drained_from : (stream : List ℕ) (pieces : List OwnedPiece) (passage : Passage)
+    (fault : Option FrameError) → SoFar stream pieces passage → HasNoNext passage.left passage.bytes
+    → HasFault stream fault → Drained stream pieces passage fault
 drained_from stream pieces passage fault so_far none has =
     let kept = kept_fault passage.left passage.bytes none in
-    let same : kept.0 ≡ fault = fault_once stream kept.0 fault (so_far_fault stream pieces passage kept.0 so_far kept.1) has in
-    record { so_far = so_far; still = none; stands = subst (λ (x : Option FrameError). HasFault (after passage) x) same kept.1 }
+    let same : kept.0 ≡ fault =
+    fault_once stream kept.0 fault (so_far_fault stream pieces passage kept.0 so_far kept.1)
+    has in
+    record {
+      so_far = so_far;
+      still = none;
+      stands = subst
+          (λ (x : Option FrameError). HasFault (after passage) x) same kept.1;
+    }
 
-pub drained_start : (pieces : List OwnedPiece) (passage : Passage) → pieces ≡ [] → passage ≡ start → Drained [] pieces passage None
+pub drained_start : (pieces : List OwnedPiece) (passage : Passage) → pieces ≡ [] → passage ≡ start
+    → Drained [] pieces passage None
 drained_start pieces passage none is =
-    let so_far : SoFar [] [] start = record { frames = []; whole = []; opened = []; begun = []; each = tt; are_whole = refl; is_open = (refl, refl); stream_is = refl; all = refl } in
-    let here : Drained [] [] start None = record { so_far = so_far; still = no_head-short [] (omega arith); stands = has_none } in
-    subst (λ (xs : List OwnedPiece). Drained [] xs passage None) (sym none) (subst (λ (p : Passage). Drained [] [] p None) (sym is) here)
+    let so_far : SoFar [] [] start =
+    record {
+      frames = [];
+      whole = [];
+      opened = [];
+      begun = [];
+      each = tt;
+      are_whole = refl;
+      is_open = (refl, refl);
+      stream_is = refl;
+      all = refl;
+    } in
+    let here : Drained [] [] start None =
+    record { so_far = so_far; still = no_head-short [] (omega arith); stands = has_none } in
+    subst (λ (xs : List OwnedPiece). Drained [] xs passage None) (sym none)
+    (subst (λ (p : Passage). Drained [] [] p None) (sym is) here)
 
 -- the pieces of a stream, with the fault
-pub drained_cut : (stream : List ℕ) (pieces : List OwnedPiece) (passage : Passage) (fault : Option FrameError) → Drained stream pieces passage fault → (frames : List Frame) × (rest : List ℕ) × Cuts stream frames rest × HandsOut frames rest pieces × (fault ≡ fault_at rest)
+pub drained_cut : (stream : List ℕ) (pieces : List OwnedPiece) (passage : Passage)
+    (fault : Option FrameError) → Drained stream pieces passage fault → (frames : List Frame)
+    × (rest : List ℕ) × Cuts stream frames rest × HandsOut frames rest pieces
+    × (fault ≡ fault_at rest)
 drained_cut stream pieces passage fault drained =
     let cut = so_far_cut stream pieces passage drained.so_far drained.still in
-    let has : HasFault stream (fault_at cut.1) = record { frames = cut.0; rest = cut.1; cuts = cut.2; stands = refl } in
-    (cut.0, cut.1, cut.2, cut.3, fault_once stream fault (fault_at cut.1) (so_far_fault stream pieces passage fault drained.so_far drained.stands) has)
+    let has : HasFault stream (fault_at cut.1) =
+    record { frames = cut.0; rest = cut.1; cuts = cut.2; stands = refl } in (
+      cut.0,
+      cut.1,
+      cut.2,
+      cut.3,
+      fault_once stream fault (fault_at cut.1)
+          (so_far_fault stream pieces passage fault drained.so_far drained.stands) has,
+    )
 
 -- a fault stays, and no more pieces come, however the stream goes on
-pub hands_out-fault : (frames : List Frame) (rest more : List ℕ) (pieces : List OwnedPiece) (fault : FrameError) → HandsOut frames rest pieces → Some fault ≡ fault_at rest → HandsOut frames (rest ++ more) pieces
+pub hands_out-fault : (frames : List Frame) (rest more : List ℕ) (pieces : List OwnedPiece)
+    (fault : FrameError) → HandsOut frames rest pieces → Some fault ≡ fault_at rest
+    → HandsOut frames (rest ++ more) pieces
 hands_out-fault frames rest more pieces fault hands stands =
     let none = no_head-fault (rest ++ more) fault (fault_at-more rest more fault (sym stands)) in
     record {
@@ -350,22 +499,30 @@ hands_out-fault frames rest more pieces fault hands stands =
     }
 
 -- it is the same for the one cutting
-pub handed_once : (stream : List ℕ) (frames others : List Frame) (rest left : List ℕ) (pieces : List OwnedPiece) (fault : Option FrameError) → Cuts stream frames rest → HandsOut frames rest pieces → fault ≡ fault_at rest → Cuts stream others left → HandsOut others left pieces × (fault_at left ≡ fault)
+pub handed_once : (stream : List ℕ) (frames others : List Frame) (rest left : List ℕ)
+    (pieces : List OwnedPiece) (fault : Option FrameError) → Cuts stream frames rest
+    → HandsOut frames rest pieces → fault ≡ fault_at rest → Cuts stream others left
+    → HandsOut others left pieces × (fault_at left ≡ fault)
 handed_once stream frames others rest left pieces fault cuts hands stands cuts' =
     let one = cuts_once stream frames others rest left cuts cuts' in
-    let there : HandsOut others rest pieces = subst (λ (fs : List Frame). HandsOut fs rest pieces) one.0 hands in (
+    let there : HandsOut others rest pieces =
+    subst (λ (fs : List Frame). HandsOut fs rest pieces) one.0 hands in (
       subst (λ (xs : List ℕ). HandsOut others xs pieces) one.1 there,
       ap fault_at (sym one.1) ∙ sym stands,
     )
 
 -- a stream whose rest has a fault, however it goes on
-pub handed_through : (stream more all : List ℕ) (pieces : List OwnedPiece) (passage : Passage) (fault : Option FrameError) → IsTrue (is_some fault) → Drained stream pieces passage fault → stream ++ more ≡ all → (frames : List Frame) × (rest : List ℕ) × Cuts all frames rest × HandsOut frames rest pieces × (fault ≡ fault_at rest)
+pub handed_through : (stream more all : List ℕ) (pieces : List OwnedPiece) (passage : Passage)
+    (fault : Option FrameError) → IsTrue (is_some fault) → Drained stream pieces passage fault
+    → stream ++ more ≡ all → (frames : List Frame) × (rest : List ℕ) × Cuts all frames rest
+    × HandsOut frames rest pieces × (fault ≡ fault_at rest)
 handed_through stream more all pieces passage None some drained is = absurd (false≢true some)
 handed_through stream more all pieces passage (Some fault) some drained is =
     let cut = drained_cut stream pieces passage (Some fault) drained in (
       cut.0,
       cut.1 ++ more,
-      subst (λ (xs : List ℕ). Cuts xs cut.0 (cut.1 ++ more)) is (cuts-fault stream more cut.0 cut.1 fault cut.2 (sym cut.4)),
+      subst (λ (xs : List ℕ). Cuts xs cut.0 (cut.1 ++ more)) is
+          (cuts-fault stream more cut.0 cut.1 fault cut.2 (sym cut.4)),
       hands_out-fault cut.0 cut.1 more pieces fault cut.3 cut.4,
       sym (fault_at-more cut.1 more fault (sym cut.4)),
     )
@@ -376,25 +533,36 @@ fault_of_answer None = refl
 fault_of_answer (Some fault) = refl
 
 -- a piece of a stream, cut once more
-pub cut_once_more : (whole taken rest front back : List ℕ) (count : ℕ) → whole ≡ taken ++ rest → front ≡ take count rest → back ≡ drop count rest → whole ≡ (taken ++ front) ++ back
+pub cut_once_more : (whole taken rest front back : List ℕ) (count : ℕ) → whole ≡ taken ++ rest
+    → front ≡ take count rest → back ≡ drop count rest → whole ≡ (taken ++ front) ++ back
 cut_once_more whole taken rest front back count is front_is back_is =
-    let parts : rest ≡ front ++ back = sym (ap (λ xs. xs ++ back) front_is ∙ ap (λ xs. take count rest ++ xs) back_is ∙ take-append-drop count rest) in
+    let parts : rest ≡ front ++ back =
+    sym (ap (λ xs. xs ++ back) front_is ∙ ap (λ xs. take count rest ++ xs) back_is
+    ∙ take-append-drop count rest) in
     is ∙ ap (λ xs. taken ++ xs) parts ∙ sym (append_assoc taken front back)
 
 -- a piece more was handed out, as far as it was taken
-pub drained_more : (stream taken front : List ℕ) (pieces : List OwnedPiece) (passage : Passage) (fault : Option FrameError) → Drained ((stream ++ taken) ++ front) pieces passage fault → Drained (stream ++ (taken ++ front)) pieces passage fault
+pub drained_more : (stream taken front : List ℕ) (pieces : List OwnedPiece) (passage : Passage)
+    (fault : Option FrameError) → Drained ((stream ++ taken) ++ front) pieces passage fault
+    → Drained (stream ++ (taken ++ front)) pieces passage fault
 drained_more stream taken front pieces passage fault drained =
-    subst (λ (xs : List ℕ). Drained xs pieces passage fault) (append_assoc stream taken front) drained
+    subst (λ (xs : List ℕ). Drained xs pieces passage fault) (append_assoc stream taken front)
+    drained
 
 -- a stream that was taken in the middle of a piece
-pub rejoined : (before taken left more piece through all : List ℕ) → piece ≡ taken ++ left → through ≡ before ++ piece → through ++ more ≡ all → (before ++ taken) ++ (left ++ more) ≡ all
+pub rejoined : (before taken left more piece through all : List ℕ) → piece ≡ taken ++ left
+    → through ≡ before ++ piece → through ++ more ≡ all → (before ++ taken) ++ (left ++ more) ≡ all
 rejoined before taken left more piece through all is joined whole =
-    append_assoc before taken (left ++ more) ∙ ap (λ xs. before ++ xs) (sym (append_assoc taken left more) ∙ ap (λ xs. xs ++ more) (sym is))
+    append_assoc before taken (left ++ more)
+    ∙ ap (λ xs. before ++ xs)
+    (sym (append_assoc taken left more) ∙ ap (λ xs. xs ++ more) (sym is))
     ∙ sym (append_assoc before piece more) ∙ ap (λ xs. xs ++ more) (sym joined) ∙ whole
 
-pub all_taken : (before taken left piece through : List ℕ) → piece ≡ taken ++ left → left ≡ [] → through ≡ before ++ piece → before ++ taken ≡ through
+pub all_taken : (before taken left piece through : List ℕ) → piece ≡ taken ++ left → left ≡ []
+    → through ≡ before ++ piece → before ++ taken ≡ through
 all_taken before taken left piece through is none joined =
-    ap (λ xs. before ++ xs) (sym (append-nil taken) ∙ ap (λ xs. taken ++ xs) (sym none) ∙ sym is) ∙ sym joined
+    ap (λ xs. before ++ xs) (sym (append-nil taken) ∙ ap (λ xs. taken ++ xs) (sym none) ∙ sym is)
+    ∙ sym joined
 
 pub some_bytes : (xs : List ℕ) → (length xs == 0) ≡ false → 0 < length xs
 some_bytes [] e = absurd (false≢true (sym e))

@@ -1,12 +1,13 @@
 -- The text of a frame tells its type, its length and its body.
-use Rattle.std.proofs.Common.{◌≡◌, ℕ, ◌+◌, ◌*◌, ◌/◌, ◌%◌, ◌<◌, ◌≤◌, true, false, List, [], ◌∷◌, ◌++◌, length, take, drop, get_or, Some, None, inl, inr, refl, sym, ap, ◌∙◌, suc, arith, ltb, length-append, take-append-drop}
+use Rattle.std.proofs.Common.{◌≡◌, ℕ, ◌+◌, ◌*◌, ◌/◌, ◌%◌, ◌<◌, ◌≤◌, true, false, List, [], ◌∷◌, ◌++◌, length, take, drop, get_or, Some, None, inl, inr, refl, sym, ap, ◌∙◌, arith, ltb, length-append, take-append-drop}
 use Rattle.std.proofs.lemmas.Bool.{le-ltb, lt-ltb, cases_lt, cases_Bool}
-use Rattle.std.proofs.lemmas.List.{take_at, drop_at, length-take-le}
+use Rattle.std.proofs.lemmas.List.{take_at, drop_at, drop-drop, length-drop, length-take-le}
 use Rattle.byteorder.specs.Endian.{big_bytes, big_number}
 use Rattle.pg_frames.specs.declared.frame.Frame.{Frame}
 use Rattle.pg_frames.specs.declared.error.FrameError.{FrameError}
 use Rattle.pg_frames.specs.declared.error.FrameError.TheVariants.{BadLength, TooLong, BadType}
 use Rattle.pg_frames.specs.FrameText.{text, is_type, IsFrame, BeginsNoFrame, fault_at}
+use Rattle.pg_frames.specs.Passage.{head_text}
 
 -- each item is a byte
 abbrev pub IsBytes : List ℕ → Type 0
@@ -23,7 +24,8 @@ unfolding text
 length-text f = omega (arith, length-append (big_bytes 4 (4 + length f.body)) f.body)
 
 -- what stands in a text's length field
-pub number-text : (f : Frame) (more : List ℕ) → IsFrame f → big_number 4 (drop 1 (text f ++ more)) ≡ 4 + length f.body
+pub number-text : (f : Frame) (more : List ℕ) → IsFrame f
+    → big_number 4 (drop 1 (text f ++ more)) ≡ 4 + length f.body
 unfolding text
 number-text f more is = omega (arith, is.size)
 
@@ -44,7 +46,8 @@ same_parts a b x y len e = (
 )
 
 -- one text begins a stream at most
-pub same_front : (f g : Frame) (x y : List ℕ) → IsFrame f → IsFrame g → text f ++ x ≡ text g ++ y → (f ≡ g) × (x ≡ y)
+pub same_front : (f g : Frame) (x y : List ℕ) → IsFrame f → IsFrame g → text f ++ x ≡ text g ++ y
+    → (f ≡ g) × (x ≡ y)
 unfolding text
 same_front f g x y is is' e =
     let n = 4 + length f.body in
@@ -60,7 +63,8 @@ same_front f g x y is is' e =
     (same_frame f g kinds parts.0, parts.1)
 
 -- no fault stands at a whole header of the format
-pub fault_at_header : (kind : ℕ) (after : List ℕ) → is_type kind ≡ true → 4 ≤ length after → 4 ≤ big_number 4 after → big_number 4 after ≤ 1048576 → fault_at (kind ∷ after) ≡ None
+pub fault_at_header : (kind : ℕ) (after : List ℕ) → is_type kind ≡ true → 4 ≤ length after
+    → 4 ≤ big_number 4 after → big_number 4 after ≤ 1048576 → fault_at (kind ∷ after) ≡ None
 unfolding fault_at
 fault_at_header kind after is size low high =
     let whole : ltb (length after) 4 ≡ false = le-ltb _ _ size in
@@ -69,24 +73,28 @@ fault_at_header kind after is size low high =
     rw (is, whole, not_low, not_high) refl
 
 -- the faults, each under its own tests
-pub fault_at_type : (kind : ℕ) (after : List ℕ) → is_type kind ≡ false → fault_at (kind ∷ after) ≡ Some BadType
+pub fault_at_type : (kind : ℕ) (after : List ℕ) → is_type kind ≡ false
+    → fault_at (kind ∷ after) ≡ Some BadType
 unfolding fault_at
 fault_at_type kind after is = rw is refl
 
-pub fault_at_short : (kind : ℕ) (after : List ℕ) → is_type kind ≡ true → length after < 4 → fault_at (kind ∷ after) ≡ None
+pub fault_at_short : (kind : ℕ) (after : List ℕ) → is_type kind ≡ true → length after < 4
+    → fault_at (kind ∷ after) ≡ None
 unfolding fault_at
 fault_at_short kind after is short =
     let test : ltb (length after) 4 ≡ true = lt-ltb _ _ short in
     rw (is, test) refl
 
-pub fault_at_low : (kind : ℕ) (after : List ℕ) → is_type kind ≡ true → 4 ≤ length after → big_number 4 after < 4 → fault_at (kind ∷ after) ≡ Some BadLength
+pub fault_at_low : (kind : ℕ) (after : List ℕ) → is_type kind ≡ true → 4 ≤ length after
+    → big_number 4 after < 4 → fault_at (kind ∷ after) ≡ Some BadLength
 unfolding fault_at
 fault_at_low kind after is size low =
     let whole : ltb (length after) 4 ≡ false = le-ltb _ _ size in
     let test : ltb (big_number 4 after) 4 ≡ true = lt-ltb _ _ low in
     rw (is, whole, test) refl
 
-pub fault_at_high : (kind : ℕ) (after : List ℕ) → is_type kind ≡ true → 4 ≤ length after → 1048576 < big_number 4 after → fault_at (kind ∷ after) ≡ Some TooLong
+pub fault_at_high : (kind : ℕ) (after : List ℕ) → is_type kind ≡ true → 4 ≤ length after
+    → 1048576 < big_number 4 after → fault_at (kind ∷ after) ≡ Some TooLong
 unfolding fault_at
 fault_at_high kind after is size high =
     let whole : ltb (length after) 4 ≡ false = le-ltb _ _ size in
@@ -100,7 +108,8 @@ pub data Front (kind : ℕ) (after : List ℕ) : Type 0 where
   is_short : is_type kind ≡ true → length after < 4 → Front kind after
   is_low : is_type kind ≡ true → 4 ≤ length after → big_number 4 after < 4 → Front kind after
   is_high : is_type kind ≡ true → 4 ≤ length after → 1048576 < big_number 4 after → Front kind after
-  is_good : is_type kind ≡ true → 4 ≤ length after → 4 ≤ big_number 4 after → big_number 4 after ≤ 1048576 → Front kind after
+  is_good : is_type kind ≡ true → 4 ≤ length after → 4 ≤ big_number 4 after
+      → big_number 4 after ≤ 1048576 → Front kind after
 
 pub front_is : (kind : ℕ) (after : List ℕ) → Front kind after
 front_is kind after =
@@ -121,10 +130,13 @@ front_is kind after =
 -- no fault stands where a frame's text does
 pub fault_at-text : (f : Frame) (more : List ℕ) → IsFrame f → fault_at (text f ++ more) ≡ None
 unfolding text
-fault_at-text f more is = fault_at_header f.kind _ (is.type_byte) (omega arith) (omega (arith, is.size)) (omega (arith, is.size))
+fault_at-text f more is =
+    fault_at_header f.kind _ (is.type_byte) (omega arith) (omega (arith, is.size))
+    (omega (arith, is.size))
 
 -- where a fault stands, no frame's text does
-pub no_frame-fault : (bytes : List ℕ) (fault : FrameError) → fault_at bytes ≡ Some fault → BeginsNoFrame bytes
+pub no_frame-fault : (bytes : List ℕ) (fault : FrameError) → fault_at bytes ≡ Some fault
+    → BeginsNoFrame bytes
 no_frame-fault bytes fault stands f more is e =
     let none : fault_at bytes ≡ None = ap fault_at e ∙ fault_at-text f more is in cc
 
@@ -134,40 +146,64 @@ no_frame-short bytes short f more is e =
     omega (arith, ap length e, length-append (text f) more, length-text f)
 
 -- fewer bytes than the length field says begin no frame
-pub no_frame-part : (bytes : List ℕ) → length bytes < 1 + big_number 4 (drop 1 bytes) → BeginsNoFrame bytes
+pub no_frame-part : (bytes : List ℕ) → length bytes < 1 + big_number 4 (drop 1 bytes)
+    → BeginsNoFrame bytes
 no_frame-part bytes part f more is e =
-    let number : big_number 4 (drop 1 bytes) ≡ 4 + length f.body = ap (λ xs. big_number 4 (drop 1 xs)) e ∙ number-text f more is in
+    let number : big_number 4 (drop 1 bytes) ≡ 4 + length f.body =
+    ap (λ xs. big_number 4 (drop 1 xs)) e ∙ number-text f more is in
     omega (arith, part, number, ap length e, length-append (text f) more, length-text f)
 
 -- the frame that stands at the front, where the length field says so many bytes
 abbrev pub front_frame : List ℕ → ℕ → Frame
 front_frame bytes size = record { kind = get_or bytes 0 0; body = take size (drop 5 bytes) }
 
--- where a whole header stands, and as many bytes as it says, a text does
-text_front : (k b3 b2 b1 b0 : ℕ) (rest : List ℕ) (size : ℕ) → b3 < 256 → b2 < 256 → b1 < 256 → b0 < 256 → 4 + size ≡ b3 * 16777216 + (b2 * 65536 + (b1 * 256 + b0)) → size ≤ length rest → k ∷ b3 ∷ b2 ∷ b1 ∷ b0 ∷ rest ≡ text (record { kind = k; body = take size rest }) ++ drop size rest
-unfolding text
-text_front k b3 b2 b1 b0 rest size f3 f2 f1 f0 number fits =
-    let len = length-take-le size rest fits in
-    let c3 : b3 ≡ (4 + length (take size rest)) / 16777216 % 256 = omega (arith, len) in
-    let c2 : b2 ≡ (4 + length (take size rest)) / 65536 % 256 = omega (arith, len) in
-    let c1 : b1 ≡ (4 + length (take size rest)) / 256 % 256 = omega (arith, len) in
-    let c0 : b0 ≡ (4 + length (take size rest)) % 256 = omega (arith, len) in
-    let body : rest ≡ take size rest ++ drop size rest = sym (take-append-drop size rest) in
+-- the head that stands at the front
+head_front_of : (k b3 b2 b1 b0 : ℕ) (rest : List ℕ) (size : ℕ) → b3 < 256 → b2 < 256 → b1 < 256
+    → b0 < 256 → size ≡ b3 * 16777216 + (b2 * 65536 + (b1 * 256 + b0))
+    → k ∷ b3 ∷ b2 ∷ b1 ∷ b0 ∷ rest ≡ head_text k size ++ rest
+head_front_of k b3 b2 b1 b0 rest size f3 f2 f1 f0 number =
+    let c3 : b3 ≡ size / 16777216 % 256 = omega arith in
+    let c2 : b2 ≡ size / 65536 % 256 = omega arith in
+    let c1 : b1 ≡ size / 256 % 256 = omega arith in
+    let c0 : b0 ≡ size % 256 = omega arith in
     cc
 
-pub front_text : (bytes : List ℕ) (size : ℕ) → IsBytes bytes → 5 + size ≤ length bytes → 4 + size ≡ big_number 4 (drop 1 bytes) → bytes ≡ text (front_frame bytes size) ++ drop (5 + size) bytes
-front_text [] size small fits number = absurd (omega arith)
-front_text (k ∷ []) size small fits number = absurd (omega arith)
-front_text (k ∷ b3 ∷ []) size small fits number = absurd (omega arith)
-front_text (k ∷ b3 ∷ b2 ∷ []) size small fits number = absurd (omega arith)
-front_text (k ∷ b3 ∷ b2 ∷ b1 ∷ []) size small fits number = absurd (omega arith)
-front_text (k ∷ b3 ∷ b2 ∷ b1 ∷ b0 ∷ rest) size small fits number =
-    let e = text_front k b3 b2 b1 b0 rest size (small 1) (small 2) (small 3) (small 4) (omega arith) (omega arith) in
-    let more : 5 + size ≡ suc (suc (suc (suc (suc size)))) = omega arith in
-    rw more e
+pub head_front : (bytes : List ℕ) (size : ℕ) → IsBytes bytes → 5 ≤ length bytes
+    → size ≡ big_number 4 (drop 1 bytes) → bytes ≡ head_text (get_or bytes 0 0) size ++ drop 5 bytes
+head_front [] size small fits number = absurd (omega arith)
+head_front (k ∷ []) size small fits number = absurd (omega arith)
+head_front (k ∷ b3 ∷ []) size small fits number = absurd (omega arith)
+head_front (k ∷ b3 ∷ b2 ∷ []) size small fits number = absurd (omega arith)
+head_front (k ∷ b3 ∷ b2 ∷ b1 ∷ []) size small fits number = absurd (omega arith)
+head_front (k ∷ b3 ∷ b2 ∷ b1 ∷ b0 ∷ rest) size small fits number =
+    head_front_of k b3 b2 b1 b0 rest size (small 1) (small 2) (small 3) (small 4) (omega arith)
+
+-- a frame's text is a head and the body
+pub text_is : (f : Frame) (more : List ℕ)
+    → text f ++ more ≡ head_text f.kind (4 + length f.body) ++ (f.body ++ more)
+unfolding text
+text_is f more = refl
+
+-- where a whole header stands, and as many bytes as it says, a text does
+pub front_text : (bytes : List ℕ) (size : ℕ) → IsBytes bytes → 5 + size ≤ length bytes
+    → 4 + size ≡ big_number 4 (drop 1 bytes)
+    → bytes ≡ text (front_frame bytes size) ++ drop (5 + size) bytes
+front_text bytes size small fits number =
+    let after = drop 5 bytes in
+    let f = front_frame bytes size in
+    let len : length (take size after) ≡ size =
+    length-take-le size after (omega (arith, length-drop 5 bytes)) in
+    let body : after ≡ take size after ++ drop (5 + size) bytes = sym (take-append-drop size after)
+    ∙ ap (λ xs. take size after ++ xs) (drop-drop size 5 bytes) in
+    head_front bytes (4 + size) small (omega arith) number
+    ∙ ap (λ n. head_text f.kind (4 + n) ++ after) (sym len)
+    ∙ ap (λ xs. head_text f.kind (4 + length f.body) ++ xs) body
+    ∙ sym (text_is f (drop (5 + size) bytes))
 
 -- what the first bytes of a frame's text are
-pub front_reads : (bytes more : List ℕ) (f : Frame) → IsFrame f → bytes ≡ text f ++ more → (get_or bytes 0 0 ≡ f.kind) × (big_number 4 (drop 1 bytes) ≡ 4 + length f.body) × (take (length f.body) (drop 5 bytes) ≡ f.body) × (5 + length f.body ≤ length bytes)
+pub front_reads : (bytes more : List ℕ) (f : Frame) → IsFrame f → bytes ≡ text f ++ more
+    → (get_or bytes 0 0 ≡ f.kind) × (big_number 4 (drop 1 bytes) ≡ 4 + length f.body)
+    × (take (length f.body) (drop 5 bytes) ≡ f.body) × (5 + length f.body ≤ length bytes)
 front_reads bytes more f is e = (
   ap (λ xs. get_or xs 0 0) e ∙ text_kind f more,
   ap (λ xs. big_number 4 (drop 1 xs)) e ∙ number-text f more is,

@@ -1,5 +1,5 @@
--- The text of frames, and the cutting of a stream into frames (PostgreSQL manual, "Messaging Overview" and "Message
--- Formats"; the greatest length field is own).
+-- The text of frames, and the cutting of a stream into frames (PostgreSQL manual, "Messaging
+-- Overview" and "Message Formats"; the greatest length field is own).
 use Rattle.std.specs.Prelude.{ℕ, ◌≡◌, ◌+◌, ◌≤◌, Bool, List, [], ◌∷◌, ◌++◌, length, IsTrue, not, nat_lt, if◌then◌else◌, Option, Some, None, Result, Ok, Err}
 use Rattle.std.specs.List.{AllByRecursion, flat_map}
 use Rattle.std.specs.Char.{is_ascii_alphanumeric}
@@ -8,7 +8,8 @@ use Rattle.pg_frames.specs.declared.frame.Frame.{Frame}
 use Rattle.pg_frames.specs.declared.error.FrameError.{FrameError}
 use Rattle.pg_frames.specs.declared.error.FrameError.TheVariants.{BadLength, TooLong, BadType, Memory}
 
--- the text of a frame: its type byte, its length as Int32, which counts itself and not the type byte, and its body
+-- the text of a frame: its type byte, its length as Int32, which counts itself and not the type
+-- byte, and its body
 unfoldable pub text : Frame → List ℕ
 text frame = frame.kind ∷ (big_bytes 4 (4 + length frame.body) ++ frame.body)
 
@@ -27,7 +28,8 @@ pub record IsFrame (frame : Frame) : Type 0 where
 
 -- no frame's text begins this
 abbrev pub BeginsNoFrame : List ℕ → Type 0
-BeginsNoFrame bytes = (frame : Frame) (more : List ℕ) → IsFrame frame → bytes ≡ text frame ++ more → ⊥
+BeginsNoFrame bytes =
+    (frame : Frame) (more : List ℕ) → IsFrame frame → bytes ≡ text frame ++ more → ⊥
 
 -- a stream is cut into these frames, and no more, and a rest
 pub record Cuts (stream : List ℕ) (frames : List Frame) (rest : List ℕ) : Type 0 where
@@ -35,8 +37,8 @@ pub record Cuts (stream : List ℕ) (frames : List Frame) (rest : List ℕ) : Ty
   pub each : AllByRecursion IsFrame frames
   pub longest : BeginsNoFrame rest
 
--- the fault at the front of a rest, if there is one: the type is judged first, the length as soon as
--- it is whole
+-- the fault at the front of a rest, if there is one: the type is judged first, the length as soon
+-- as it is whole
 unfoldable pub fault_at : List ℕ → Option FrameError
 fault_at [] = None
 fault_at (kind ∷ more) =

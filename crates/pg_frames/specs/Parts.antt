@@ -7,7 +7,7 @@ use Rattle.pg_frames.specs.declared.piece.Piece.{Piece}
 use Rattle.pg_frames.specs.declared.piece.Piece.TheVariants as lent
 use Rattle.pg_frames.specs.declared.parts.OwnedPiece.{OwnedPiece}
 use Rattle.pg_frames.specs.declared.parts.OwnedPiece.TheVariants.{Head, Part, Tail}
-use Rattle.pg_frames.specs.FrameText.{texts, IsFrame, Cuts, HasFault}
+use Rattle.pg_frames.specs.FrameText.{texts, IsFrame, HasFault}
 use Rattle.pg_frames.specs.Passage.{Passage, after, IsHead, head_text, BeginsNoHead, HasNoNext}
 
 -- the same piece as data

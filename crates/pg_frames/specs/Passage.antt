@@ -1,4 +1,5 @@
--- Frames that are handed out in pieces (own; the frames are those of PostgreSQL manual, "Message Formats").
+-- Frames that are handed out in pieces (own; the frames are those of PostgreSQL manual, "Message
+-- Formats").
 use Rattle.std.specs.Prelude.{ℕ, ◌≡◌, ◌+◌, ◌-◌, ◌<◌, ◌≤◌, List, [], ◌∷◌, ◌++◌, length, drop, IsTrue, Option, Some, None, Result, Ok, Err, unwrap_or}
 use Rattle.byteorder.specs.Endian.{big_bytes}
 use Rattle.pg_frames.specs.declared.error.FrameError.{FrameError}
@@ -42,7 +43,8 @@ head_text kind size = kind ∷ big_bytes 4 size
 
 -- no head of the format begins this
 abbrev pub BeginsNoHead : List ℕ → Type 0
-BeginsNoHead bytes = (kind size : ℕ) (more : List ℕ) → IsHead kind size → bytes ≡ head_text kind size ++ more → ⊥
+BeginsNoHead bytes =
+    (kind size : ℕ) (more : List ℕ) → IsHead kind size → bytes ≡ head_text kind size ++ more → ⊥
 
 -- nothing is there to be handed out
 abbrev pub HasNoNext : Option ℕ → List ℕ → Type 0
@@ -58,7 +60,9 @@ pub record BeginsWith (bytes : List ℕ) (header : Header) : Type 0 where
 abbrev pub Hands : Passage → Option Piece → Passage → Type 0
 Hands old None new = (new ≡ old) × HasNoNext old.left old.bytes
 Hands old (Some (Head kind size)) new =
-    (old.left ≡ None) × IsHead kind size × (old.bytes ≡ head_text kind size ++ new.bytes) × (new.left ≡ Some (size - 4))
-Hands old (Some (Part part)) new = (more : ℕ) × (0 < length part.now) × (old.left ≡ Some (length part.now + more))
+    (old.left ≡ None) × IsHead kind size × (old.bytes ≡ head_text kind size ++ new.bytes)
+    × (new.left ≡ Some (size - 4))
+Hands old (Some (Part part)) new =
+    (more : ℕ) × (0 < length part.now) × (old.left ≡ Some (length part.now + more))
     × (old.bytes ≡ part.now ++ new.bytes) × (new.left ≡ Some more)
 Hands old (Some Tail) new = (old.left ≡ Some 0) × (new.left ≡ None) × (new.bytes ≡ old.bytes)

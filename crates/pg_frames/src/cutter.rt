@@ -44,8 +44,8 @@ impl Cutter {
         }
     }
 
-    /// Takes the next piece of the stream. Frames before a fault are handed out all the same. Once a fault was
-    /// returned, it is returned from then on, and nothing more is taken.
+    /// Takes the next piece of the stream. Frames before a fault are handed out all the same. Once
+    /// a fault was returned, it is returned from then on, and nothing more is taken.
     pub fn feed(&mut self, piece: &[u8]) -> Result<(), FrameError>
         // The fault is the one at the front of the rest of what was fed, unless memory runs out.
         ensures judged { IsJudged (self.old ++ piece.now) result }

@@ -9,16 +9,16 @@ use thiserror::Error;
 pub enum FrameError {
     /// A length field below 4: it counts itself.
     #[error("a length field below 4")]
-    BadLength,
+    BadLength = 10,
     /// A length field above 1,048,576.
     #[error("a length field above 1048576")]
-    TooLong,
+    TooLong = 11,
     /// A type byte that is no ASCII letter or digit. It is judged before the length.
     #[error("a type byte that is no letter or digit")]
-    BadType,
+    BadType = 12,
     /// Out of memory.
     #[error("out of memory")]
-    Memory,
+    Memory = 13,
 }
 
 impl FrameError {
@@ -26,11 +26,6 @@ impl FrameError {
     pub const fn number(self) -> u8
         ensures { result ≡ number_of self }
     {
-        match self {
-            FrameError::BadLength => 10,
-            FrameError::TooLong => 11,
-            FrameError::BadType => 12,
-            FrameError::Memory => 13,
-        }
+        self as u8
     }
 }

@@ -14,8 +14,8 @@ use crate::{FrameError, Piece};
 use std::alloc::Global;
 use std::marker::Model;
 
-/// What was fed of a stream and isn't handed out yet. In contracts it is a `Passage`: these bytes, and how many more
-/// belong to the body whose head was handed out.
+/// What was fed of a stream and isn't handed out yet. In contracts it is a `Passage`: these bytes,
+/// and how many more belong to the body whose head was handed out.
 #[derive(Drop)]
 pub struct Flow {
     buffer: Buffer,
@@ -33,7 +33,8 @@ impl Model for Flow {
 }
 
 impl Flow {
-    /// A flow of a stream that is at its start. It has room for 16,384 bytes, and takes no more memory from then on.
+    /// A flow of a stream that is at its start. It has room for 16,384 bytes, and takes no more
+    /// memory from then on.
     pub fn new(alloc: Global) -> Result<Flow, FrameError>
         ensures ok { IfOk result (λ flow. flow ≡ start) }
         ensures only_memory { IsOkUnless result FrameError.Memory }
@@ -54,8 +55,9 @@ impl Flow {
         room_beside(self.buffer.as_slice())
     }
 
-    /// Takes the next piece of the stream, for which there has to be room. Frames before a fault are handed out all the
-    /// same. Once a fault was returned, it is returned from then on, and nothing more is taken.
+    /// Takes the next piece of the stream, for which there has to be room. Frames before a fault
+    /// are handed out all the same. Once a fault was returned, it is returned from then on, and
+    /// nothing more is taken.
     pub fn feed(&mut self, piece: &[u8]) -> Result<(), FrameError>
         requires { length self.old.bytes + length piece.now ≤ 16384 }
         // The fault is the one at the front of the rest of what was fed.

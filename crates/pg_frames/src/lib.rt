@@ -1,4 +1,5 @@
-//! Messages after start-up: their text, and the cutting of a stream into them, in whatever pieces it comes.
+//! Messages after start-up: their text, and the cutting of a stream into them, in whatever pieces
+//! it comes.
 #![tactic(auto)]
 
 mod body;

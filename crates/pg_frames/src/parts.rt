@@ -31,7 +31,8 @@ pub enum OwnedPiece {
 pub struct Parts {
     /// The pieces, in their order.
     pub pieces: Vec<OwnedPiece>,
-    /// The fault at the front of what follows the whole frames, if there is one. It is never `Memory`.
+    /// The fault at the front of what follows the whole frames, if there is one. It is never
+    /// `Memory`.
     pub fault: Option<FrameError>,
 }
 

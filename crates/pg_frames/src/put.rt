@@ -7,8 +7,8 @@ use crate::header::{FIELD_LEN, HEADER_LEN, MAX_LENGTH};
 use crate::{Frame, FrameError};
 use byteorder::{BigEndian, ByteOrder};
 
-/// Appends the frame's text. A frame that isn't of the format is refused, its type first; an error leaves the vector
-/// as it was.
+/// Appends the frame's text. A frame that isn't of the format is refused, its type first; an error
+/// leaves the vector as it was.
 pub fn put_frame(frame: &Frame, out: &mut Vec<u8>) -> Result<(), FrameError>
     ensures ok { OnOk result (out.new.items ≡ out.old.items ++ text frame.now) }
     ensures of_format { OnOk result (IsFrame frame.now) }

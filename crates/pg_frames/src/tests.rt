@@ -5,6 +5,7 @@ use std::process::Abort;
 use std::test::Fail;
 
 mod flow;
+mod transcripts;
 
 // Four frames of 5, 9, 17 and 9 bytes: a Sync, a Query, a CommandComplete and a Query.
 const STREAM: [u8; 40] = [
@@ -44,12 +45,18 @@ fn at_most_three_pieces(rt: HostRuntime) -> Result<(), Fail> {
     Ok(())
 }
 
-#[test]
-fn single_bytes(rt: HostRuntime) -> Result<(), Fail> {
-    let mut pieces = Vec::new(rt.alloc());
-    for piece in STREAM.chunks(1) {
+// The text in pieces of this size.
+fn in_pieces(alloc: Global, text: &[u8], size: usize) -> Result<Vec<&[u8]>, AllocError> {
+    let mut pieces = Vec::new(alloc);
+    for piece in text.chunks(size.max(1)) {
         pieces.push(piece)?;
     }
+    Ok(pieces)
+}
+
+#[test]
+fn single_bytes(rt: HostRuntime) -> Result<(), Fail> {
+    let pieces = in_pieces(rt.alloc(), &STREAM, 1)?;
     assert_stream(&rt, &cut(rt.alloc(), pieces.as_slice())?);
     Ok(())
 }
@@ -81,6 +88,24 @@ const TEXTS: [(&[u8], &[u8], &[u8], Option<FrameError>); 13] = [
     ),
 ];
 
+// The frames have these types, and these bodies one after another.
+fn assert_found(
+    rt: &(impl Abort + AllocGlobal),
+    frames: &[Frame],
+    kinds: &[u8],
+    bodies: &[u8],
+) -> Result<(), AllocError> {
+    let mut found_kinds = Vec::new(rt.alloc());
+    let mut found_bodies = Vec::new(rt.alloc());
+    for frame in frames {
+        found_kinds.push(frame.kind)?;
+        found_bodies.extend_from_slice(frame.body.as_slice())?;
+    }
+    assert_eq!(rt; found_kinds.as_slice(), kinds);
+    assert_eq!(rt; found_bodies.as_slice(), bodies);
+    Ok(())
+}
+
 // Cuts the text after every byte.
 fn assert_text(
     rt: &(impl Abort + AllocGlobal),
@@ -92,14 +117,7 @@ fn assert_text(
     for at in 0..=text.len() {
         let cutting = cut(rt.alloc(), &[&text[..at], &text[at..]])?;
         assert_eq!(rt; cutting.fault, fault, "{text:?} at {at}");
-        let mut found_kinds = Vec::new(rt.alloc());
-        let mut found_bodies = Vec::new(rt.alloc());
-        for frame in cutting.frames.iter() {
-            found_kinds.push(frame.kind)?;
-            found_bodies.extend_from_slice(frame.body.as_slice())?;
-        }
-        assert_eq!(rt; found_kinds.as_slice(), kinds);
-        assert_eq!(rt; found_bodies.as_slice(), bodies);
+        assert_found(rt, cutting.frames.as_slice(), kinds, bodies)?;
     }
     Ok(())
 }
@@ -110,6 +128,29 @@ fn small_texts(rt: HostRuntime) -> Result<(), Fail> {
         assert_text(&rt, text, kinds, bodies, fault)?;
     }
     Ok(())
+}
+
+// The whole frames whose parts these are.
+fn whole_frames(rt: &(impl Abort + AllocGlobal), parts: &Parts) -> Result<Vec<Frame>, AllocError> {
+    let mut frames = Vec::new(rt.alloc());
+    let mut head = (0, 0);
+    let mut body = Vec::new(rt.alloc());
+    for piece in parts.pieces.iter() {
+        match piece {
+            OwnedPiece::Head { kind, length } => head = (*kind, *length),
+            OwnedPiece::Part(part) => body.extend_from_slice(part.as_slice())?,
+            OwnedPiece::Tail => {
+                let (kind, length) = head;
+                assert_eq!(rt; body.len().saturating_add(4), length);
+                let whole = std::mem::replace(&mut body, Vec::new(rt.alloc()));
+                frames.push(Frame {
+                    kind,
+                    body: Body::from(whole),
+                })?;
+            }
+        }
+    }
+    Ok(frames)
 }
 
 fn padded(alloc: Global, front: &[u8], len: usize) -> Result<Vec<u8>, AllocError> {

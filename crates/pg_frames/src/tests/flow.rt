@@ -1,40 +1,5 @@
 //! Streams passed on in pieces.
-use super::{STREAM, TEXTS, padded};
-use crate::*;
-use std::alloc::{AllocError, Global};
-use std::process::Abort;
-use std::test::Fail;
-
-// What was handed out: the types of the whole frames, their bodies one after another, and how many bytes in all.
-#[derive(Drop)]
-struct Seen {
-    kinds: Vec<u8>,
-    bodies: Vec<u8>,
-    bytes: usize,
-}
-
-fn seen_in(alloc: Global, parts: &Parts) -> Result<Seen, AllocError> {
-    let mut seen = Seen {
-        kinds: Vec::new(alloc),
-        bodies: Vec::new(alloc),
-        bytes: 0,
-    };
-    let mut last = 0;
-    for piece in parts.pieces.iter() {
-        match piece {
-            OwnedPiece::Head { kind, length: _ } => {
-                last = *kind;
-                seen.bytes = seen.bytes.saturating_add(5);
-            }
-            OwnedPiece::Part(body) => {
-                seen.bodies.extend_from_slice(body.as_slice())?;
-                seen.bytes = seen.bytes.saturating_add(body.len());
-            }
-            OwnedPiece::Tail => seen.kinds.push(last)?,
-        }
-    }
-    Ok(seen)
-}
+use super::*;
 
 fn assert_seen(
     rt: &(impl Abort + AllocGlobal),
@@ -43,9 +8,8 @@ fn assert_seen(
     bodies: &[u8],
     fault: Option<FrameError>,
 ) -> Result<(), AllocError> {
-    let seen = seen_in(rt.alloc(), parts)?;
-    assert_eq!(rt; seen.kinds.as_slice(), kinds);
-    assert_eq!(rt; seen.bodies.as_slice(), bodies);
+    let frames = whole_frames(rt, parts)?;
+    assert_found(rt, frames.as_slice(), kinds, bodies)?;
     assert_eq!(rt; parts.fault, fault);
     Ok(())
 }
@@ -58,10 +22,7 @@ fn four_frames(rt: HostRuntime) -> Result<(), Fail> {
         let parts = cut_in_parts(rt.alloc(), &[&STREAM[..at], &STREAM[at..]])?;
         assert_seen(&rt, &parts, b"SQCQ", bodies, None)?;
     }
-    let mut single = Vec::new(rt.alloc());
-    for piece in STREAM.chunks(1) {
-        single.push(piece)?;
-    }
+    let single = in_pieces(rt.alloc(), &STREAM, 1)?;
     let parts = cut_in_parts(rt.alloc(), single.as_slice())?;
     assert_seen(&rt, &parts, b"SQCQ", bodies, None)?;
     Ok(())
@@ -77,7 +38,8 @@ fn faults(rt: HostRuntime) -> Result<(), Fail> {
     Ok(())
 }
 
-// Takes what can be handed out, which are the bytes of the text from here on, and returns where they end.
+// Takes what can be handed out, which are the bytes of the text from here on, and returns where
+// they end.
 fn assert_handed(rt: &impl Abort, flow: &mut Flow, text: &[u8], start: usize) -> usize {
     let mut at = start;
     for _ in 0..u64::MAX {

@@ -1,4 +1,4 @@
-use Rattle.std.proofs.Common.{◌≡◌, ◌∙◌, ◌++◌, ◌+◌, List, ℕ, Option, None, take, drop, sym, ap, subst, append_assoc, append-nil}
+use Rattle.std.proofs.Common.{◌≡◌, ◌∙◌, ◌+◌, List, ℕ, Option, None, take, sym, subst}
 use Rattle.std.proofs.lemmas.List.{take_all}
 use Rattle.std.specs.List.{flat_map}
 use Rattle.std.specs.Borrow.{Bor}
@@ -15,9 +15,11 @@ pub returns-then-is_some-clause-parts : goal.returns-then-is_some-clause-parts
 returns-then-is_some-clause-parts c =
     let taken = c.in_ok-fault.ensures _ c.loop-piece.invariant in
     let now : Bor (List ℕ) → List ℕ = λ piece. piece.now in
-    let joined = joined-more now c.args.stream.now c.loop-piece.piece-index _ c.loop-piece-test.true in
+    let joined =
+    joined-more now c.args.stream.now c.loop-piece.piece-index _ c.loop-piece-test.true in
     let all = joined-all now c.args.stream.now (c.loop-piece.piece-index + 1) in
-    handed_through _ _ _ _ _ _ (sym c.is_some.ensures ∙ c.if-is_some.true) taken.3 (rejoined _ taken.0 taken.1 _ _ _ _ taken.2 joined all)
+    handed_through _ _ _ _ _ _ (sym c.is_some.ensures ∙ c.if-is_some.true) taken.3
+    (rejoined _ taken.0 taken.1 _ _ _ _ taken.2 joined all)
 
 pub returns-then-is_some-clause-only : goal.returns-then-is_some-clause-only
 returns-then-is_some-clause-only c frames rest cuts =
@@ -29,15 +31,23 @@ loop-piece-preserved c =
     let taken = c.in_ok-fault.ensures _ c.loop-piece.invariant in
     let none = none_from _ (sym c.is_some.ensures ∙ c.if-is_some.false) in
     let now : Bor (List ℕ) → List ℕ = λ piece. piece.now in
-    let joined = joined-more now c.args.stream.now c.loop-piece.piece-index _ c.loop-piece-test.true in
+    let joined =
+    joined-more now c.args.stream.now c.loop-piece.piece-index _ c.loop-piece-test.true in
     let through = all_taken _ taken.0 taken.1 _ _ taken.2 (taken.4 none) joined in
-    let here = subst (λ (xs : List ℕ). Drained xs c.take_piece.new.pieces.items c.take_piece.new.flow c.in_ok-fault.fault) through taken.3 in
-    subst (λ (fault : Option FrameError). Drained (flat_map now (take (c.loop-piece.piece-index + 1) c.args.stream.now)) c.take_piece.new.pieces.items c.take_piece.new.flow fault) none here
+    let here =
+    subst (λ (xs : List ℕ). Drained xs c.take_piece.new.pieces.items c.take_piece.new.flow
+    c.in_ok-fault.fault) through taken.3 in
+    subst (λ (fault : Option FrameError). Drained
+    (flat_map now (take (c.loop-piece.piece-index + 1) c.args.stream.now))
+    c.take_piece.new.pieces.items c.take_piece.new.flow fault) none here
 
 pub returns-clause-parts : goal.returns-clause-parts
 returns-clause-parts c =
-    let all : take c.loop-piece.piece-index c.args.stream.now ≡ c.args.stream.now = take_all c.loop-piece.piece-index c.args.stream.now c.loop-piece-test.false in
-    let here = subst (λ (pieces : List (Bor (List ℕ))). Drained (flat_map (λ piece. piece.now) pieces) c.loop-piece.pieces.items c.loop-piece.flow None) all c.loop-piece.invariant in
+    let all : take c.loop-piece.piece-index c.args.stream.now ≡ c.args.stream.now =
+    take_all c.loop-piece.piece-index c.args.stream.now c.loop-piece-test.false in
+    let here =
+    subst (λ (pieces : List (Bor (List ℕ))). Drained (flat_map (λ piece. piece.now) pieces)
+    c.loop-piece.pieces.items c.loop-piece.flow None) all c.loop-piece.invariant in
     drained_cut _ _ _ None here
 
 pub returns-clause-only : goal.returns-clause-only

@@ -5,4 +5,5 @@ use Rattle.pg_frames.proofs.parts.cut_in_parts.Given as goal
 
 -- the pieces so far are handed out, and no fault stands in their rest
 abbrev pub invariant-loop-piece : goal.invariant-loop-piece
-invariant-loop-piece l = Drained (flat_map (λ piece. piece.now) (take l.piece-index l.stream)) l.pieces.items l.flow None
+invariant-loop-piece l =
+    Drained (flat_map (λ piece. piece.now) (take l.piece-index l.stream)) l.pieces.items l.flow None

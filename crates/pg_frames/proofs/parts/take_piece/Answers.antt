@@ -1,4 +1,4 @@
-use Rattle.std.proofs.Common.{◌≡◌, ◌∙◌, ◌++◌, ◌<◌, ℕ, List, Option, None, length, sym, ap, subst, arith, rules}
+use Rattle.std.proofs.Common.{◌∙◌, ◌++◌, ◌<◌, Option, length, sym, subst, arith, rules}
 use Rattle.pg_frames.specs.declared.error.FrameError.{FrameError}
 use Rattle.pg_frames.specs.Parts.{Drained}
 use Rattle.pg_frames.proofs.CutLemmas.{none_from}
@@ -12,7 +12,8 @@ returns-then-is_some c stream drained =
     let back = c.split_at.result.1.now in (
       so.0 ++ front,
       back,
-      cut_once_more _ so.0 c.loop-rest.rest.now front back _ so.1 c.split_at.ensures.front c.split_at.ensures.back,
+      cut_once_more _ so.0 c.loop-rest.rest.now front back _ so.1 c.split_at.ensures.front
+          c.split_at.ensures.back,
       drained_more stream so.0 front _ _ _ (c.in_ok-fault.ensures (stream ++ so.0) so.2),
       λ none. absurd (search rules),
     )
@@ -22,7 +23,8 @@ loop-rest-smaller c =
     let so = c.loop-rest.invariant c.requires.0 c.requires.1 in
     let room = c.room.ensures.drained so.2.still so.2.stands in
     let some = some_bytes c.loop-rest.rest.now (sym c.is_empty.ensures ∙ c.loop-rest-test.true) in
-    let shorter : length c.split_at.result.1.now < length c.loop-rest.rest.now = omega (arith, some, room, c.min.ensures, c.split_at.ensures.back_len) in
+    let shorter : length c.split_at.result.1.now < length c.loop-rest.rest.now =
+    omega (arith, some, room, c.min.ensures, c.split_at.ensures.back_len) in
     shorter
 
 pub loop-rest-preserved : goal.loop-rest-preserved
@@ -33,11 +35,19 @@ loop-rest-preserved c stream drained =
     let more = drained_more stream so.0 front _ _ _ (c.in_ok-fault.ensures (stream ++ so.0) so.2) in
     let none = none_from _ (sym c.is_some.ensures ∙ c.if-is_some.false) in (
       so.0 ++ front,
-      cut_once_more _ so.0 c.loop-rest.rest.now front back _ so.1 c.split_at.ensures.front c.split_at.ensures.back,
-      subst (λ (fault : Option FrameError). Drained (stream ++ (so.0 ++ front)) c.take_some.new.pieces.items c.take_some.new.flow fault) none more,
+      cut_once_more _ so.0 c.loop-rest.rest.now front back _ so.1 c.split_at.ensures.front
+          c.split_at.ensures.back,
+      subst (λ (fault : Option FrameError). Drained (stream ++ (so.0 ++ front))
+          c.take_some.new.pieces.items c.take_some.new.flow fault) none more,
     )
 
 pub returns : goal.returns
 returns c stream drained =
-    let so = c.loop-rest.invariant stream drained in
-    (so.0, c.loop-rest.rest.now, so.1, so.2, λ none. no_bytes c.loop-rest.rest.now (sym c.is_empty.ensures ∙ c.loop-rest-test.false))
+    let so = c.loop-rest.invariant stream drained in (
+      so.0,
+      c.loop-rest.rest.now,
+      so.1,
+      so.2,
+      λ none. no_bytes c.loop-rest.rest.now
+          (sym c.is_empty.ensures ∙ c.loop-rest-test.false),
+    )

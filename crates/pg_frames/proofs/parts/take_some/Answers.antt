@@ -1,4 +1,4 @@
-use Rattle.std.proofs.Common.{◌≡◌, ◌∙◌, ◌++◌, Option, sym, ap, subst}
+use Rattle.std.proofs.Common.{◌∙◌, ◌++◌, Option, sym, ap, subst}
 use Rattle.std.specs.Result.{result_err}
 use Rattle.pg_frames.specs.declared.error.FrameError.{FrameError}
 use Rattle.pg_frames.specs.Passage.{Passage, fed}
@@ -12,9 +12,16 @@ returns c stream drained =
     let piece = c.args.piece.now in
     let judged = c.feed-answer.ensures.judged in
     let so_far = so_far_fed stream piece pieces c.args.flow.now drained.so_far in
-    let has = so_far_fault (stream ++ piece) pieces (fed c.args.flow.now piece) judged.0 so_far judged.1 in
-    let there = subst (λ (p : Passage). SoFar (stream ++ piece) pieces p) (sym (c.feed-answer.ensures.taken drained.stands)) so_far in
+    let has =
+    so_far_fault (stream ++ piece) pieces (fed c.args.flow.now piece) judged.0 so_far
+    judged.1 in
+    let there =
+    subst (λ (p : Passage). SoFar (stream ++ piece) pieces p)
+    (sym (c.feed-answer.ensures.taken drained.stands)) so_far in
     let handed = c.in_ok-hand_out.ensures (stream ++ piece) there in
-    let here = drained_from (stream ++ piece) c.hand_out.new.pieces.items c.hand_out.new.flow judged.0 handed.0 handed.1 has in
+    let here =
+    drained_from (stream ++ piece) c.hand_out.new.pieces.items c.hand_out.new.flow judged.0
+    handed.0 handed.1 has in
     let told = c.err.ensures.value ∙ ap result_err judged.2 ∙ fault_of_answer judged.0 in
-    subst (λ (fault : Option FrameError). Drained (stream ++ piece) c.hand_out.new.pieces.items c.hand_out.new.flow fault) (sym told) here
+    subst (λ (fault : Option FrameError). Drained (stream ++ piece) c.hand_out.new.pieces.items
+    c.hand_out.new.flow fault) (sym told) here

@@ -22,4 +22,5 @@ returns-else-bytes-len c =
     let says = rw c.in-Ok-Some.field-0-is at c.in-Ok-Some.ensures in
     let header = says.header in
     let type_byte = subst (λ (k : ℕ). IsTrue (is_type k)) header.kind header.type_byte in
-    begins_frame c.args.bytes.now _ (λ i. omega (arith, c.type_inv.bytes i)) header.whole type_byte header.number header.low header.high c.if-bytes-len.false
+    begins_frame c.args.bytes.now _ (λ i. omega (arith, c.type_inv.bytes i)) header.whole type_byte
+    header.number header.low header.high c.if-bytes-len.false

@@ -10,5 +10,7 @@ loop-len-smaller c =
 
 pub loop-len-preserved : goal.loop-len-preserved
 loop-len-preserved c =
-    let next = subst (λ (xs : List ℕ). BeginsFrame xs c.in-Some.len) c.split_at.ensures.back c.in-Some.ensures in
+    let next =
+    subst (λ (xs : List ℕ). BeginsFrame xs c.in-Some.len) c.split_at.ensures.back
+    c.in-Some.ensures in
     StandsFirst-more _ _ _ c.loop-len.invariant next

@@ -14,9 +14,11 @@ loop-piece-preserved c =
     let taken = c.in_ok-fault.ensures (so_far_none _ _ _ c.loop-piece.invariant) in
     let cut = so_far_more _ _ _ _ _ taken.0 _ c.loop-piece.invariant taken.1 taken.2 in
     let now : Bor (List ℕ) → List ℕ = λ piece. piece.now in
-    let joined = joined-more now c.args.pieces.now c.loop-piece.piece-index _ c.loop-piece-test.true in
+    let joined =
+    joined-more now c.args.pieces.now c.loop-piece.piece-index _ c.loop-piece-test.true in
     record {
-      cuts = subst (λ (xs : List ℕ). Cuts xs c.take_piece.new.frames.items c.take_piece.new.cutter) (sym joined) cut;
+      cuts = subst (λ (xs : List ℕ). Cuts xs c.take_piece.new.frames.items c.take_piece.new.cutter)
+          (sym joined) cut;
       none = sym taken.3 ∙ none_from _ (sym c.is_some.ensures ∙ c.if-is_some.false);
     }
 
@@ -25,9 +27,12 @@ returns-then-is_some-clause-cut c =
     let taken = c.in_ok-fault.ensures (so_far_none _ _ _ c.loop-piece.invariant) in
     let cut = so_far_more _ _ _ _ _ taken.0 _ c.loop-piece.invariant taken.1 taken.2 in
     let now : Bor (List ℕ) → List ℕ = λ piece. piece.now in
-    let joined = joined-more now c.args.pieces.now c.loop-piece.piece-index _ c.loop-piece-test.true in
+    let joined =
+    joined-more now c.args.pieces.now c.loop-piece.piece-index _ c.loop-piece-test.true in
     let all = joined-all now c.args.pieces.now (c.loop-piece.piece-index + 1) in
-    cut_through_some _ _ _ _ _ _ (sym c.is_some.ensures ∙ c.if-is_some.true) cut taken.3 (ap (λ xs. xs ++ flat_map now (drop (c.loop-piece.piece-index + 1) c.args.pieces.now)) (sym joined) ∙ all)
+    cut_through_some _ _ _ _ _ _ (sym c.is_some.ensures ∙ c.if-is_some.true) cut taken.3
+    (ap (λ xs. xs ++ flat_map now (drop (c.loop-piece.piece-index + 1) c.args.pieces.now))
+    (sym joined) ∙ all)
 
 pub returns-then-is_some-clause-only : goal.returns-then-is_some-clause-only
 returns-then-is_some-clause-only c =
@@ -37,9 +42,14 @@ returns-then-is_some-clause-only c =
 pub returns-clause-cut : goal.returns-clause-cut
 returns-clause-cut c =
     let now : Bor (List ℕ) → List ℕ = λ piece. piece.now in
-    let all : take c.loop-piece.piece-index c.args.pieces.now ≡ c.args.pieces.now = take_all c.loop-piece.piece-index c.args.pieces.now c.loop-piece-test.false in
-    let so_far = c.loop-piece.invariant in
-    (c.loop-piece.cutter, subst (λ (xs : List ℕ). Cuts xs c.loop-piece.frames.items c.loop-piece.cutter) (ap (flat_map now) all) so_far.cuts, sym so_far.none)
+    let all : take c.loop-piece.piece-index c.args.pieces.now ≡ c.args.pieces.now =
+    take_all c.loop-piece.piece-index c.args.pieces.now c.loop-piece-test.false in
+    let so_far = c.loop-piece.invariant in (
+      c.loop-piece.cutter,
+      subst (λ (xs : List ℕ). Cuts xs c.loop-piece.frames.items
+          c.loop-piece.cutter) (ap (flat_map now) all) so_far.cuts,
+      sym so_far.none,
+    )
 
 pub returns-clause-only : goal.returns-clause-only
 returns-clause-only c =

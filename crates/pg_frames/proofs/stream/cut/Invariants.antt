@@ -5,4 +5,5 @@ use Rattle.pg_frames.proofs.stream.cut.Given as goal
 
 -- the pieces so far are cut, and no fault stands in what is left of them
 abbrev pub invariant-loop-piece : goal.invariant-loop-piece
-invariant-loop-piece l = IsCutSoFar (flat_map (λ piece. piece.now) (take l.piece-index l.pieces)) l.frames.items l.cutter
+invariant-loop-piece l =
+    IsCutSoFar (flat_map (λ piece. piece.now) (take l.piece-index l.pieces)) l.frames.items l.cutter

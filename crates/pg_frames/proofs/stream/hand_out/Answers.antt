@@ -11,10 +11,16 @@ pub ready-smaller : goal.ready-smaller
 ready-smaller c =
     let says = rw c.in-Ok-Some.field-0-is at c.in-Ok-Some.ensures in
     let next = says.frame in
-    omega (arith, ap length next.1, length-append (text c.in-Ok-Some.frame) c.next.new.self, length-text c.in-Ok-Some.frame)
+    omega (
+      arith,
+      ap length next.1,
+      length-append (text c.in-Ok-Some.frame) c.next.new.self,
+      length-text c.in-Ok-Some.frame,
+    )
 
 pub ready-preserved : goal.ready-preserved
 ready-preserved c =
     let says = rw c.in-Ok-Some.field-0-is at c.in-Ok-Some.ensures in
     let next = says.frame in
-    Handed-more _ _ _ _ c.in-Ok-Some.frame _ _ c.ready.invariant next.0 next.1 c.in_ok-push-in-Ok-Some.ensures.items
+    Handed-more _ _ _ _ c.in-Ok-Some.frame _ _ c.ready.invariant next.0 next.1
+    c.in_ok-push-in-Ok-Some.ensures.items

@@ -22,7 +22,9 @@ returns-then-is_err-clause-judged c =
 
 pub returns-then-is_err-clause-ever : goal.returns-then-is_err-clause-ever
 returns-then-is_err-clause-ever c fault has =
-    let apart = fault_once _ _ _ has c.fault.ensures.stands in absurd (c.in_default.not-Some fault (sym apart))
+    let apart =
+    fault_once _ _ _ has c.fault.ensures.stands in absurd
+    (c.in_default.not-Some fault (sym apart))
 
 pub invariant_of-self-2 : goal.invariant_of-self-2
 invariant_of-self-2 c =
@@ -30,19 +32,26 @@ invariant_of-self-2 c =
     let old = c.self.inside.bytes.items in
     let taken : c.extend_from_slice.new.self.items ≡ old ++ c.args.piece.now = grind arith in
     let rest : c.split_at.result.1.now ≡ drop ready (old ++ c.args.piece.now) = cc in
-    let next : IsReady (drop ready (old ++ c.args.piece.now)) c.whole_len.result = subst (λ (xs : List ℕ). IsReady xs c.whole_len.result) rest c.whole_len.ensures in
-    subst (λ (xs : List ℕ). IsReady xs (ready + c.whole_len.result)) (sym taken) (IsReady-more old c.args.piece.now ready c.whole_len.result c.self.invariant next)
+    let next : IsReady (drop ready (old ++ c.args.piece.now)) c.whole_len.result =
+    subst (λ (xs : List ℕ). IsReady xs c.whole_len.result) rest c.whole_len.ensures in
+    subst (λ (xs : List ℕ). IsReady xs (ready + c.whole_len.result)) (sym taken)
+    (IsReady-more old c.args.piece.now ready c.whole_len.result c.self.invariant next)
 
 pub returns-in-Some-fault-clause-memory : goal.returns-in-Some-fault-clause-memory
 returns-in-Some-fault-clause-memory c is =
-    let has : HasFault c.extend_from_slice.new.self.items (Some c.in-Some-fault.fault) = c.in-Some-fault.ensures.stands in
+    let has : HasFault c.extend_from_slice.new.self.items (Some c.in-Some-fault.fault) =
+    c.in-Some-fault.ensures.stands in
     let fault_is : Some c.in-Some-fault.fault ≡ Some Memory = cc in
     absurd (no_memory has.rest (has.stands ∙ fault_is))
 
 pub returns-in-Some-fault-clause-ever : goal.returns-in-Some-fault-clause-ever
 returns-in-Some-fault-clause-ever c fault has =
-    let apart = fault_once _ _ _ has c.fault.ensures.stands in absurd (c.in_default.not-Some fault (sym apart))
+    let apart =
+    fault_once _ _ _ has c.fault.ensures.stands in absurd
+    (c.in_default.not-Some fault (sym apart))
 
 pub returns-in-None-clause-ever : goal.returns-in-None-clause-ever
 returns-in-None-clause-ever c fault has =
-    let apart = fault_once _ _ _ has c.fault.ensures.stands in absurd (c.in_default.not-Some fault (sym apart))
+    let apart =
+    fault_once _ _ _ has c.fault.ensures.stands in absurd
+    (c.in_default.not-Some fault (sym apart))

@@ -20,23 +20,23 @@ first_frame-requires-clause-whole c =
 pub advance-requires : goal.advance-requires
 advance-requires c =
     let says = c.in_ok-frame.ensures in
-    let next = next_read _ _ c.as_slice.result.now c.in_ok-frame.frame c.self.invariant (omega arith) c.as_slice.ensures says.kind says.body in
+    let next = next_read c.self.invariant (omega arith) c.as_slice.ensures says.kind says.body in
     omega (arith, next.within)
 
 pub overflow_sub-self : goal.overflow_sub-self
 overflow_sub-self c =
     let says = c.in_ok-frame.ensures in
-    let next = next_read _ _ c.as_slice.result.now c.in_ok-frame.frame c.self.invariant (omega arith) c.as_slice.ensures says.kind says.body in
+    let next = next_read c.self.invariant (omega arith) c.as_slice.ensures says.kind says.body in
     omega (arith, next.fits)
 
 pub invariant_of-self : goal.invariant_of-self
 invariant_of-self c =
     let says = c.in_ok-frame.ensures in
-    let next = next_read _ _ c.as_slice.result.now c.in_ok-frame.frame c.self.invariant (omega arith) c.as_slice.ensures says.kind says.body in
+    let next = next_read c.self.invariant (omega arith) c.as_slice.ensures says.kind says.body in
     rw (c.advance.ensures.items, c.len-len.ensures) next.left
 
 pub returns-clause-frame : goal.returns-clause-frame
 returns-clause-frame c =
     let says = c.in_ok-frame.ensures in
-    let next = next_read _ _ c.as_slice.result.now c.in_ok-frame.frame c.self.invariant (omega arith) c.as_slice.ensures says.kind says.body in
+    let next = next_read c.self.invariant (omega arith) c.as_slice.ensures says.kind says.body in
     (next.is, rw (c.advance.ensures.items, c.len-len.ensures, ← c.self.view_is) next.whole)
