@@ -17,7 +17,8 @@ not_empty : (rest : List ℕ) (last : ℕ) → eqb (length (rest ++ last ∷ [])
 not_empty rest last = ne_eqb _ _ (λ e. omega (arith, e, length-append rest (last ∷ [])))
 
 -- whether the first zero byte is the last byte, by the last byte and those before it
-pub one_string_last : (text : List ℕ) (last : ℕ) → is_one_string (text ++ last ∷ []) ≡ (is_zero last && not (list_any is_zero text))
+pub one_string_last : (text : List ℕ) (last : ℕ)
+    → is_one_string (text ++ last ∷ []) ≡ (is_zero last && not (list_any is_zero text))
 one_string_last [] last = last_alone (is_zero last)
 one_string_last (byte ∷ rest) last =
     elim (cases_Bool (eqb byte 0)) [
@@ -26,15 +27,19 @@ one_string_last (byte ∷ rest) last =
     ]
 
 -- with a last zero byte, those before it tell
-pub after_zero : (body text : List ℕ) (last : ℕ) (seen : Bool) → body ≡ text ++ last ∷ [] → last ≡ 0 → seen ≡ list_any is_zero text → not seen ≡ is_one_string body
+pub after_zero : (body text : List ℕ) (last : ℕ) (seen : Bool) → body ≡ text ++ last ∷ [] → last ≡ 0
+    → seen ≡ list_any is_zero text → not seen ≡ is_one_string body
 after_zero body text last seen whole zero found =
-    let tells : is_one_string body ≡ (is_zero last && not (list_any is_zero text)) = ap is_one_string whole ∙ one_string_last text last in
+    let tells : is_one_string body ≡ (is_zero last && not (list_any is_zero text)) =
+    ap is_one_string whole ∙ one_string_last text last in
     let is : is_zero last ≡ true = ap is_zero zero in
     ap not found ∙ sym (tells ∙ ap (λ b. b && not (list_any is_zero text)) is)
 
 -- with another last byte, the last byte tells
-pub after_other : (body text : List ℕ) (last : ℕ) → body ≡ text ++ last ∷ [] → (last ≡ 0 → ⊥) → is_zero last ≡ is_one_string body
+pub after_other : (body text : List ℕ) (last : ℕ) → body ≡ text ++ last ∷ [] → (last ≡ 0 → ⊥)
+    → is_zero last ≡ is_one_string body
 after_other body text last whole other =
-    let tells : is_one_string body ≡ (is_zero last && not (list_any is_zero text)) = ap is_one_string whole ∙ one_string_last text last in
+    let tells : is_one_string body ≡ (is_zero last && not (list_any is_zero text)) =
+    ap is_one_string whole ∙ one_string_last text last in
     let is : is_zero last ≡ false = ne_eqb _ _ other in
     is ∙ sym (tells ∙ ap (λ b. b && not (list_any is_zero text)) is)

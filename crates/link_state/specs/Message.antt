@@ -8,8 +8,8 @@ use Rattle.link_state.specs.declared.message.Message.{Message}
 use Rattle.link_state.specs.declared.message.Message.TheVariants.{Passed, Key, Ready, Fault}
 use Rattle.link_state.specs.declared.head.Head.{Head}
 use Rattle.link_state.specs.declared.head.Head.TheVariants.{Skipped, Fault as Fails, OtherReady, Body}
-use Rattle.link_state.specs.declared.head.Part.{Part}
-use Rattle.link_state.specs.declared.head.Part.TheVariants.{Number, Key as KeyData, Status}
+use Rattle.link_state.specs.declared.part.Part.{Part}
+use Rattle.link_state.specs.declared.part.Part.TheVariants.{Number, Key as KeyData, Status}
 
 -- the status of ReadyForQuery is one byte: I where no transaction is open
 abbrev pub is_idle : List ℕ → Bool

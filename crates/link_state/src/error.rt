@@ -9,17 +9,17 @@ use thiserror::Error;
 pub enum LinkError {
     /// A ReadyForQuery came before any BackendKeyData.
     #[error("the server was ready before it gave a cancel key")]
-    NoKey,
+    NoKey = 50,
     /// An authentication request other than AuthenticationOk came.
     #[error("the server asked for authentication")]
-    AuthAsked,
+    AuthAsked = 51,
     /// An ErrorResponse came.
     #[error("the server answered the login with an error")]
-    ServerError,
+    ServerError = 52,
     /// A message came that is no part of a login here, or that has another length or another
     /// status.
     #[error("the server sent a message that is no part of a login in this profile")]
-    OutOfProfile,
+    OutOfProfile = 53,
 }
 
 impl LinkError {
@@ -27,11 +27,6 @@ impl LinkError {
     pub const fn number(self) -> u8
         ensures { result ≡ number_of self }
     {
-        match self {
-            LinkError::NoKey => 50,
-            LinkError::AuthAsked => 51,
-            LinkError::ServerError => 52,
-            LinkError::OutOfProfile => 53,
-        }
+        self as u8
     }
 }

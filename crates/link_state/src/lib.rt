@@ -7,6 +7,7 @@ mod error;
 mod head;
 mod login;
 mod message;
+mod part;
 mod stage;
 
 pub use act::{LinkAct, LoginHead};

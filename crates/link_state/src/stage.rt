@@ -1,8 +1,9 @@
 //! How far a login has come.
 ghost use Rattle.std.specs.Prelude.{◌≡◌};
 
-use crate::head::{Head, Part};
+use crate::head::Head;
 use crate::message::Message;
+use crate::part::Part;
 use crate::{LinkAct, LinkError, LoginHead};
 use pg_ids::ServerKey;
 

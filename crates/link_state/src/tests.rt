@@ -88,147 +88,120 @@ fn up(rt: HostRuntime) -> Result<(), Fail> {
     Ok(())
 }
 
-// The head of a message, and what comes of it at the start and after a key.
-const HEADS: [(
-    u8,
-    usize,
-    Result<LoginHead, LinkError>,
-    Result<LoginHead, LinkError>,
-); 18] = [
-    (b'R', 8, Ok(LoginHead::Body(4)), Ok(LoginHead::Body(4))),
-    (b'R', 9, Ok(LoginHead::Body(4)), Ok(LoginHead::Body(4))),
-    (
-        b'R',
-        1_048_576,
-        Ok(LoginHead::Body(4)),
-        Ok(LoginHead::Body(4)),
-    ),
-    (
-        b'R',
-        7,
-        Err(LinkError::OutOfProfile),
-        Err(LinkError::OutOfProfile),
-    ),
-    (b'S', 4, Ok(LoginHead::Skip), Ok(LoginHead::Skip)),
-    (b'S', 1_048_576, Ok(LoginHead::Skip), Ok(LoginHead::Skip)),
-    (b'N', 5, Ok(LoginHead::Skip), Ok(LoginHead::Skip)),
-    (b'N', 1_048_576, Ok(LoginHead::Skip), Ok(LoginHead::Skip)),
-    (b'K', 12, Ok(LoginHead::Body(8)), Ok(LoginHead::Body(8))),
-    (
-        b'K',
-        11,
-        Err(LinkError::OutOfProfile),
-        Err(LinkError::OutOfProfile),
-    ),
-    (
-        b'K',
-        13,
-        Err(LinkError::OutOfProfile),
-        Err(LinkError::OutOfProfile),
-    ),
-    (b'Z', 5, Ok(LoginHead::Body(1)), Ok(LoginHead::Body(1))),
-    (b'Z', 4, Err(LinkError::NoKey), Err(LinkError::OutOfProfile)),
-    (b'Z', 6, Err(LinkError::NoKey), Err(LinkError::OutOfProfile)),
-    (
-        b'E',
-        4,
-        Err(LinkError::ServerError),
-        Err(LinkError::ServerError),
-    ),
-    (
-        b'E',
-        1_048_576,
-        Err(LinkError::ServerError),
-        Err(LinkError::ServerError),
-    ),
-    (
-        b'T',
-        6,
-        Err(LinkError::OutOfProfile),
-        Err(LinkError::OutOfProfile),
-    ),
-    (
-        b'v',
-        12,
-        Err(LinkError::OutOfProfile),
-        Err(LinkError::OutOfProfile),
-    ),
+// A login that has read AuthenticationOk and a key.
+fn keyed(rt: &(impl Abort + AllocGlobal)) -> Result<LinkLogin, AllocError> {
+    let mut login = login(rt.alloc())?;
+    assert_answer(rt, &mut login, OK, &MORE);
+    assert_answer(rt, &mut login, KEY, &MORE);
+    Ok(login)
+}
+
+// The head of a message, and what comes of it, at the start and after a key alike.
+const HEADS: [(u8, usize, Result<LoginHead, LinkError>); 16] = [
+    (b'R', 8, Ok(LoginHead::Body(4))),
+    (b'R', 9, Ok(LoginHead::Body(4))),
+    (b'R', 1_048_576, Ok(LoginHead::Body(4))),
+    (b'R', 7, Err(LinkError::OutOfProfile)),
+    (b'S', 4, Ok(LoginHead::Skip)),
+    (b'S', 1_048_576, Ok(LoginHead::Skip)),
+    (b'N', 5, Ok(LoginHead::Skip)),
+    (b'N', 1_048_576, Ok(LoginHead::Skip)),
+    (b'K', 12, Ok(LoginHead::Body(8))),
+    (b'K', 11, Err(LinkError::OutOfProfile)),
+    (b'K', 13, Err(LinkError::OutOfProfile)),
+    (b'Z', 5, Ok(LoginHead::Body(1))),
+    (b'E', 4, Err(LinkError::ServerError)),
+    (b'E', 1_048_576, Err(LinkError::ServerError)),
+    (b'T', 6, Err(LinkError::OutOfProfile)),
+    (b'v', 12, Err(LinkError::OutOfProfile)),
 ];
 
 #[test]
 fn heads(rt: HostRuntime) -> Result<(), Fail> {
-    for (kind, length, first, later) in HEADS {
-        let mut fresh = login(rt.alloc())?;
-        assert_eq!(rt; fresh.on_head(kind, length), first);
-        let mut keyed = login(rt.alloc())?;
-        assert_answer(&rt, &mut keyed, KEY, &MORE);
-        assert_eq!(rt; keyed.on_head(kind, length), later);
+    for (kind, length, expected) in HEADS {
+        assert_eq!(rt; login(rt.alloc())?.on_head(kind, length), expected);
+        assert_eq!(rt; keyed(&rt)?.on_head(kind, length), expected);
     }
     Ok(())
 }
 
-// One message, and what comes of it at the start and after AuthenticationOk and a key.
-const MESSAGES: [(&[u8], Answer, Answer); 24] = [
-    (b"R\0\0\0\x08\0\0\0\0", MORE, MORE),
-    (b"R\0\0\0\x0c\0\0\0\0more", MORE, MORE),
-    (b"R\0\0\0\x08\0\0\0\x03", AUTH_ASKED, AUTH_ASKED),
-    (b"R\0\0\0\x0c\0\0\0\x05salt", AUTH_ASKED, AUTH_ASKED),
-    (
-        b"R\0\0\0\x17\0\0\0\x0aSCRAM-SHA-256\0\0",
-        AUTH_ASKED,
-        AUTH_ASKED,
-    ),
-    (b"R\0\0\0\x08\x01\0\0\0", AUTH_ASKED, AUTH_ASKED),
-    (b"R\0\0\0\x08\xff\xff\xff\xff", AUTH_ASKED, AUTH_ASKED),
-    (b"R\0\0\0\x07\0\0\0", OUT_OF_PROFILE, OUT_OF_PROFILE),
-    (b"R\0\0\0\x04", OUT_OF_PROFILE, OUT_OF_PROFILE),
-    (b"S\0\0\0\x08a\0b\0", MORE, MORE),
-    (b"S\0\0\0\x04", MORE, MORE),
-    (b"N\0\0\0\x05\0", MORE, MORE),
-    (b"K\0\0\0\x0c\0\0\0\x01\0\0\0\x02", MORE, MORE),
-    (
-        b"K\0\0\0\x0b\0\0\0\x01\0\0\0",
-        OUT_OF_PROFILE,
-        OUT_OF_PROFILE,
-    ),
-    (b"K\0\0\0\x04", OUT_OF_PROFILE, OUT_OF_PROFILE),
-    (b"Z\0\0\0\x05I", NO_KEY, UP),
-    (b"Z\0\0\0\x05T", NO_KEY, OUT_OF_PROFILE),
-    (b"Z\0\0\0\x05E", NO_KEY, OUT_OF_PROFILE),
-    (b"Z\0\0\0\x05i", NO_KEY, OUT_OF_PROFILE),
-    (b"Z\0\0\0\x04", NO_KEY, OUT_OF_PROFILE),
-    (b"Z\0\0\0\x06II", NO_KEY, OUT_OF_PROFILE),
-    (b"E\0\0\0\x0dSFATAL\0\0", SERVER_ERROR, SERVER_ERROR),
-    (b"T\0\0\0\x06\0\0", OUT_OF_PROFILE, OUT_OF_PROFILE),
-    (b"z\0\0\0\x05I", OUT_OF_PROFILE, OUT_OF_PROFILE),
-];
-
-// After this message each further one gives this.
-fn assert_stays(rt: &impl Abort, login: &mut LinkLogin, message: &[u8], expected: &Answer) {
-    assert_answer(rt, login, KEY, expected);
-    assert_answer(rt, login, IDLE, expected);
-    assert_answer(rt, login, message, expected);
+// A ReadyForQuery without one status byte.
+#[test]
+fn other_ready(rt: HostRuntime) -> Result<(), Fail> {
+    for length in [4, 6] {
+        assert_eq!(rt;
+            login(rt.alloc())?.on_head(b'Z', length),
+            Err(LinkError::NoKey)
+        );
+        assert_eq!(rt;
+            keyed(&rt)?.on_head(b'Z', length),
+            Err(LinkError::OutOfProfile)
+        );
+    }
+    Ok(())
 }
 
-// What was refused is refused in the same way from then on, and whatever comes after the login is
-// out of profile.
+// One message, and what comes of it, at the start and after AuthenticationOk and a key alike.
+const MESSAGES: [(&[u8], Answer); 18] = [
+    (b"R\0\0\0\x08\0\0\0\0", MORE),
+    (b"R\0\0\0\x0c\0\0\0\0more", MORE),
+    (b"R\0\0\0\x08\0\0\0\x03", AUTH_ASKED),
+    (b"R\0\0\0\x0c\0\0\0\x05salt", AUTH_ASKED),
+    (b"R\0\0\0\x17\0\0\0\x0aSCRAM-SHA-256\0\0", AUTH_ASKED),
+    (b"R\0\0\0\x08\x01\0\0\0", AUTH_ASKED),
+    (b"R\0\0\0\x08\xff\xff\xff\xff", AUTH_ASKED),
+    (b"R\0\0\0\x07\0\0\0", OUT_OF_PROFILE),
+    (b"R\0\0\0\x04", OUT_OF_PROFILE),
+    (b"S\0\0\0\x08a\0b\0", MORE),
+    (b"S\0\0\0\x04", MORE),
+    (b"N\0\0\0\x05\0", MORE),
+    (b"K\0\0\0\x0c\0\0\0\x01\0\0\0\x02", MORE),
+    (b"K\0\0\0\x0b\0\0\0\x01\0\0\0", OUT_OF_PROFILE),
+    (b"K\0\0\0\x04", OUT_OF_PROFILE),
+    (b"E\0\0\0\x0dSFATAL\0\0", SERVER_ERROR),
+    (b"T\0\0\0\x06\0\0", OUT_OF_PROFILE),
+    (b"z\0\0\0\x05I", OUT_OF_PROFILE),
+];
+
+// What comes of this message, and of each further one: what was refused is refused in the same way
+// from then on, and whatever comes after the login is out of profile.
+fn assert_message(rt: &impl Abort, login: &mut LinkLogin, message: &[u8], expected: &Answer) {
+    assert_answer(rt, login, message, expected);
+    let then = match expected {
+        Ok(LinkAct::More) => return,
+        Ok(LinkAct::Up(_)) => &OUT_OF_PROFILE,
+        Err(_) => expected,
+    };
+    assert_answer(rt, login, KEY, then);
+    assert_answer(rt, login, IDLE, then);
+    assert_answer(rt, login, message, then);
+}
+
 #[test]
 fn messages(rt: HostRuntime) -> Result<(), Fail> {
-    for (message, first, later) in &MESSAGES {
-        let mut fresh = login(rt.alloc())?;
-        assert_answer(&rt, &mut fresh, message, first);
-        if *first != MORE {
-            assert_stays(&rt, &mut fresh, message, first);
-        }
-        let mut keyed = login(rt.alloc())?;
-        assert_answer(&rt, &mut keyed, OK, &MORE);
-        assert_answer(&rt, &mut keyed, KEY, &MORE);
-        assert_answer(&rt, &mut keyed, message, later);
-        if *later == UP {
-            assert_stays(&rt, &mut keyed, message, &OUT_OF_PROFILE);
-        } else if *later != MORE {
-            assert_stays(&rt, &mut keyed, message, later);
-        }
+    for (message, expected) in &MESSAGES {
+        assert_message(&rt, &mut login(rt.alloc())?, message, expected);
+        assert_message(&rt, &mut keyed(&rt)?, message, expected);
+    }
+    Ok(())
+}
+
+// A ReadyForQuery, and what comes of it after AuthenticationOk and a key. At the start there is no
+// key.
+const READY: [(&[u8], Answer); 6] = [
+    (b"Z\0\0\0\x05I", UP),
+    (b"Z\0\0\0\x05T", OUT_OF_PROFILE),
+    (b"Z\0\0\0\x05E", OUT_OF_PROFILE),
+    (b"Z\0\0\0\x05i", OUT_OF_PROFILE),
+    (b"Z\0\0\0\x04", OUT_OF_PROFILE),
+    (b"Z\0\0\0\x06II", OUT_OF_PROFILE),
+];
+
+#[test]
+fn ready(rt: HostRuntime) -> Result<(), Fail> {
+    for (message, expected) in &READY {
+        assert_message(&rt, &mut login(rt.alloc())?, message, &NO_KEY);
+        assert_message(&rt, &mut keyed(&rt)?, message, expected);
     }
     Ok(())
 }

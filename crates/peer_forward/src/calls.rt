@@ -1,5 +1,5 @@
-//! Streams whose single calls can be named in contracts. Each of std's readers and writers is one, known by its bytes
-//! where it knows them; a stream that lists its calls is known by that list.
+//! Streams whose single calls can be named in contracts. Each of std's readers and writers is one,
+//! known by its bytes where it knows them; a stream that lists its calls is known by that list.
 ghost use Rattle.std.specs.Prelude.{ℕ, List, Result};
 ghost use Rattle.std.specs.Io.{ReadsAtMost, WritesAtMost};
 ghost use Rattle.std.specs.Io.KnownBytes.{ReadConsumes, WriteAppends};

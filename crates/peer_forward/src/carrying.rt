@@ -7,10 +7,11 @@ ghost use Rattle.peer_forward.specs.Carrying.{outcome_of, Carries, Carried, Writ
 
 use crate::{Outcome, ReadCalls, WriteCalls};
 
-/// Writes the packet, and waits until the input ends. `T` is any reader and writer of std, or a stream that lists its
-/// calls. A call of the stream that is interrupted has failed, and none is tried again. It takes no memory and doesn't
-/// flush: the stream is to be unbuffered, as a socket is. (PostgreSQL manual, "Canceling Requests in Progress": the
-/// server closes the connection without a reply.)
+/// Writes the packet, and waits until the input ends. `T` is any reader and writer of std, or a
+/// stream that lists its calls. A call of the stream that is interrupted has failed, and none is
+/// tried again. It takes no memory and doesn't flush: the stream is to be unbuffered, as a socket
+/// is. (PostgreSQL manual, "Canceling Requests in Progress": the server closes the connection
+/// without a reply.)
 pub fn carry<T: WriteCalls + ReadCalls>(stream: &mut T, packet: [u8; 16]) -> Outcome
     // Which calls are made, and the outcome, follow from the results of the calls.
     ensures { Carried T.wrote T.gave stream.old packet result stream.new }

@@ -1,5 +1,5 @@
-//! A packet is carried to a server or to another pooler, the end of the connection is awaited, and whoever asked for
-//! it learns by one byte that it may not have been acted on.
+//! A packet is carried to a server or to another pooler, the end of the connection is awaited, and
+//! whoever asked for it learns by one byte that it may not have been acted on.
 #![tactic(auto)]
 
 mod calls;

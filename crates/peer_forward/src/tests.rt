@@ -1,4 +1,5 @@
-//! Packets carried over streams that take so many bytes and then stop, and requests finished over them.
+//! Packets carried over streams that take so many bytes and then stop, and requests finished over
+//! them.
 use crate::{Outcome, ReadCalls, Verdict, WriteCalls, carry, finish};
 use std::alloc::{AllocError, Global};
 use std::io;
@@ -98,7 +99,8 @@ impl Read for Wire {
     }
 }
 
-// The packet is carried with this outcome, by so many writes and reads, and so many bytes of it are written.
+// The packet is carried with this outcome, by so many writes and reads, and so many bytes of it are
+// written.
 fn assert_carried(
     rt: &impl Abort,
     wire: &mut Wire,
@@ -114,8 +116,8 @@ fn assert_carried(
     assert_eq!(rt; wire.reads, reads);
 }
 
-// The packet taken by calls of 16, 3 and 1 bytes, then the end, a byte or a failing read; and a write that fails or
-// takes nothing after 7 or 5 bytes.
+// The packet taken by calls of 16, 3 and 1 bytes, then the end, a byte or a failing read; and a
+// write that fails or takes nothing after 7 or 5 bytes.
 #[test]
 fn outcomes(rt: HostRuntime) -> Result<(), Fail> {
     for (at_once, room, full, reply, outcome, written, writes, reads) in [
@@ -183,7 +185,8 @@ enum Kind {
     Read,
 }
 
-// A stream whose call with this number, from 0, is interrupted, and that works in all others. It lists its calls.
+// A stream whose call with this number, from 0, is interrupted, and that works in all others. It
+// lists its calls.
 #[derive(Drop)]
 struct Interrupted {
     at: usize,

@@ -3,7 +3,8 @@ ghost use Rattle.peer_forward.specs.Finishing.{Finishes};
 
 use crate::{Outcome, WriteCalls};
 
-// What is written where the request may still be acted on (own: the manual's server writes nothing).
+// What is written where the request may still be acted on (own: the manual's server writes
+// nothing).
 const UNSETTLED: u8 = 0x45;
 
 /// What became of a request.
@@ -19,9 +20,9 @@ pub enum Verdict {
     NoConnect,
 }
 
-/// Finishes the connection that a request came on: the byte `45` (hexadecimal) where the request may still be acted
-/// on, and no byte where it is settled. The one write isn't tried again, so nothing is written where it failed. It
-/// takes no memory.
+/// Finishes the connection that a request came on: the byte `45` (hexadecimal) where the request
+/// may still be acted on, and no byte where it is settled. The one write isn't tried again, so
+/// nothing is written where it failed. It takes no memory.
 pub fn finish<T: WriteCalls>(stream: &mut T, verdict: Verdict)
     ensures { Finishes T.wrote stream.old verdict stream.new }
 {

@@ -7,7 +7,9 @@ use Rattle.peer_forward.proofs.carrying.carry_bytes.Goals as goal
 pub returns-then-write_whole : goal.returns-then-write_whole
 returns-then-write_whole g c =
     let read = c.await_end.ensures in
-    let all = writes_last _ _ _ _ c.args.bytes.now _ c.await_end.result (ReadCall read.0 read.1) _ (c.if-write_whole.ensures.whole refl) (_, read.3, refl) (refl, read.2, refl, read.4) in
+    let all =
+    writes_last _ _ _ _ c.args.bytes.now _ c.await_end.result (ReadCall read.0 read.1) _
+    (c.if-write_whole.ensures.whole refl) (_, read.3, refl) (refl, read.2, refl, read.4) in
     carried_by _ _ _ _ c.args.bytes.now all.0 _ all.1 all.2
 
 pub returns-else-write_whole : goal.returns-else-write_whole

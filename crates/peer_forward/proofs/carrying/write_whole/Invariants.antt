@@ -5,7 +5,8 @@ use Rattle.peer_forward.proofs.carrying.write_whole.Given as goal
 -- the writes so far leave the rest
 abbrev pub invariant-loop-taken : goal.invariant-loop-taken
 invariant-loop-taken g l =
-    (l.taken ≤ length l.bytes) × WritesAll g.T.WriteCalls.wrote g.T.ReadCalls.gave l.fn.stream l.bytes (drop l.taken l.bytes) l.stream
+    (l.taken ≤ length l.bytes) × WritesAll g.T.WriteCalls.wrote g.T.ReadCalls.gave l.fn.stream
+    l.bytes (drop l.taken l.bytes) l.stream
 
 -- the rest grows shorter
 abbrev pub decreases-loop-taken : goal.decreases-loop-taken

@@ -7,6 +7,7 @@ use Rattle.client_state.proofs.client.Client.on_client.Goals as goal
 
 pub gather-requires : goal.gather-requires
 gather-requires c =
-    let gathered : length c.self.inside.gathered.items ≡ length c.args.self.now.gathered = ap (λ (s : Session). length s.gathered) c.self.view_is in
+    let gathered : length c.self.inside.gathered.items ≡ length c.args.self.now.gathered =
+    ap (λ (s : Session). length s.gathered) c.self.view_is in
     let is : client_message c.len.result c.args.frame ≡ Gathered = sym c.in-Gathered.ensures in
     omega (arith, gathered, c.len.ensures, part_fits c.len.result c.args.frame is)

@@ -6,9 +6,11 @@ use Rattle.link_state.proofs.login.LinkLogin.on_body.Goals as goal
 
 pub returns : goal.returns
 returns c =
-    let new : Login = record { request = c.self.inside.request.items; stage = c.after_body-self-inside.result } in
+    let new : Login =
+    record { request = c.self.inside.request.items; stage = c.after_body-self-inside.result } in
     let call : BodyCall c.args.self.now new c.args.body.now c.body_answer.result = record {
-      left_is = c.after_body-self-inside.ensures ∙ ap (λ (l : Login). after_body l.stage c.args.body.now) c.self.view_is;
+      left_is = c.after_body-self-inside.ensures
+          ∙ ap (λ (l : Login). after_body l.stage c.args.body.now) c.self.view_is;
       says = c.body_answer.ensures;
     } in
     record {

@@ -8,11 +8,15 @@ use Rattle.link_state.proofs.login.LinkLogin.on_head.Goals as goal
 
 pub returns : goal.returns
 returns c =
-    let new : Login = record { request = c.self.inside.request.items; stage = c.after_head-self-inside.result } in
-    let call : HeadCall c.args.self.now new c.args.kind c.args.length c.head_answer.result = record {
+    let new : Login =
+    record { request = c.self.inside.request.items; stage = c.after_head-self-inside.result } in
+    let call : HeadCall c.args.self.now new c.args.kind c.args.length c.head_answer.result =
+    record {
       left_is =
-          c.after_head-self-inside.ensures ∙ ap (λ (h : Head). after_head c.self.inside.stage h) c.of-head.ensures
-          ∙ ap (λ (l : Login). after_head l.stage (head_of c.args.kind c.args.length)) c.self.view_is;
+          c.after_head-self-inside.ensures
+          ∙ ap (λ (h : Head). after_head c.self.inside.stage h) c.of-head.ensures
+          ∙ ap (λ (l : Login). after_head l.stage (head_of c.args.kind c.args.length))
+          c.self.view_is;
       says = c.head_answer.ensures;
     } in
     record {
