@@ -1,5 +1,5 @@
 -- A client that asks for a link: its view once it has left the queue.
-use Rattle.std.proofs.Common.{◌≡◌, ℕ, ◌+◌, ◌^◌, ◌<◌, false, arith, List, Option, Some, None, length, refl, ap, sym, ◌∙◌, subst}
+use Rattle.std.proofs.Common.{◌≡◌, ℕ, ◌+◌, ◌^◌, ◌<◌, false, arith, List, Option, Some, None, length, map, refl, ap, sym, ◌∙◌, subst}
 use Rattle.std.proofs.lemmas.List.{set-set}
 use Rattle.std.specs.Prelude.{slice_set}
 use Rattle.std.specs.List.{slice_get}
@@ -10,18 +10,18 @@ use Rattle.link_pool.specs.declared.place.Place.{Place}
 use Rattle.link_pool.specs.declared.place.Place.TheVariants as place
 use Rattle.link_pool.specs.declared.place.Claim.{Claim}
 use Rattle.link_pool.specs.declared.place.Claim.TheVariants as claim
-use Rattle.link_pool.specs.Pool.{DatabasePool, PoolView, at_place, place_at, queue_in, changed, with_place, with_claim, out_of_queue, unqueued, others}
-use Rattle.link_pool.specs.OnePlace.{Fits, PermitFits, waits, times, IsPool}
+use Rattle.link_pool.specs.Pool.{PoolView, place_at, queue_at, with_place, with_claim, out_of_queue, unqueued}
+use Rattle.slot_queues.specs.Queues.{others}
+use Rattle.link_pool.specs.OnePlace.{Fits, PermitFits, IsPool}
 use Rattle.link_pool.specs.PoolStep.{is_holding}
 use Rattle.link_pool.proofs.Places.{slice_get-set_same}
-use Rattle.link_pool.proofs.Changes.{place_with_queue, changed_alike, changed_twice}
-use Rattle.link_pool.proofs.Queues.{left, others_absent}
+use Rattle.link_pool.proofs.Queues.{left, all_stay, all_left}
 use Rattle.link_pool.proofs.Handing.{given_more, kept_for}
 
 place_out : (o : Option Claim) (v : PoolView) (slot : ℕ) (at : LinkPlace) → place_at (out_of_queue o v slot) at ≡ place_at v at
 place_out None v slot at = refl
 place_out (Some claim.Nothing) v slot at = refl
-place_out (Some (claim.Waiting d)) v slot at = place_with_queue v d (others slot) at
+place_out (Some (claim.Waiting d)) v slot at = refl
 place_out (Some (claim.Open k)) v slot at = refl
 place_out (Some (claim.Link k)) v slot at = refl
 
@@ -40,15 +40,15 @@ nothing_out (Some (claim.Link k)) v slot e within h = absurd (cc)
 pub nothing_unqueued : (v : PoolView) (slot : ℕ) → slot < length v.claims → is_holding (slice_get v.claims slot) ≡ false → slice_get (unqueued v slot).claims slot ≡ Some claim.Nothing
 nothing_unqueued v slot within h = nothing_out (slice_get v.claims slot) v slot refl within h
 
--- only pools and claims change
-kept_out : (o : Option Claim) (v : PoolView) (slot : ℕ) → out_of_queue o v slot ≡ record v { pools = (out_of_queue o v slot).pools; claims = (out_of_queue o v slot).claims }
+-- only queues and claims change
+kept_out : (o : Option Claim) (v : PoolView) (slot : ℕ) → out_of_queue o v slot ≡ record v { queues = (out_of_queue o v slot).queues; claims = (out_of_queue o v slot).claims }
 kept_out None v slot = refl
 kept_out (Some claim.Nothing) v slot = refl
 kept_out (Some (claim.Waiting d)) v slot = refl
 kept_out (Some (claim.Open k)) v slot = refl
 kept_out (Some (claim.Link k)) v slot = refl
 
-pub kept_unqueued : (v : PoolView) (slot : ℕ) → unqueued v slot ≡ record v { pools = (unqueued v slot).pools; claims = (unqueued v slot).claims }
+pub kept_unqueued : (v : PoolView) (slot : ℕ) → unqueued v slot ≡ record v { queues = (unqueued v slot).queues; claims = (unqueued v slot).claims }
 kept_unqueued v slot = kept_out (slice_get v.claims slot) v slot
 
 -- a permit's number was given
@@ -66,32 +66,27 @@ whole_out (Some (claim.Link k)) v slot e whole = whole
 pub whole_unqueued : (v : PoolView) (slot : ℕ) → IsPool v → IsPool (unqueued v slot)
 whole_unqueued v slot whole = whole_out (slice_get v.claims slot) v slot refl whole
 
--- a place of the pool changes, and the slot no longer waits
-abbrev pub taken_by : ℕ → ℕ → Place → DatabasePool → DatabasePool
-taken_by slot index p pool = record { places = slice_set pool.places index p; waiting = others slot pool.waiting; room = pool.room }
+-- the view with this at a place and for the client of a slot, which waits nowhere
+abbrev pub out_with : PoolView → LinkPlace → Place → ℕ → Claim → PoolView
+out_with v at p slot c = record v {
+  pools = (with_place v at p).pools;
+  queues = map (others slot) v.queues;
+  claims = slice_set v.claims slot c;
+}
 
-served_by : (o : Option Claim) (v : PoolView) (at : LinkPlace) (p : Place) (slot : ℕ) (c : Claim) (pool : DatabasePool) → slice_get v.claims slot ≡ o → IsPool v → is_holding o ≡ false → slot < length v.claims
-    → ((other : ℕ) → o ≡ Some (claim.Waiting other) → other ≡ at.database) → slice_get v.pools at.database ≡ Some pool
-    → record v { pools = changed v.pools at.database (taken_by slot at.index p); claims = slice_set v.claims slot c } ≡ with_claim (with_place (out_of_queue o v slot) at p) slot c
-served_by None v at p slot c pool e whole free within own there = absurd (cc (slice_get-get_or v.claims slot claim.Nothing within))
-served_by (Some claim.Nothing) v at p slot c pool e whole free within own there =
-    let never : times slot pool.waiting ≡ 0 = ap (λ (o : Option DatabasePool). times slot (queue_in o)) (sym there) ∙ sym (whole.queues slot at.database) ∙ ap (waits at.database) e in
-    ap (λ (ps : List DatabasePool). record v { pools = ps; claims = slice_set v.claims slot c })
-    (changed_alike v.pools at.database pool (taken_by slot at.index p) (λ q. at_place q at.index p) there
-    (ap {B = DatabasePool} (λ (w : List ℕ). record { places = slice_set pool.places at.index p; waiting = w; room = pool.room }) (others_absent slot pool.waiting never)))
-served_by (Some (claim.Waiting d)) v at p slot c pool e whole free within own there =
-    ap (λ (ps : List DatabasePool). record v { pools = ps; claims = slice_set v.claims slot c })
-    (sym (ap (λ (n : ℕ). changed (changed v.pools n (λ q. record q { waiting = others slot q.waiting })) at.database (λ q. at_place q at.index p)) (own d refl)
-    ∙ changed_twice v.pools at.database (λ q. record q { waiting = others slot q.waiting }) (λ q. at_place q at.index p)))
-    ∙ ap (λ (cs : List Claim). record v { pools = changed (changed v.pools d (λ q. record q { waiting = others slot q.waiting })) at.database (λ q. at_place q at.index p); claims = cs }) (sym (set-set v.claims slot claim.Nothing c))
-served_by (Some (claim.Open k)) v at p slot c pool e whole free within own there = absurd (cc)
-served_by (Some (claim.Link k)) v at p slot c pool e whole free within own there = absurd (cc)
+served_by : (o : Option Claim) (v : PoolView) (at : LinkPlace) (p : Place) (slot : ℕ) (c : Claim) → slice_get v.claims slot ≡ o → IsPool v → is_holding o ≡ false → slot < length v.claims → out_with v at p slot c ≡ with_claim (with_place (out_of_queue o v slot) at p) slot c
+served_by None v at p slot c e whole free within = absurd (cc (slice_get-get_or v.claims slot claim.Nothing within))
+served_by (Some claim.Nothing) v at p slot c e whole free within =
+    ap (λ (qs : List (List ℕ)). record v { pools = (with_place v at p).pools; queues = qs; claims = slice_set v.claims slot c }) (all_stay v slot whole e)
+served_by (Some (claim.Waiting d)) v at p slot c e whole free within =
+    ap (λ (qs : List (List ℕ)). record v { pools = (with_place v at p).pools; queues = qs; claims = slice_set v.claims slot c }) (all_left v d slot whole e)
+    ∙ ap (λ (cs : List Claim). record v { pools = (with_place v at p).pools; queues = slice_set v.queues d (others slot (queue_at v d)); claims = cs }) (sym (set-set v.claims slot claim.Nothing c))
+served_by (Some (claim.Open k)) v at p slot c e whole free within = absurd (cc)
+served_by (Some (claim.Link k)) v at p slot c e whole free within = absurd (cc)
 
 -- both at once, as one after the other
-pub served : (v : PoolView) (at : LinkPlace) (p : Place) (slot : ℕ) (c : Claim) (pool : DatabasePool) → IsPool v → is_holding (slice_get v.claims slot) ≡ false → slot < length v.claims
-    → ((other : ℕ) → slice_get v.claims slot ≡ Some (claim.Waiting other) → other ≡ at.database) → slice_get v.pools at.database ≡ Some pool
-    → record v { pools = changed v.pools at.database (taken_by slot at.index p); claims = slice_set v.claims slot c } ≡ with_claim (with_place (unqueued v slot) at p) slot c
-served v at p slot c pool whole free within own there = served_by (slice_get v.claims slot) v at p slot c pool refl whole free within own there
+pub served : (v : PoolView) (at : LinkPlace) (p : Place) (slot : ℕ) (c : Claim) → IsPool v → is_holding (slice_get v.claims slot) ≡ false → slot < length v.claims → out_with v at p slot c ≡ with_claim (with_place (unqueued v slot) at p) slot c
+served v at p slot c whole free within = served_by (slice_get v.claims slot) v at p slot c refl whole free within
 
 -- a place is kept for a client that leaves the queue
 pub opened : (v : PoolView) (slot n : ℕ) (permit : PermitRecord) → IsPool v → slot < length v.claims → is_holding (slice_get v.claims slot) ≡ false → place_at v permit.at ≡ Some place.Free → v.next_permit < 2 ^ 64 → n ≡ v.next_permit + 1

@@ -1,14 +1,16 @@
 -- A view's places and queues, once one of them has changed.
-use Rattle.std.proofs.Common.{◌≡◌, ◌≢◌, ℕ, zero, suc, Bool, true, false, List, [], ◌∷◌, Option, Some, None, length, map, option_map, get_or, ◌<◌, refl, ap, sym, subst, ◌∙◌, arith, ⊎_elim, ◌⊎◌, inl, inr, ◌==◌, ◌&&◌}
+use Rattle.std.proofs.Common.{◌≡◌, ◌≢◌, ℕ, zero, suc, Bool, true, false, List, [], ◌∷◌, Option, Some, None, length, map, option_map, get_or, ◌<◌, refl, ap, sym, subst, ◌∙◌, ⊎_elim, ◌==◌, ◌&&◌}
 use Rattle.std.proofs.Math.ListN.{set}
 use Rattle.std.specs.List.{slice_get}
 use Rattle.std.proofs.lemmas.Option.{slice_get_within, slice_get-get_or}
 use Rattle.std.proofs.lemmas.Bool.{cases_eq}
+use Rattle.std.proofs.lemmas.List.{get_or-set_same, get_or-set_other}
 use Rattle.lease.specs.declared.link_place.LinkPlace.{LinkPlace}
 use Rattle.link_pool.specs.declared.place.Place.{Place}
-use Rattle.link_pool.specs.Pool.{DatabasePool, PoolView, at_place, place_in, place_at, queue_in, queue_at, changed, with_place, with_queue}
+use Rattle.link_pool.specs.Pool.{DatabasePool, PoolView, at_place, place_in, place_at, queue_at, changed, with_place, with_queue}
 use Rattle.link_pool.specs.OnePlace.{same_place}
-use Rattle.link_pool.proofs.Places.{slice_get-set_same, slice_get-set_other, eq_self, eq_yes}
+use Rattle.link_pool.proofs.Places.{slice_get-set_same, slice_get-set_other}
+use Rattle.slot_queues.proofs.Times.{eq_self, eq_yes}
 
 pub changed_here : {X : Type 0} (xs : List X) (d : ℕ) (change : X → X) → slice_get (changed xs d change) d ≡ option_map change (slice_get xs d)
 changed_here [] d change = refl
@@ -26,20 +28,6 @@ pub changed_is_set : {X : Type 0} (xs : List X) (d : ℕ) (x : X) (change : X �
 changed_is_set [] d x change h = absurd (cc)
 changed_is_set (first ∷ xs) zero x change h = let e : first ≡ x = cc in ap (λ p. change p ∷ xs) e
 changed_is_set (first ∷ xs) (suc d) x change h = ap (λ rest. first ∷ rest) (changed_is_set xs d x change h)
-
--- two changes that do the same to what is there
-pub changed_alike : {X : Type 0} (xs : List X) (d : ℕ) (x : X) (f g : X → X) → slice_get xs d ≡ Some x → f x ≡ g x → changed xs d f ≡ changed xs d g
-changed_alike xs d x f g h e = changed_is_set xs d x f h ∙ ap (set xs d) e ∙ sym (changed_is_set xs d x g h)
-
-pub changed_twice : {X : Type 0} (xs : List X) (d : ℕ) (f g : X → X) → changed (changed xs d f) d g ≡ changed xs d (λ x. g (f x))
-changed_twice [] d f g = refl
-changed_twice (x ∷ xs) zero f g = refl
-changed_twice (x ∷ xs) (suc d) f g = ap (λ rest. x ∷ rest) (changed_twice xs d f g)
-
-pub changed_id : {X : Type 0} (xs : List X) (d : ℕ) → changed xs d (λ x. x) ≡ xs
-changed_id [] d = refl
-changed_id (x ∷ xs) zero = refl
-changed_id (x ∷ xs) (suc d) = ap (λ rest. x ∷ rest) (changed_id xs d)
 
 changed-map : {X Y : Type 0} (f : X → Y) (g : X → X) (h : Y → Y) → ((x : X) → f (g x) ≡ h (f x)) → (xs : List X) (d : ℕ) → map f (changed xs d g) ≡ changed (map f xs) d h
 changed-map f g h same [] d = refl
@@ -100,32 +88,14 @@ place_there v at other p h = ⊎_elim
     (λ apart. ap (λ (o : Option DatabasePool). place_in o other.index) (changed_there v.pools at.database other.database _ apart))
     (cases_eq other.database at.database)
 
-queue_kept : (o : Option DatabasePool) (i : ℕ) (p : Place) → queue_in (option_map (λ (pool : DatabasePool). at_place pool i p) o) ≡ queue_in o
-queue_kept None i p = refl
-queue_kept (Some pool) i p = refl
-
-pub queue_with_place : (v : PoolView) (at : LinkPlace) (p : Place) (d : ℕ) → queue_at (with_place v at p) d ≡ queue_at v d
-queue_with_place v at p d = ⊎_elim
-    (λ same. ap (λ (e : ℕ). queue_in (slice_get (with_place v at p).pools e)) same ∙ ap queue_in (changed_here v.pools at.database _) ∙ queue_kept (slice_get v.pools at.database) at.index p ∙ ap (λ (e : ℕ). queue_in (slice_get v.pools e)) (sym same))
-    (λ apart. ap queue_in (changed_there v.pools at.database d _ apart))
-    (cases_eq d at.database)
-
-places_kept : (o : Option DatabasePool) (i : ℕ) (change : List ℕ → List ℕ) → place_in (option_map (λ (pool : DatabasePool). record pool { waiting = change pool.waiting }) o) i ≡ place_in o i
-places_kept None i change = refl
-places_kept (Some pool) i change = refl
-
-pub place_with_queue : (v : PoolView) (d : ℕ) (change : List ℕ → List ℕ) (at : LinkPlace) → place_at (with_queue v d change) at ≡ place_at v at
-place_with_queue v d change at = ⊎_elim
-    (λ same. ap (λ (e : ℕ). place_in (slice_get (with_queue v d change).pools e) at.index) same ∙ ap (λ (o : Option DatabasePool). place_in o at.index) (changed_here v.pools d _) ∙ places_kept (slice_get v.pools d) at.index change ∙ ap (λ (e : ℕ). place_in (slice_get v.pools e) at.index) (sym same))
-    (λ apart. ap (λ (o : Option DatabasePool). place_in o at.index) (changed_there v.pools d at.database _ apart))
-    (cases_eq at.database d)
+-- as many as before
+pub changed_long : {X : Type 0} (xs : List X) (d : ℕ) (change : X → X) → length (changed xs d change) ≡ length xs
+changed_long [] d change = refl
+changed_long (x ∷ xs) zero change = refl
+changed_long (x ∷ xs) (suc d) change = ap suc (changed_long xs d change)
 
 pub queue_there : (v : PoolView) (d e : ℕ) (change : List ℕ → List ℕ) → e ≢ d → queue_at (with_queue v d change) e ≡ queue_at v e
-queue_there v d e change h = ap queue_in (changed_there v.pools d e _ h)
+queue_there v d e change n = get_or-set_other v.queues d e (change (queue_at v d)) [] n
 
-queue_made : (o : Option DatabasePool) (pool : DatabasePool) (change : List ℕ → List ℕ) → o ≡ Some pool → queue_in (option_map (λ (p : DatabasePool). record p { waiting = change p.waiting }) o) ≡ change (queue_in o)
-queue_made None pool change h = absurd (cc)
-queue_made (Some p) pool change h = refl
-
-pub queue_here : (v : PoolView) (d : ℕ) (pool : DatabasePool) (change : List ℕ → List ℕ) → slice_get v.pools d ≡ Some pool → queue_at (with_queue v d change) d ≡ change (queue_at v d)
-queue_here v d pool change h = ap queue_in (changed_here v.pools d _) ∙ queue_made (slice_get v.pools d) pool change h
+pub queue_here : (v : PoolView) (d : ℕ) (change : List ℕ → List ℕ) → d < length v.queues → queue_at (with_queue v d change) d ≡ change (queue_at v d)
+queue_here v d change h = get_or-set_same v.queues d (change (queue_at v d)) [] h

@@ -6,10 +6,10 @@ use Rattle.std.proofs.lemmas.Option.{slice_get_within, slice_get-map, same_Some}
 use Rattle.std.proofs.lemmas.Bool.{cases_eq}
 use Rattle.std.proofs.lemmas.List.{map-set, length-map}
 use Rattle.lease.specs.declared.link_place.LinkPlace.{LinkPlace}
-use Rattle.link_pool.specs.Pool.{DatabasePool, at_place, place_in, changed, others}
+use Rattle.link_pool.specs.Pool.{DatabasePool, at_place, place_in, changed}
 use Rattle.link_pool.specs.Streams.{stream_there, stored_in, stored_at, has_stream, Moves}
 use Rattle.link_pool.proofs.Places.{slice_get-set_same, slice_get-set_other, set_same}
-use Rattle.link_pool.proofs.Changes.{changed_here, changed_there, changed_is_set, changed_id, wrote, was_read, one_place}
+use Rattle.link_pool.proofs.Changes.{changed_here, changed_there, changed_is_set, wrote, was_read, one_place}
 use Rattle.link_pool.specs.declared.entry.Entry.{Entry}
 use Rattle.link_pool.specs.declared.entry.Entry.TheVariants as entry
 use Rattle.link_pool.specs.declared.place.Place.{Place}
@@ -17,7 +17,6 @@ use Rattle.link_pool.specs.declared.place.Place.TheVariants as place
 use Rattle.link_pool.specs.Entries.{Entries, place_of, stream_of, idle_entry, pool_in, streams_in, with_entry}
 use Rattle.link_pool.specs.PoolStep.{is_idle}
 use Rattle.link_pool.specs.Parts.{is_bare, Stores}
-use Rattle.link_pool.proofs.Asking.{taken_by}
 use Rattle.lease.specs.LinkValue.{LinkValue}
 
 -- what is free in the view is free
@@ -146,7 +145,7 @@ stays pools at was stream h e = same_in_row (slice_get (map streams_in pools) at
 -- a write of one entry, as the view sees it
 pub wrote_place : {S : Type 0} (pools : List (Entries S)) (at : LinkPlace) (n : ℕ) (pool new : Entries S) (e : Entry S) → n ≡ at.database → slice_get pools at.database ≡ Some pool → new ≡ with_entry at.index e pool → map pool_in (set pools n new) ≡ changed (map pool_in pools) at.database (λ q. at_place q at.index (place_of e))
 wrote_place pools at n pool new e same is made = wrote pool_in (with_entry at.index e) (λ q. at_place q at.index (place_of e))
-    (λ p. ap {B = DatabasePool} (λ (ps : List Place). record { places = ps; waiting = p.waiting; room = p.room }) (map-set place_of p.entries at.index e)) pools n at.database pool new same is made
+    (λ p. ap {B = DatabasePool} (λ (ps : List Place). record { places = ps }) (map-set place_of p.entries at.index e)) pools n at.database pool new same is made
 
 pub wrote_stream : {S : Type 0} (pools : List (Entries S)) (at : LinkPlace) (n : ℕ) (pool new : Entries S) (e : Entry S) → n ≡ at.database → slice_get pools at.database ≡ Some pool → new ≡ with_entry at.index e pool → map streams_in (set pools n new) ≡ with_stream (map streams_in pools) at (stream_of e)
 wrote_stream pools at n pool new e same is made = wrote streams_in (with_entry at.index e) (λ row. set row at.index (stream_of e)) (λ p. map-set stream_of p.entries at.index e) pools n at.database pool new same is made
@@ -196,23 +195,6 @@ not_idle_at pools at pool there not = ap is_idle (seen_at pools at ∙ ap (optio
 
 pub pool_seen : {S : Type 0} (pools : List (Entries S)) (d : ℕ) (pool : Entries S) → slice_get pools d ≡ Some pool → slice_get (map pool_in pools) d ≡ Some (pool_in pool)
 pool_seen pools d pool there = slice_get-map pool_in pools d ∙ ap (option_map pool_in) there
-
--- a write of one queue, as the view sees it: no stream moves
-pub wrote_queue : {S : Type 0} (pools : List (Entries S)) (d n : ℕ) (pool new : Entries S) (f : List ℕ → List ℕ) → n ≡ d → slice_get pools d ≡ Some pool → new ≡ record pool { waiting = f pool.waiting } → map pool_in (set pools n new) ≡ changed (map pool_in pools) d (λ q. record q { waiting = f q.waiting })
-wrote_queue pools d n pool new f same is made = wrote pool_in (λ p. record p { waiting = f p.waiting }) (λ q. record q { waiting = f q.waiting }) (λ p. refl) pools n d pool new same is made
-
-pub kept_streams : {S : Type 0} (pools : List (Entries S)) (d n : ℕ) (pool new : Entries S) (f : List ℕ → List ℕ) → n ≡ d → slice_get pools d ≡ Some pool → new ≡ record pool { waiting = f pool.waiting } → map streams_in (set pools n new) ≡ map streams_in pools
-kept_streams pools d n pool new f same is made = wrote streams_in (λ p. record p { waiting = f p.waiting }) (λ row. row) (λ p. refl) pools n d pool new same is made ∙ changed_id (map streams_in pools) d
-
--- a write of one entry and of the queue
-pub wrote_both : {S : Type 0} (pools : List (Entries S)) (at : LinkPlace) (n : ℕ) (pool new : Entries S) (e : Entry S) (slot : ℕ) → n ≡ at.database → slice_get pools at.database ≡ Some pool → new ≡ record (with_entry at.index e pool) { waiting = others slot pool.waiting }
-    → map pool_in (set pools n new) ≡ changed (map pool_in pools) at.database (taken_by slot at.index (place_of e))
-wrote_both pools at n pool new e slot same is made = wrote pool_in (λ p. record (with_entry at.index e p) { waiting = others slot p.waiting }) (taken_by slot at.index (place_of e))
-    (λ p. ap {B = DatabasePool} (λ (ps : List Place). record { places = ps; waiting = others slot p.waiting; room = p.room }) (map-set place_of p.entries at.index e)) pools n at.database pool new same is made
-
-pub wrote_both_streams : {S : Type 0} (pools : List (Entries S)) (at : LinkPlace) (n : ℕ) (pool new : Entries S) (e : Entry S) (slot : ℕ) → n ≡ at.database → slice_get pools at.database ≡ Some pool → new ≡ record (with_entry at.index e pool) { waiting = others slot pool.waiting }
-    → map streams_in (set pools n new) ≡ with_stream (map streams_in pools) at (stream_of e)
-wrote_both_streams pools at n pool new e slot same is made = wrote streams_in (λ p. record (with_entry at.index e p) { waiting = others slot p.waiting }) (λ row. set row at.index (stream_of e)) (λ p. map-set stream_of p.entries at.index e) pools n at.database pool new same is made
 
 -- the pool that was read of a database that there is
 pub read_pool : {S : Type 0} (pools : List (Entries S)) (d n : ℕ) (pool : Entries S) → n ≡ d → d < length (map pool_in pools) → pool ≡ get_or pools n pool → slice_get pools d ≡ Some pool

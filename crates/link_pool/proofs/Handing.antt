@@ -1,6 +1,5 @@
 -- A client gets a place, or gives it back.
-use Rattle.std.proofs.Common.{◌≡◌, ◌≢◌, ℕ, ◌+◌, ◌^◌, ◌<◌, ◌≤◌, Bool, List, true, false, Option, Some, None, length, get_or, refl, ap, sym, subst, ◌∙◌, arith, ⊎_elim, inl, inr, ◌==◌, ◌||◌, ◌&&◌}
-use Rattle.std.proofs.Math.ListN.{set}
+use Rattle.std.proofs.Common.{◌≡◌, ◌≢◌, ℕ, ◌+◌, ◌^◌, ◌<◌, ◌≤◌, Bool, List, true, false, Option, Some, None, length, refl, ap, sym, subst, ◌∙◌, arith, ⊎_elim, inl, inr}
 use Rattle.std.specs.List.{slice_get}
 use Rattle.std.proofs.lemmas.Option.{slice_get_within, same_Some}
 use Rattle.lease.specs.declared.link_place.LinkPlace.{LinkPlace}
@@ -12,15 +11,15 @@ use Rattle.link_pool.specs.declared.place.LinkState.{LinkState}
 use Rattle.link_pool.specs.declared.place.LinkState.TheVariants as state
 use Rattle.link_pool.specs.declared.place.Claim.{Claim}
 use Rattle.link_pool.specs.declared.place.Claim.TheVariants as claim
-use Rattle.link_pool.specs.Pool.{DatabasePool, PoolView, place_in, place_at, changed, with_place, with_claim, in_state, lend, give_back}
-use Rattle.link_pool.specs.OnePlace.{same_place, Fits, LinkFits, has_link, has_permit, held_by, open_for, is_with, waits, times, StateFits, PermitFits, link_number, permit_number, IsPool}
+use Rattle.link_pool.specs.Pool.{PoolView, place_at, with_place, with_claim, in_state, lend, give_back}
+use Rattle.link_pool.specs.OnePlace.{Fits, LinkFits, has_link, has_permit, held_by, open_for, is_with, waits, StateFits, PermitFits, link_number, permit_number, IsPool}
 use Rattle.lease.specs.declared.link_record.LinkRecord.{LinkRecord}
 use Rattle.link_pool.specs.PoolStep.{IsHeld, IsOpen, with_hold, new_hold, new_link}
 use Rattle.quarantine.specs.OpenTickets.{OpenTickets}
 use Rattle.link_pool.specs.Parts.{is_bare, is_held, IsLent}
-use Rattle.link_pool.proofs.Changes.{place_here, place_there, queue_with_place, same_place_yes, same_place_no, same_places}
-use Rattle.link_pool.proofs.Places.{eq_self, eq_yes, eq_no}
-use Rattle.link_pool.proofs.Whole.{moved, place_cases, apart_changed, rooms_with_place, fits_more}
+use Rattle.link_pool.proofs.Changes.{changed_long, place_here, place_there, same_place_yes, same_place_no, same_places}
+use Rattle.slot_queues.proofs.Times.{eq_self, eq_yes, eq_no}
+use Rattle.link_pool.proofs.Whole.{moved, place_cases, apart_changed, fits_more}
 
 -- who has a link claims it
 link_claimed : (o : Option Claim) (at : LinkPlace) → has_link at o ≡ true → o ≡ Some (claim.Link at)
@@ -228,11 +227,11 @@ stayed v at old p whole there fits links permits number permit =
           (λ e. subst (λ (x : LinkPlace). has_permit x (slice_get v.claims s) ≡ open_for s (place_at (with_place v at p) x)) (sym e) (whole.permits s at ∙ ap (open_for s) there ∙ sym (permits s) ∙ ap (open_for s) (sym here)))
           (λ n. whole.permits s k ∙ ap (open_for s) (sym (place_there v at k p n)))
           (place_cases k at);
-      queues = λ s d. whole.queues s d ∙ ap (times s) (sym (queue_with_place v at p d));
+      queues = whole.queues;
       link_once = apart_changed link_number v at old p there whole.link_once (λ n h. inl (number n h));
       permit_once = apart_changed permit_number v at old p there whole.permit_once (λ n h. inl (permit n h));
       numbers = whole.numbers;
-      rooms = rooms_with_place v at p v.claims (λ d. refl) refl whole.rooms;
+      beside = whole.beside ∙ sym (changed_long v.pools at.database _);
     }
 
 -- a link's tickets change
@@ -292,7 +291,7 @@ given_more v l p t whole ll pp lm pm tm = record {
   link_once = whole.link_once;
   permit_once = whole.permit_once;
   numbers = (lm, pm, tm, whole.numbers.3);
-  rooms = whole.rooms;
+  beside = whole.beside;
 }
 
 -- a permit that is open says its node

@@ -1,5 +1,5 @@
 -- What is true of new pools, and of pools that were emptied.
-use Rattle.std.proofs.Common.{◌≡◌, ◌≢◌, ℕ, zero, suc, ◌+◌, ◌<◌, ◌≤◌, ◌^◌, Bool, true, false, List, [], ◌∷◌, ◌++◌, Option, Some, None, length, get_or, map, option_map, replicate, take, drop, refl, ap, subst, sym, ◌∙◌, arith, ⊎_elim, ◌⊎◌, inl, inr, if◌then◌else◌}
+use Rattle.std.proofs.Common.{◌≡◌, ℕ, zero, suc, ◌<◌, ◌≤◌, ◌^◌, false, List, [], ◌∷◌, ◌++◌, Option, Some, None, length, get_or, map, option_map, replicate, take, drop, refl, ap, subst, sym, ◌∙◌, arith, ⊎_elim, ◌⊎◌, inl, inr, if◌then◌else◌}
 use Rattle.std.proofs.Math.ListN.{set}
 use Rattle.std.specs.List.{slice_get}
 use Rattle.std.proofs.lemmas.List.{length-map, length-replicate}
@@ -10,8 +10,9 @@ use Rattle.link_pool.specs.declared.place.Claim.{Claim}
 use Rattle.link_pool.specs.declared.place.Claim.TheVariants as claim
 use Rattle.link_pool.specs.declared.place.Place.{Place}
 use Rattle.link_pool.specs.declared.place.Place.TheVariants as place
-use Rattle.link_pool.specs.Pool.{DatabasePool, PoolView, place_in, place_at, queue_in}
-use Rattle.link_pool.specs.OnePlace.{Fits, has_link, has_permit, held_by, open_for, waits, times, waiting_claims, link_number, permit_number, HasRoom, IsPool}
+use Rattle.link_pool.specs.Pool.{DatabasePool, PoolView, place_in, place_at}
+use Rattle.link_pool.specs.OnePlace.{Fits, has_link, has_permit, held_by, open_for, waits, link_number, permit_number, IsPool}
+use Rattle.slot_queues.specs.Queues.{times, queue_of}
 use Rattle.link_pool.specs.PoolStep.{empty_pool, empty_pools, emptied, fresh}
 use Rattle.link_pool.specs.Entries.{Entries, place_of, stream_of, idle_entry, freed, new_links, pool_in, streams_in}
 use Rattle.link_pool.specs.Streams.{stream_there, stored_in, NothingStored}
@@ -43,71 +44,62 @@ in_replicate x (suc n) (suc i) = in_replicate x n i
 alike : {X R : Type 0} (f : Option X → R) (x : X) (o : Option X) → f None ≡ f (Some x) → NoOther x o → f o ≡ f None
 alike f x o e h = ⊎_elim (λ n. ap f n) (λ s. ap f s ∙ sym e) h
 
-in_empty : {X : Type 0} (size room : X → ℕ) (o : Option X) (i : ℕ) → NoOther place.Free (place_in (option_map (λ x. empty_pool (size x) (room x)) o) i)
-in_empty size room None i = inl refl
-in_empty size room (Some x) i = in_replicate place.Free (size x) i
+in_empty : {X : Type 0} (size : X → ℕ) (o : Option X) (i : ℕ) → NoOther place.Free (place_in (option_map (λ x. empty_pool (size x)) o) i)
+in_empty size None i = inl refl
+in_empty size (Some x) i = in_replicate place.Free (size x) i
 
-none_waits : {X : Type 0} (size room : X → ℕ) (o : Option X) → queue_in (option_map (λ x. empty_pool (size x) (room x)) o) ≡ []
-none_waits size room None = refl
-none_waits size room (Some x) = refl
-
-none_claims : (n d : ℕ) → waiting_claims d (replicate n claim.Nothing) ≡ 0
-none_claims zero d = refl
-none_claims (suc n) d = let e = none_claims n d in omega (arith, e)
-
-has_room : {X : Type 0} (size room : X → ℕ) (slots d : ℕ) (o : Option X) → ((x : X) → o ≡ Some x → room x ≡ slots) → HasRoom (replicate slots claim.Nothing) d (option_map (λ x. empty_pool (size x) (room x)) o)
-has_room size room slots d None rooms = tt
-has_room size room slots d (Some x) rooms = (sym (none_claims slots d), rooms x refl ∙ sym (length-replicate slots claim.Nothing))
+none_waits : (s n d : ℕ) → times s (queue_of (replicate n []) d) ≡ 0
+none_waits s zero d = refl
+none_waits s (suc n) zero = refl
+none_waits s (suc n) (suc d) = none_waits s n d
 
 -- pools with nothing at any place, for which nobody waits
-whole_empty : {X : Type 0} (peer incarnation link permit ticket slots : ℕ) (size room : X → ℕ) (xs : List X) → ((d : ℕ) (x : X) → slice_get xs d ≡ Some x → room x ≡ slots)
+whole_empty : {X : Type 0} (peer incarnation link permit ticket slots : ℕ) (size : X → ℕ) (xs : List X)
     → (link ≤ 2 ^ 64) × (permit ≤ 2 ^ 64) × (ticket ≤ 2 ^ 64) × (incarnation < 2 ^ 64)
-    → IsPool (record { peer = peer; incarnation = incarnation; pools = map (λ x. empty_pool (size x) (room x)) xs; claims = replicate slots claim.Nothing; next_link = link; next_permit = permit; next_ticket = ticket })
-whole_empty peer incarnation link permit ticket slots size room xs rooms numbers =
-    let pools : List DatabasePool = map (λ x. empty_pool (size x) (room x)) xs in
-    let v : PoolView = record { peer = peer; incarnation = incarnation; pools = pools; claims = replicate slots claim.Nothing; next_link = link; next_permit = permit; next_ticket = ticket } in
-    let pool : (d : ℕ) → slice_get pools d ≡ option_map (λ x. empty_pool (size x) (room x)) (slice_get xs d) = λ d. slice_get-map (λ x. empty_pool (size x) (room x)) xs d in
-    let free : (at : LinkPlace) → NoOther place.Free (place_at v at) = λ at. subst (λ o. NoOther place.Free (place_in o at.index)) (sym (pool at.database)) (in_empty size room (slice_get xs at.database) at.index) in
+    → IsPool (record { peer = peer; incarnation = incarnation; pools = map (λ x. empty_pool (size x)) xs; queues = replicate (length xs) []; claims = replicate slots claim.Nothing; next_link = link; next_permit = permit; next_ticket = ticket })
+whole_empty peer incarnation link permit ticket slots size xs numbers =
+    let pools : List DatabasePool = map (λ x. empty_pool (size x)) xs in
+    let v : PoolView = record { peer = peer; incarnation = incarnation; pools = pools; queues = replicate (length xs) []; claims = replicate slots claim.Nothing; next_link = link; next_permit = permit; next_ticket = ticket } in
+    let pool : (d : ℕ) → slice_get pools d ≡ option_map (λ x. empty_pool (size x)) (slice_get xs d) = λ d. slice_get-map (λ x. empty_pool (size x)) xs d in
+    let free : (at : LinkPlace) → NoOther place.Free (place_at v at) = λ at. subst (λ o. NoOther place.Free (place_in o at.index)) (sym (pool at.database)) (in_empty size (slice_get xs at.database) at.index) in
     let none : (s : ℕ) → NoOther claim.Nothing (slice_get v.claims s) = λ s. in_replicate claim.Nothing slots s in
     record {
       fits = λ at. ⊎_elim (λ n. subst (Fits v at) (sym n) tt) (λ s. subst (Fits v at) (sym s) tt) (free at);
       links = λ s at. alike (has_link at) claim.Nothing (slice_get v.claims s) refl (none s) ∙ sym (alike (held_by s) place.Free (place_at v at) refl (free at));
       permits = λ s at. alike (has_permit at) claim.Nothing (slice_get v.claims s) refl (none s) ∙ sym (alike (open_for s) place.Free (place_at v at) refl (free at));
-      queues = λ s d. alike (waits d) claim.Nothing (slice_get v.claims s) refl (none s) ∙ sym (ap (times s) (ap queue_in (pool d) ∙ none_waits size room (slice_get xs d)));
+      queues = λ s d. alike (waits d) claim.Nothing (slice_get v.claims s) refl (none s) ∙ sym (none_waits s (length xs) d);
       link_once = λ at other n h k. let e : None ≡ Some n = sym (alike link_number place.Free (place_at v at) refl (free at)) ∙ h in absurd (cc);
       permit_once = λ at other n h k. let e : None ≡ Some n = sym (alike permit_number place.Free (place_at v at) refl (free at)) ∙ h in absurd (cc);
       numbers = numbers;
-      rooms = λ d. subst (HasRoom v.claims d) (sym (pool d)) (has_room size room slots d (slice_get xs d) (rooms d));
+      beside = length-replicate {A = List ℕ} (length xs) [] ∙ sym (length-map xs (λ x. empty_pool (size x)));
     }
 
 -- new pools
 pub whole_fresh : (peer : ℕ) (sizes : List ℕ) (slots : ℕ) → IsPool (fresh peer sizes slots)
-whole_fresh peer sizes slots = whole_empty peer 0 0 0 0 slots (λ size. size) (λ size. slots) sizes (λ d x h. refl) (omega arith, omega arith, omega arith, omega arith)
+whole_fresh peer sizes slots = whole_empty peer 0 0 0 0 slots (λ size. size) sizes (omega arith, omega arith, omega arith, omega arith)
 
 -- pools after a new start
-pub whole_emptied : (v : PoolView) (next : ℕ) → IsPool v → next < 2 ^ 64 → IsPool (record v { incarnation = next; pools = emptied v.pools; claims = replicate (length v.claims) claim.Nothing })
-whole_emptied v next whole h = whole_empty v.peer next v.next_link v.next_permit v.next_ticket (length v.claims) (λ (pool : DatabasePool). length pool.places) (λ (pool : DatabasePool). pool.room) v.pools
-    (λ d pool e. let room : HasRoom v.claims d (Some pool) = subst (HasRoom v.claims d) e (whole.rooms d) in room.1)
-    (whole.numbers.0, whole.numbers.1, whole.numbers.2, h)
+pub whole_emptied : (v : PoolView) (next : ℕ) → IsPool v → next < 2 ^ 64 → IsPool (record v { incarnation = next; pools = emptied v.pools; queues = replicate (length v.queues) []; claims = replicate (length v.claims) claim.Nothing })
+whole_emptied v next whole h = rw whole.beside (whole_empty v.peer next v.next_link v.next_permit v.next_ticket (length v.claims) (λ (pool : DatabasePool). length pool.places) v.pools (whole.numbers.0, whole.numbers.1, whole.numbers.2, h))
 
 -- new entries, as the view sees them
 places_free : (S : Type 0) (n : ℕ) → map (place_of {S = S}) (replicate n entry.Free) ≡ replicate n place.Free
 places_free S zero = refl
 places_free S (suc n) = ap (λ (ps : List Place). place.Free ∷ ps) (places_free S n)
 
-new_pool_seen : (S : Type 0) (size room : ℕ) → pool_in (new_links {S = S} size room) ≡ empty_pool size room
-new_pool_seen S size room = ap {B = DatabasePool} (λ (ps : List Place). record { places = ps; waiting = []; room = room }) (places_free S size)
+new_pool_seen : (S : Type 0) (size : ℕ) → pool_in (new_links {S = S} size) ≡ empty_pool size
+new_pool_seen S size = ap {B = DatabasePool} (λ (ps : List Place). record { places = ps }) (places_free S size)
 
-pub new_seen : (S : Type 0) (slots : ℕ) (sizes : List ℕ) → map pool_in (map (λ size. new_links {S = S} size slots) sizes) ≡ empty_pools sizes slots
-new_seen S slots [] = refl
-new_seen S slots (size ∷ sizes) =
-    ap (λ (p : DatabasePool). p ∷ map pool_in (map (λ size. new_links {S = S} size slots) sizes)) (new_pool_seen S size slots) ∙ ap (λ (ps : List DatabasePool). empty_pool size slots ∷ ps) (new_seen S slots sizes)
+pub new_seen : (S : Type 0) (sizes : List ℕ) → map pool_in (map (new_links {S = S}) sizes) ≡ empty_pools sizes
+new_seen S [] = refl
+new_seen S (size ∷ sizes) =
+    ap (λ (p : DatabasePool). p ∷ map pool_in (map (new_links {S = S}) sizes)) (new_pool_seen S size) ∙ ap (λ (ps : List DatabasePool). empty_pool size ∷ ps) (new_seen S sizes)
 
 pub freed_seen : {S : Type 0} (pools : List (Entries S)) → map pool_in (map freed pools) ≡ emptied (map pool_in pools)
 freed_seen [] = refl
 freed_seen {S} (pool ∷ pools) =
-    ap (λ (p : DatabasePool). p ∷ map pool_in (map freed pools)) (new_pool_seen S (length pool.entries) pool.room ∙ ap (λ (n : ℕ). empty_pool n pool.room) (sym (length-map pool.entries place_of)))
-    ∙ ap (λ (ps : List DatabasePool). empty_pool (length (map place_of pool.entries)) pool.room ∷ ps) (freed_seen pools)
+    ap (λ (p : DatabasePool). p ∷ map pool_in (map freed pools)) (new_pool_seen S (length pool.entries) ∙ ap empty_pool (sym (length-map pool.entries place_of)))
+    ∙ ap (λ (ps : List DatabasePool). empty_pool (length (map place_of pool.entries)) ∷ ps) (freed_seen pools)
 
 -- no stream lies in them
 streams_free : (S : Type 0) (n i : ℕ) → stream_there (slice_get (map (stream_of {S = S}) (replicate n entry.Free)) i) ≡ None
@@ -115,16 +107,16 @@ streams_free S zero i = refl
 streams_free S (suc n) zero = refl
 streams_free S (suc n) (suc i) = streams_free S n i
 
-none_stored : {X : Type 0} (S : Type 0) (size room : X → ℕ) (xs : List X) (d i : ℕ) → stored_in (slice_get (map streams_in (map (λ x. new_links {S = S} (size x) (room x)) xs)) d) i ≡ None
-none_stored S size room [] d i = refl
-none_stored S size room (x ∷ xs) zero i = streams_free S (size x) i
-none_stored S size room (x ∷ xs) (suc d) i = none_stored S size room xs d i
+none_stored : {X : Type 0} (S : Type 0) (size : X → ℕ) (xs : List X) (d i : ℕ) → stored_in (slice_get (map streams_in (map (λ x. new_links {S = S} (size x)) xs)) d) i ≡ None
+none_stored S size [] d i = refl
+none_stored S size (x ∷ xs) zero i = streams_free S (size x) i
+none_stored S size (x ∷ xs) (suc d) i = none_stored S size xs d i
 
-pub new_stored : (S : Type 0) (slots : ℕ) (sizes : List ℕ) → NothingStored (map streams_in (map (λ size. new_links {S = S} size slots) sizes))
-new_stored S slots sizes at = none_stored S (λ size. size) (λ size. slots) sizes at.database at.index
+pub new_stored : (S : Type 0) (sizes : List ℕ) → NothingStored (map streams_in (map (new_links {S = S}) sizes))
+new_stored S sizes at = none_stored S (λ size. size) sizes at.database at.index
 
 pub freed_stored : {S : Type 0} (pools : List (Entries S)) → NothingStored (map streams_in (map freed pools))
-freed_stored {S} pools at = none_stored S (λ (pool : Entries S). length pool.entries) (λ (pool : Entries S). pool.room) pools at.database at.index
+freed_stored {S} pools at = none_stored S (λ (pool : Entries S). length pool.entries) pools at.database at.index
 
 -- the first so many of a list are changed
 pub get_mapped : {X : Type 0} (f : X → X) (old : List X) (i : ℕ) (d : X) → i < length old → get_or (map f (take i old) ++ drop i old) i d ≡ get_or old i d

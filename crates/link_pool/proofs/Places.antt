@@ -1,9 +1,7 @@
--- Lists at a place, after a write to one place, and the numbers that are in a list.
-use Rattle.std.proofs.Common.{◌≡◌, ◌≢◌, ℕ, zero, suc, ◌+◌, ◌<◌, ◌==◌, true, false, List, [], ◌∷◌, ◌++◌, Some, length, refl, ap, sym, arith, if◌then◌else◌}
+-- Lists at a place, after a write to one place.
+use Rattle.std.proofs.Common.{◌≡◌, ◌≢◌, ℕ, zero, suc, ◌<◌, List, [], ◌∷◌, Some, length, refl, ap, sym, arith}
 use Rattle.std.proofs.Math.ListN.{set}
 use Rattle.std.specs.List.{slice_get}
-use Rattle.std.proofs.lemmas.Bool.Decides.{eqb_tells}
-use Rattle.link_pool.specs.OnePlace.{times}
 
 -- what was written is read
 pub slice_get-set_same : {X : Type 0} (xs : List X) (i : ℕ) (x : X) → i < length xs → slice_get (set xs i x) i ≡ Some x
@@ -24,18 +22,3 @@ pub set_same : {X : Type 0} (xs : List X) (i : ℕ) (x : X) → slice_get xs i �
 set_same [] i x h = refl
 set_same (y ∷ ys) zero x h = let e : y ≡ x = cc in ap (λ z. z ∷ ys) (sym e)
 set_same (y ∷ ys) (suc i) x h = ap (λ zs. y ∷ zs) (set_same ys i x h)
-
--- the test of two numbers
-pub eq_self : (n : ℕ) → (n == n) ≡ true
-eq_self n = grind (arith, eqb_tells n n)
-
-pub eq_yes : (m n : ℕ) → (m == n) ≡ true → m ≡ n
-eq_yes m n h = grind (arith, eqb_tells m n)
-
-pub eq_no : (m n : ℕ) → m ≢ n → (m == n) ≡ false
-eq_no m n h = grind (arith, eqb_tells m n)
-
--- how often a number is in a list, once one was appended
-pub times_joined : (s slot : ℕ) (waiting : List ℕ) → times s (waiting ++ slot ∷ []) ≡ times s waiting + (if slot == s then 1 else 0)
-times_joined s slot [] = omega arith
-times_joined s slot (x ∷ rest) = let e = times_joined s slot rest in omega (arith, e)

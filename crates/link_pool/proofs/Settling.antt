@@ -1,5 +1,5 @@
 -- A link that has other tickets from now on.
-use Rattle.std.proofs.Common.{◌≡◌, ◌≢◌, ℕ, zero, suc, ◌<◌, ◌≤◌, Bool, true, false, List, Option, Some, None, is_some, map, option_map, refl, ap, sym, subst, ◌∙◌, arith}
+use Rattle.std.proofs.Common.{◌≡◌, ◌≢◌, ℕ, zero, suc, ◌<◌, ◌≤◌, Bool, true, false, List, Option, Some, None, is_some, map, refl, sym, subst, arith}
 use Rattle.lease.specs.LinkValue.{LinkValue}
 use Rattle.lease.specs.declared.link_place.LinkPlace.{LinkPlace}
 use Rattle.quarantine.specs.OpenTickets.{OpenTickets}
@@ -8,16 +8,15 @@ use Rattle.quarantine.specs.declared.hold.HoldState.{HoldState}
 use Rattle.quarantine.specs.declared.hold.HoldState.TheVariants.{Clear, Waiting, Condemned}
 use Rattle.link_pool.specs.declared.entry.Entry.{Entry}
 use Rattle.link_pool.specs.declared.entry.Entry.TheVariants as entry
-use Rattle.link_pool.specs.declared.place.Place.{Place}
 use Rattle.link_pool.specs.declared.place.Place.TheVariants as place
 use Rattle.link_pool.specs.declared.place.Link.{Link}
 use Rattle.link_pool.specs.declared.place.LinkState.{LinkState}
 use Rattle.link_pool.specs.declared.place.LinkState.TheVariants as state
 use Rattle.link_pool.specs.Entries.{Entries, place_of, stream_of, settled_by, settled, leaving_by, leaving, streams_in}
-use Rattle.link_pool.specs.Pool.{PoolView, place_at, with_place, in_state}
+use Rattle.link_pool.specs.Pool.{PoolView, place_at, with_place}
 use Rattle.link_pool.specs.OnePlace.{StateFits, IsPool}
 use Rattle.link_pool.specs.PoolStep.{is_idle_state, with_hold}
-use Rattle.link_pool.specs.Parts.{quarantined_place, settled_link, settled_place, is_leaving_in, is_leaving, Leaves}
+use Rattle.link_pool.specs.Parts.{quarantined_place, settled_link, settled_place, is_leaving, Leaves}
 use Rattle.link_pool.proofs.Entries.{entry_at, with_stream, stays, moves}
 use Rattle.link_pool.proofs.Handing.{held_on, cleared, dropped}
 

@@ -1,14 +1,15 @@
 -- The stack of a pool's idle links, and its lowest free place, once a place has changed.
-use Rattle.std.proofs.Common.{◌≡◌, ◌≢◌, ℕ, zero, suc, ◌+◌, ◌<◌, ◌≤◌, ◌==◌, Bool, true, false, List, [], ◌∷◌, ◌++◌, Option, Some, None, length, refl, ap, subst, sym, ◌∙◌, arith, length-append, ⊎_elim, if◌then◌else◌}
+use Rattle.std.proofs.Common.{◌≡◌, ◌≢◌, ℕ, zero, suc, ◌+◌, ◌<◌, ◌≤◌, ◌==◌, Bool, true, false, List, [], ◌∷◌, ◌++◌, Option, Some, length, refl, ap, subst, sym, ◌∙◌, arith, length-append, ⊎_elim, if◌then◌else◌}
 use Rattle.std.proofs.Math.ListN.{set}
 use Rattle.std.specs.List.{slice_get}
 use Rattle.std.proofs.lemmas.Option.{slice_get_within, same_Some}
 use Rattle.std.proofs.lemmas.Bool.{cases_eq}
 use Rattle.link_pool.specs.declared.entry.Entry.{Entry}
 use Rattle.link_pool.specs.declared.entry.Entry.TheVariants as entry
-use Rattle.link_pool.specs.OnePlace.{times}
+use Rattle.slot_queues.specs.Queues.{times}
 use Rattle.link_pool.specs.Stacks.{how_many, IsStack, put_on}
-use Rattle.link_pool.proofs.Places.{slice_get-set_same, slice_get-set_other, eq_self, eq_no, times_joined}
+use Rattle.link_pool.proofs.Places.{slice_get-set_same, slice_get-set_other}
+use Rattle.slot_queues.proofs.Times.{eq_self, eq_no, times_joined}
 
 -- 1 for yes
 abbrev one : Bool → ℕ

@@ -1,5 +1,5 @@
 -- What is true of every node's pools stays true.
-use Rattle.std.proofs.Common.{◌≡◌, ◌≢◌, ℕ, zero, suc, ◌≤◌, ◌+◌, List, [], ◌∷◌, option_map, unwrap_or, get_or, Option, Some, None, length, length-set, refl, ap, sym, subst, ◌∙◌, arith, ⊎_elim, ◌⊎◌, inl, inr}
+use Rattle.std.proofs.Common.{◌≡◌, ◌≢◌, ℕ, ◌≤◌, List, [], ◌∷◌, option_map, unwrap_or, get_or, Option, Some, None, length, refl, ap, sym, subst, ◌∙◌, arith, ⊎_elim, ◌⊎◌, inl, inr}
 use Rattle.std.proofs.Math.ListN.{set}
 use Rattle.std.specs.List.{slice_get}
 use Rattle.std.proofs.lemmas.Option.{slice_get_within, slice_get-map, unwrap_or-slice_get}
@@ -8,10 +8,11 @@ use Rattle.lease.specs.declared.link_place.LinkPlace.{LinkPlace}
 use Rattle.link_pool.specs.declared.place.Place.{Place}
 use Rattle.link_pool.specs.declared.place.Place.TheVariants as place
 use Rattle.link_pool.specs.declared.place.Claim.{Claim}
-use Rattle.link_pool.specs.Pool.{DatabasePool, PoolView, at_place, place_at, queue_at, with_place, with_claim}
-use Rattle.link_pool.specs.OnePlace.{Fits, has_link, has_permit, held_by, open_for, waits, times, used, used_in, sizes, WithinSizes, waiting_claims, link_number, permit_number, HasRoom, IsPool}
+use Rattle.link_pool.specs.Pool.{DatabasePool, PoolView, place_at, queue_at, with_place, with_claim}
+use Rattle.link_pool.specs.OnePlace.{Fits, has_link, has_permit, held_by, open_for, waits, used, used_in, sizes, WithinSizes, link_number, permit_number, IsPool}
+use Rattle.slot_queues.specs.Queues.{times}
 use Rattle.link_pool.proofs.Places.{slice_get-set_same, slice_get-set_other}
-use Rattle.link_pool.proofs.Changes.{one_place, changed_here, changed_there, place_here, place_there, queue_with_place}
+use Rattle.link_pool.proofs.Changes.{one_place, changed_long, place_here, place_there}
 
 -- what fits one view fits one with more numbers given
 pub fits_more : (v w : PoolView) (at : LinkPlace) (o : Option Place) → v.peer ≡ w.peer → v.incarnation ≡ w.incarnation → v.next_link ≤ w.next_link → v.next_permit ≤ w.next_permit → Fits v at o → Fits w at o
@@ -38,12 +39,6 @@ within_sizes v each e d =
     let same : unwrap_or (option_map (λ (pool : DatabasePool). length pool.places) (slice_get v.pools d)) 0 ≡ get_or each d 0 =
     ap (λ (o : Option ℕ). unwrap_or o 0) (sym (slice_get-map (λ (pool : DatabasePool). length pool.places) v.pools d)) ∙ unwrap_or-slice_get (sizes v.pools) d 0 ∙ ap (λ (ns : List ℕ). get_or ns d 0) e in
     omega (arith, few, same)
-
--- as many claims wait, once one has changed
-pub waiting_claims-set : (claims : List Claim) (s d : ℕ) (was claim : Claim) → slice_get claims s ≡ Some was → waiting_claims d (set claims s claim) + waits d (Some was) ≡ waiting_claims d claims + waits d (Some claim)
-waiting_claims-set [] s d was claim h = absurd (cc)
-waiting_claims-set (x ∷ xs) zero d was claim h = let e : x ≡ was = cc in rw e (omega arith)
-waiting_claims-set (x ∷ xs) (suc s) d was claim h = let e = waiting_claims-set xs s d was claim h in omega (arith, e)
 
 -- two sides agree, once one key and one slot have changed
 pub agree_changed : {K V R : Type 0} (f : K → Option Claim → R) (g : ℕ → V → R) (look new_look : K → V) (claim new_claim : ℕ → Option Claim) (key : K) (slot : ℕ)
@@ -81,7 +76,7 @@ pub record Moves (v : PoolView) (at : LinkPlace) (old p : Place) (slot : ℕ) (w
   pub new_permit : (n : ℕ) → permit_number (Some p) ≡ Some n → (permit_number (Some old) ≡ Some n) ⊎ ((k : LinkPlace) → permit_number (place_at v k) ≢ Some n)
 
 -- a slot is the one that changed, or has what it had
-slot_cases : (claims : List Claim) (slot s : ℕ) (claim : Claim) → (s ≡ slot) ⊎ ((s ≢ slot) × (slice_get (set claims slot claim) s ≡ slice_get claims s))
+pub slot_cases : (claims : List Claim) (slot s : ℕ) (claim : Claim) → (s ≡ slot) ⊎ ((s ≢ slot) × (slice_get (set claims slot claim) s ≡ slice_get claims s))
 slot_cases claims slot s claim = ⊎_elim (λ e. inl e) (λ n. inr (n, slice_get-set_other claims slot s claim n)) (cases_eq s slot)
 
 pub place_cases : (a b : LinkPlace) → (a ≡ b) ⊎ (a ≢ b)
@@ -111,22 +106,6 @@ apart_changed number v at old p there once new k j n hk hj =
     (λ nk. ⊎_elim (λ ej. sym (of_new j k ej nk hj hk)) (λ nj. once k j n (ap number (sym (place_there v at k p nk)) ∙ hk) (ap number (sym (place_there v at j p nj)) ∙ hj)) (place_cases j at))
     (place_cases k at)
 
--- a pool's room, once one of its places has changed
-room_of_place : (claims new : List Claim) (d : ℕ) (o : Option DatabasePool) (i : ℕ) (p : Place) → waiting_claims d new ≡ waiting_claims d claims → length new ≡ length claims → HasRoom claims d o → HasRoom new d (option_map (λ (pool : DatabasePool). at_place pool i p) o)
-room_of_place claims new d None i p w l h = tt
-room_of_place claims new d (Some pool) i p w l h = (h.0 ∙ sym w, h.1 ∙ sym l)
-
-room_same : (claims new : List Claim) (d : ℕ) (o : Option DatabasePool) → waiting_claims d new ≡ waiting_claims d claims → length new ≡ length claims → HasRoom claims d o → HasRoom new d o
-room_same claims new d None w l h = tt
-room_same claims new d (Some pool) w l h = (h.0 ∙ sym w, h.1 ∙ sym l)
-
-pub rooms_with_place : (v : PoolView) (at : LinkPlace) (p : Place) (new : List Claim) → ((d : ℕ) → waiting_claims d new ≡ waiting_claims d v.claims) → length new ≡ length v.claims → ((d : ℕ) → HasRoom v.claims d (slice_get v.pools d)) → (d : ℕ) → HasRoom new d (slice_get (with_place v at p).pools d)
-rooms_with_place v at p new w l h d = ⊎_elim
-    (λ same. subst (λ (e : ℕ). HasRoom new e (slice_get (with_place v at p).pools e)) (sym same)
-    (subst (HasRoom new at.database) (sym (changed_here v.pools at.database _)) (room_of_place v.claims new at.database (slice_get v.pools at.database) at.index p (w at.database) l (h at.database))))
-    (λ apart. subst (HasRoom new d) (sym (changed_there v.pools at.database d _ apart)) (room_same v.claims new d (slice_get v.pools d) (w d) l (h d)))
-    (cases_eq d at.database)
-
 -- after a change at one place and for one client
 pub moved : (v : PoolView) (at : LinkPlace) (old p : Place) (slot : ℕ) (was claim : Claim) → IsPool v → Moves v at old p slot was claim → IsPool (with_claim (with_place v at p) slot claim)
 moved v at old p slot was claim whole m =
@@ -147,11 +126,11 @@ moved v at old p slot was claim whole m =
           (λ k n. ap (has_permit k) now ∙ m.permit_elsewhere k n ∙ ap (has_permit k) (sym m.had))
           (ap (has_permit at) now ∙ m.permit_here ∙ ap (open_for slot) (sym here));
       queues = λ s d. ⊎_elim
-          (λ e. subst (λ (t : ℕ). waits d (slice_get (set v.claims slot claim) t) ≡ times t (queue_at (with_place v at p) d)) (sym e) (ap (waits d) now ∙ m.same_wait d ∙ ap (waits d) (sym m.had) ∙ whole.queues slot d ∙ ap (times slot) (sym (queue_with_place v at p d))))
-          (λ n. ap (waits d) n.1 ∙ whole.queues s d ∙ ap (times s) (sym (queue_with_place v at p d)))
+          (λ e. subst (λ (t : ℕ). waits d (slice_get (set v.claims slot claim) t) ≡ times t (queue_at v d)) (sym e) (ap (waits d) now ∙ m.same_wait d ∙ ap (waits d) (sym m.had) ∙ whole.queues slot d))
+          (λ n. ap (waits d) n.1 ∙ whole.queues s d)
           (slot_cases v.claims slot s claim);
       link_once = apart_changed link_number v at old p m.there whole.link_once m.new_link;
       permit_once = apart_changed permit_number v at old p m.there whole.permit_once m.new_permit;
       numbers = whole.numbers;
-      rooms = rooms_with_place v at p (set v.claims slot claim) (λ d. let e = waiting_claims-set v.claims slot d was claim m.had in let w = m.same_wait d in omega (arith, e, w)) (length-set v.claims slot claim) whole.rooms;
+      beside = whole.beside ∙ sym (changed_long v.pools at.database _);
     }

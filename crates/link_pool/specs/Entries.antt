@@ -1,5 +1,5 @@
 -- What a database's pool keeps at its places: the places of the view, and the streams that lie there.
-use Rattle.std.specs.Prelude.{ℕ, ◌≡◌, ◌≢◌, ◌<◌, Bool, List, [], length, map, replicate, Option, None, Some, option_map, slice_get, slice_set}
+use Rattle.std.specs.Prelude.{ℕ, ◌≡◌, ◌≢◌, ◌<◌, Bool, List, length, map, replicate, Option, None, Some, option_map, slice_get, slice_set}
 use Rattle.lease.specs.LinkValue.{LinkValue}
 use Rattle.lease.specs.declared.link_place.LinkPlace.{LinkPlace}
 use Rattle.quarantine.specs.OpenTickets.{OpenTickets}
@@ -91,11 +91,9 @@ lent slot (entry.Held details key hold other) = entry.Held details key hold othe
 lent slot (entry.Idle link key) = entry.Held link.details key new_hold slot
 lent slot (entry.Quarantined link key hold) = entry.Quarantined link key hold
 
--- the entries of one database; the slots that wait, in order; how many may wait at once
+-- the entries of one database
 pub record Entries (S : Type 0) : Type 0 where
   pub entries : List (Entry S)
-  pub waiting : List ℕ
-  pub room : ℕ
 
 -- with this at a place
 abbrev pub with_entry : {S : Type 0} → ℕ → Entry S → Entries S → Entries S
@@ -115,16 +113,16 @@ pub record IsLowest {S : Type 0} (entries : List (Entry S)) (index : ℕ) : Type
 
 -- the pool of the view
 abbrev pub pool_in : {S : Type 0} → Entries S → DatabasePool
-pool_in pool = record { places = map place_of pool.entries; waiting = pool.waiting; room = pool.room }
+pool_in pool = record { places = map place_of pool.entries }
 
 -- the streams that lie in it
 abbrev pub streams_in : {S : Type 0} → Entries S → List (Option S)
 streams_in pool = map stream_of pool.entries
 
--- so many free places, for whose links so many slots may wait
-abbrev pub new_links : {S : Type 0} → ℕ → ℕ → Entries S
-new_links size room = record { entries = replicate size entry.Free; waiting = []; room = room }
+-- so many free places
+abbrev pub new_links : {S : Type 0} → ℕ → Entries S
+new_links size = record { entries = replicate size entry.Free }
 
--- with nothing at any place, and nobody that waits
+-- with nothing at any place
 abbrev pub freed : {S : Type 0} → Entries S → Entries S
-freed pool = new_links (length pool.entries) pool.room
+freed pool = new_links (length pool.entries)

@@ -1,6 +1,7 @@
 -- What is true of every node's links (own): each is in one place, and each client has one thing at most.
 use Rattle.std.specs.Prelude.{ℕ, ◌≡◌, ◌==◌, ◌&&◌, ◌+◌, ◌<◌, ◌≤◌, ◌^◌, Bool, false, List, [], ◌∷◌, Option, Some, None, length, map, slice_get, slice_index, if◌then◌else◌}
 use Rattle.lease.specs.declared.link_place.LinkPlace.{LinkPlace}
+use Rattle.slot_queues.specs.Queues.{times}
 use Rattle.lease.specs.declared.permit.PermitRecord.{PermitRecord}
 use Rattle.quarantine.specs.OpenTickets.{OpenTickets}
 use Rattle.link_pool.specs.declared.place.Place.{Place}
@@ -60,11 +61,6 @@ open_for slot (Some place.Free) = false
 open_for slot (Some (place.Open permit other)) = other == slot
 open_for slot (Some (place.Link link)) = false
 
--- how often a slot stands in a queue
-abbrev pub times : ℕ → List ℕ → ℕ
-times slot [] = 0
-times slot (first ∷ rest) = (if first == slot then 1 else 0) + times slot rest
-
 -- an idle link has no open ticket and isn't condemned; a quarantined one has an open ticket and isn't condemned
 abbrev pub StateFits : LinkState → OpenTickets → Type 0
 StateFits state.Idle hold = (hold.tickets ≡ 0) × (hold.condemned ≡ false)
@@ -120,17 +116,6 @@ used (place.Free ∷ places) = used places
 used (place.Open permit slot ∷ places) = 1 + used places
 used (place.Link link ∷ places) = 1 + used places
 
--- how many claims say that their client waits for the database
-abbrev pub waiting_claims : ℕ → List Claim → ℕ
-waiting_claims database [] = 0
-waiting_claims database (claim ∷ claims) = waits database (Some claim) + waiting_claims database claims
-
--- as many wait as clients say that they wait; each client may wait
-abbrev pub HasRoom : List Claim → ℕ → Option DatabasePool → Type 0
-HasRoom claims database None = Unit {0}
-HasRoom claims database (Some pool) =
-    (length pool.waiting ≡ waiting_claims database claims) × (pool.room ≡ length claims)
-
 -- what is true of every node's pools
 pub record IsPool (v : PoolView) : Type 0 where
   -- what stands at a place says its node, incarnation and place, with a number that was given
@@ -152,8 +137,8 @@ pub record IsPool (v : PoolView) : Type 0 where
   -- the numbers that are left
   pub numbers : (v.next_link ≤ 2 ^ 64) × (v.next_permit ≤ 2 ^ 64) × (v.next_ticket ≤ 2 ^ 64)
       × (v.incarnation < 2 ^ 64)
-  -- as many wait as say so, and each client may wait
-  pub rooms : (database : ℕ) → HasRoom v.claims database (slice_get v.pools database)
+  -- each database has a queue
+  pub beside : length v.queues ≡ length v.pools
 
 -- how many links and permits a pool has
 abbrev pub used_in : Option DatabasePool → ℕ

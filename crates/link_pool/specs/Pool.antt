@@ -1,6 +1,7 @@
 -- The links of a node's view (own; PgBouncer manual, `pool_size`).
-use Rattle.std.specs.Prelude.{ℕ, zero, suc, ◌==◌, ◌++◌, List, [], ◌∷◌, Option, Some, None, slice_get, slice_set, if◌then◌else◌}
+use Rattle.std.specs.Prelude.{ℕ, zero, suc, List, [], ◌∷◌, Option, Some, None, slice_get, slice_set}
 use Rattle.lease.specs.declared.link_place.LinkPlace.{LinkPlace}
+pub use Rattle.slot_queues.specs.Queues.{queue_of, others, behind}
 use Rattle.link_pool.specs.declared.place.Place.{Place}
 use Rattle.link_pool.specs.declared.place.Place.TheVariants as place
 use Rattle.link_pool.specs.declared.place.Link.{Link}
@@ -9,19 +10,17 @@ use Rattle.link_pool.specs.declared.place.LinkState.TheVariants as state
 use Rattle.link_pool.specs.declared.place.Claim.{Claim}
 use Rattle.link_pool.specs.declared.place.Claim.TheVariants as claim
 
--- The pool of one database: its places, as many as its pool size; the slots that wait, in order; how many
--- may wait at once.
+-- The pool of one database: its places, as many as its pool size.
 pub record DatabasePool : Type 0 where
   pub places : List Place
-  pub waiting : List ℕ
-  pub room : ℕ
 
--- The pools of a node: its number and incarnation; the pool of each database; by slot what its client has;
--- the numbers that are given next.
+-- The pools of a node: its number and incarnation; by database its pool, and the slots that wait for it,
+-- in order; by slot what its client has; the numbers that are given next.
 pub record PoolView : Type 0 where
   pub peer : ℕ
   pub incarnation : ℕ
   pub pools : List DatabasePool
+  pub queues : List (List ℕ)
   pub claims : List Claim
   pub next_link : ℕ
   pub next_permit : ℕ
@@ -36,14 +35,9 @@ place_in (Some pool) index = slice_get pool.places index
 abbrev pub place_at : PoolView → LinkPlace → Option Place
 place_at v at = place_in (slice_get v.pools at.database) at.index
 
--- the slots that wait in a pool
-abbrev pub queue_in : Option DatabasePool → List ℕ
-queue_in None = []
-queue_in (Some pool) = pool.waiting
-
 -- the slots that wait for a database, in order
 abbrev pub queue_at : PoolView → ℕ → List ℕ
-queue_at v database = queue_in (slice_get v.pools database)
+queue_at v database = queue_of v.queues database
 
 -- the list with the entry of this database changed
 abbrev pub changed : {X : Type 0} → List X → ℕ → (X → X) → List X
@@ -64,7 +58,7 @@ with_place v at place = record v {
 -- the view with this queue for the database
 abbrev pub with_queue : PoolView → ℕ → (List ℕ → List ℕ) → PoolView
 with_queue v database change = record v {
-  pools = changed v.pools database (λ pool. record pool { waiting = change pool.waiting });
+  queues = slice_set v.queues database (change (queue_at v database));
 }
 
 -- the view with this for the client of the slot
@@ -83,15 +77,6 @@ lend v at slot link =
 -- the client of the slot no longer has the place, which is this from now on
 abbrev pub give_back : PoolView → LinkPlace → ℕ → Place → PoolView
 give_back v at slot place = with_claim (with_place v at place) slot claim.Nothing
-
--- the others that wait, in order
-abbrev pub others : ℕ → List ℕ → List ℕ
-others slot [] = []
-others slot (first ∷ rest) = if first == slot then rest else first ∷ others slot rest
-
--- the slots that wait, and this one last
-abbrev pub behind : ℕ → List ℕ → List ℕ
-behind slot waiting = waiting ++ slot ∷ []
 
 -- the view with the slot out of the queue, by what its client has
 abbrev pub out_of_queue : Option Claim → PoolView → ℕ → PoolView

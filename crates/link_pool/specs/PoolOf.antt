@@ -11,6 +11,7 @@ pool_of p = record {
     peer = p.peer;
     incarnation = p.incarnation;
     pools = map pool_in p.pools.items;
+    queues = p.queues.queues;
     claims = p.claims.items;
     next_link = p.next_link;
     next_permit = p.next_permit;

@@ -312,33 +312,35 @@ FailedStep ticket failed.Stale old new = StaleTicket ticket old × (new ≡ old)
 -- no number is needed
 FailedStep ticket failed.Exhausted old new = ⊥
 
--- a pool of this size with nothing at any place, for which nobody waits, and so many may
-abbrev pub empty_pool : ℕ → ℕ → DatabasePool
-empty_pool size room = record { places = replicate size place.Free; waiting = []; room = room }
+-- a pool of this size with nothing at any place
+abbrev pub empty_pool : ℕ → DatabasePool
+empty_pool size = record { places = replicate size place.Free }
 
--- the pools with nothing at any place, and nobody who waits
+-- the pools with nothing at any place
 abbrev pub emptied : List DatabasePool → List DatabasePool
-emptied pools = map (λ pool. empty_pool (length pool.places) pool.room) pools
+emptied pools = map (λ pool. empty_pool (length pool.places)) pools
 
 -- a new start: the next incarnation, in which nothing is open; numbers aren't set back
 abbrev pub RestartStep : RestartReply → PoolView → PoolView → Type 0
 RestartStep restart.Restarted old new = (new ≡ record old {
   incarnation = old.incarnation + 1;
   pools = emptied old.pools;
+  queues = replicate (length old.queues) [];
   claims = replicate (length old.claims) claim.Nothing;
 }) × (old.incarnation + 1 < 2 ^ 64)
 RestartStep restart.Exhausted old new = (old.incarnation + 1 ≡ 2 ^ 64) × (new ≡ old)
 
 -- the pools of these sizes
-abbrev pub empty_pools : List ℕ → ℕ → List DatabasePool
-empty_pools sizes slots = map (λ size. empty_pool size slots) sizes
+abbrev pub empty_pools : List ℕ → List DatabasePool
+empty_pools sizes = map empty_pool sizes
 
 -- the pools of a node that was just made
 abbrev pub fresh : ℕ → List ℕ → ℕ → PoolView
 fresh peer sizes slots = record {
   peer = peer;
   incarnation = 0;
-  pools = empty_pools sizes slots;
+  pools = empty_pools sizes;
+  queues = replicate (length sizes) [];
   claims = replicate slots claim.Nothing;
   next_link = 0;
   next_permit = 0;

@@ -1,6 +1,6 @@
--- The stack of a pool's idle links, and the place in its queue.
-use Rattle.std.specs.Prelude.{ℕ, suc, ◌==◌, ◌≡◌, ◌+◌, Bool, true, false, List, [], ◌∷◌, ◌++◌, Option, Some, length, slice_get, if◌then◌else◌}
-use Rattle.link_pool.specs.OnePlace.{times}
+-- The stack of a pool's idle links.
+use Rattle.std.specs.Prelude.{ℕ, ◌≡◌, ◌+◌, Bool, true, false, List, [], ◌∷◌, ◌++◌, Option, Some, length, slice_get, if◌then◌else◌}
+use Rattle.slot_queues.specs.Queues.{times}
 
 -- how many are of a kind
 abbrev pub how_many : {X : Type 0} → (Option X → Bool) → List X → ℕ
@@ -16,8 +16,3 @@ pub record IsStack {X : Type 0} (kind : Option X → Bool) (xs : List X) (stack 
 abbrev pub put_on : Bool → ℕ → List ℕ → List ℕ
 put_on true place stack = stack ++ place ∷ []
 put_on false place stack = stack
-
--- where a slot stands in a queue: how many stand before it
-abbrev pub place_of : ℕ → List ℕ → ℕ
-place_of slot [] = 0
-place_of slot (first ∷ rest) = if first == slot then 0 else suc (place_of slot rest)

@@ -1,11 +1,10 @@
-//! The links of one database: its places, which of them have an idle link, and who waits.
+//! The links of one database: its places, and which of them have an idle link.
 ghost use Rattle.std.specs.Prelude.{vec_capacity, ◌≡◌, ◌≢◌, ◌<◌, ◌≤◌, ℕ, [], true, false, Some, IfSome, IfNone, IfOk, length, slice_get, option_map, replicate};
 ghost use Rattle.link_pool.specs.declared.entry.Entry.{Entry as EntryOf};
 ghost use Rattle.link_pool.specs.declared.entry.Entry.TheVariants as entry;
 ghost use Rattle.link_pool.specs.declared.place.Place.TheVariants as place;
-ghost use Rattle.link_pool.specs.PoolStep.{is_first, is_idle};
-ghost use Rattle.link_pool.specs.Pool.{others, behind};
-ghost use Rattle.link_pool.specs.Stacks.{put_on, place_of as place_in_queue};
+ghost use Rattle.link_pool.specs.PoolStep.{is_idle};
+ghost use Rattle.link_pool.specs.Stacks.{put_on};
 ghost use Rattle.link_pool.specs.Entries.{place_of, idle_entry, settled, leaving, with_entry, freed, new_links, TakesIdle, IsLowest};
 
 use crate::entry::Entry;
@@ -14,7 +13,6 @@ use lease::Lease;
 use pg_ids::SlotNo;
 use quarantine::Hold;
 use std::alloc::{AllocError, Global};
-use std::collections::VecDeque;
 use std::marker::Model;
 
 /// The links of one database. No place below `lowest` is free.
@@ -23,19 +21,17 @@ pub(crate) struct DatabaseLinks<S> {
     entries: Vec<Entry<S>>,
     lowest: u16,
     idle: Vec<u16>,
-    waiting: VecDeque<SlotNo>,
 }
 
 impl<S> Model for DatabaseLinks<S> {
     ghost use Rattle.std.specs.Prelude.{ℕ, ◌≢◌, ◌<◌, ◌≤◌, Some, slice_get, vec_len, vec_capacity};
-    ghost use Rattle.std.specs.VecDeque.{deque_capacity};
     ghost use Rattle.link_pool.specs.declared.entry.Entry.TheVariants as entry;
     ghost use Rattle.link_pool.specs.Entries.{Entries, idle_entry};
     ghost use Rattle.link_pool.specs.Stacks.{IsStack};
 
     ghost Value = { Entries S };
 
-    ghost view = { λ p. record { entries = p.entries.items; waiting = p.waiting.items; room = deque_capacity p.waiting } };
+    ghost view = { λ p. record { entries = p.entries.items } };
 
     ghost invariant = { λ p. (vec_len p.entries ≤ 65535) × (vec_len p.entries ≤ vec_capacity p.idle)
         × IsStack idle_entry p.entries.items p.idle.items
@@ -70,24 +66,21 @@ fn first_free<S: Drop>(entries: &Vec<Entry<S>>, from: u16) -> u16
 }
 
 impl<S: Drop> DatabaseLinks<S> {
-    // As many free places as the size, at most 65,535, for whose links so many slots may wait. It takes all the
-    // memory that the database needs.
-    pub(crate) fn new(alloc: Global, size: u16, slots: u32) -> Result<DatabaseLinks<S>, AllocError>
-        ensures { IfOk result (λ links. links ≡ new_links size slots) }
+    // As many free places as the size, at most 65,535. It takes all the memory that the database needs.
+    pub(crate) fn new(alloc: Global, size: u16) -> Result<DatabaseLinks<S>, AllocError>
+        ensures { IfOk result (λ links. links ≡ new_links size) }
     {
         let mut entries = Vec::with_capacity(alloc, size as usize)?;
         let idle = Vec::with_capacity(alloc, size as usize)?;
-        let waiting = VecDeque::with_capacity(alloc, slots as usize)?;
         free_places(&mut entries, size);
         Ok(DatabaseLinks {
             entries,
             lowest: 0,
             idle,
-            waiting,
         })
     }
 
-    // Nothing is at any place, and nobody waits. The streams of links that no client has are dropped.
+    // Nothing is at any place. The streams of links that no client has are dropped.
     pub(crate) fn empty(&mut self)
         ensures { self.new ≡ freed self.old }
     {
@@ -95,7 +88,6 @@ impl<S: Drop> DatabaseLinks<S> {
         self.entries.clear();
         self.lowest = 0;
         self.idle.clear();
-        self.waiting.clear();
         free_places(&mut self.entries, size);
     }
 
@@ -158,34 +150,6 @@ impl<S: Drop> DatabaseLinks<S> {
         list(place, index, &mut self.idle, &mut self.lowest);
         stream
     }
-
-    // Whether nobody waits before the slot.
-    pub(crate) fn is_first(&self, slot: SlotNo) -> bool
-        ensures { result ≡ is_first slot self.now.waiting }
-    {
-        match self.waiting.front() {
-            Some(&first) => first == slot,
-            None => true,
-        }
-    }
-
-    // The slot waits, behind all others.
-    pub(crate) fn join_queue(&mut self, slot: SlotNo)
-        requires { length self.old.waiting < self.old.room }
-        ensures { self.new ≡ record self.old { waiting = behind slot self.old.waiting } }
-    {
-        self.waiting.push_back_reserved(slot);
-    }
-
-    // The slot no longer waits.
-    pub(crate) fn leave_queue(&mut self, slot: SlotNo)
-        ensures { self.new ≡ record self.old { waiting = others slot self.old.waiting } }
-    {
-        let at = place_of(&self.waiting, slot);
-        let Some(_left) = self.waiting.remove(at) else {
-            return;
-        };
-    }
 }
 
 // What is at a place from now on is listed, where it is idle or free.
@@ -205,18 +169,4 @@ fn list(what: Place, index: u16, idle: &mut Vec<u16>, lowest: &mut u16)
         }
         Place::Open(_, _) => {}
     }
-}
-
-// How many stand before the slot. The queue's first is found at once.
-fn place_of(waiting: &VecDeque<SlotNo>, slot: SlotNo) -> usize
-    ensures { result ≡ place_in_queue slot waiting.now.items }
-{
-    let mut at = 0;
-    while at < waiting.len() {
-        if waiting[at] == slot {
-            return at;
-        }
-        at += 1;
-    }
-    at
 }

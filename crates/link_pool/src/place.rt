@@ -96,17 +96,6 @@ pub enum Claim {
 }
 
 impl Claim {
-    // The database for which the client waits, if it does.
-    pub(crate) fn waiting(&self) -> Option<DatabaseNo>
-        ensures waiting { IfSome result (λ database. self.now ≡ claim.Waiting database) }
-        ensures not_waiting { IfNone result ((database : ℕ) → self.now ≢ claim.Waiting database) }
-    {
-        match self {
-            Claim::Waiting(database) => Some(*database),
-            Claim::Nothing | Claim::Open(_) | Claim::Link(_) => None,
-        }
-    }
-
     // Whether the client has a link or a permit.
     pub(crate) fn is_holding(&self) -> bool
         ensures { result ≡ is_holding (Some self.now) }

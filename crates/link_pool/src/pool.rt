@@ -19,6 +19,7 @@ use crate::place::{Claim, Place};
 use crate::replies::RestartReply;
 use lease::LinkPlace;
 use pg_ids::{PeerNo, SlotNo};
+use slot_queues::SlotQueues;
 use std::alloc::{AllocError, Global};
 use std::marker::Model;
 
@@ -28,6 +29,7 @@ pub struct Pool<S> {
     peer: PeerNo,
     incarnation: u64,
     pools: Vec<DatabaseLinks<S>>,
+    queues: SlotQueues,
     claims: Vec<Claim>,
     next_link: NextNumber,
     next_permit: NextNumber,
@@ -35,6 +37,7 @@ pub struct Pool<S> {
 }
 
 impl<S> Model for Pool<S> {
+    ghost use Rattle.std.specs.Prelude.{◌≡◌, length};
     ghost use Rattle.link_pool.specs.Streams.{PoolValue};
     ghost use Rattle.link_pool.specs.OnePlace.{IsPool};
     ghost use Rattle.link_pool.specs.PoolOf.{pool_of};
@@ -43,7 +46,7 @@ impl<S> Model for Pool<S> {
 
     ghost view = { pool_of };
 
-    ghost invariant = { λ p. IsPool (pool_of p).view };
+    ghost invariant = { λ p. IsPool (pool_of p).view × (p.queues.slots ≡ length p.claims.items) };
 }
 
 impl<S: Drop> Pool<S> {
@@ -60,13 +63,15 @@ impl<S: Drop> Pool<S> {
     {
         let mut pools = Vec::with_capacity(alloc, pool_sizes.len())?;
         for &size in pool_sizes {
-            pools.push_reserved(DatabaseLinks::new(alloc, size, slots)?);
+            pools.push_reserved(DatabaseLinks::new(alloc, size)?);
         }
+        let queues = SlotQueues::new(alloc, pool_sizes.len(), slots)?;
         let claims = vec![in alloc; Claim::Nothing; slots as usize]?;
         Ok(Pool {
             peer: me,
             incarnation: 0,
             pools,
+            queues,
             claims,
             next_link: NextNumber::new(),
             next_permit: NextNumber::new(),
@@ -125,6 +130,7 @@ impl<S: Drop> Pool<S> {
             return RestartReply::Exhausted;
         };
         empty_all(&mut self.pools);
+        self.queues.clear();
         nothing_for_all(&mut self.claims);
         self.incarnation = next;
         RestartReply::Restarted

@@ -2,7 +2,8 @@
 ghost use Rattle.std.specs.Prelude.{◌≡◌, ◌≢◌, ◌<◌, ℕ, false, Some, None, IfSome, IfNone, length, slice_get};
 ghost use Rattle.link_pool.specs.declared.place.Claim.TheVariants as claim;
 ghost use Rattle.link_pool.specs.declared.place.Place.TheVariants as place;
-ghost use Rattle.link_pool.specs.Pool.{place_at, queue_at, with_queue, with_claim, unqueued, queued, behind};
+ghost use Rattle.slot_queues.specs.Queues.{behind};
+ghost use Rattle.link_pool.specs.Pool.{place_at, queue_at, with_queue, with_claim, unqueued, queued};
 ghost use Rattle.link_pool.specs.OnePlace.{IsPool};
 ghost use Rattle.link_pool.specs.PoolStep.{is_holding, is_first, nth_of, NoIdle, NoneFree, IsLowestFree, Gets, AcquireStep, LeaveStep};
 ghost use Rattle.link_pool.specs.Streams.{Takes, AcquireStreams};
@@ -33,15 +34,10 @@ impl<S: Drop> Pool<S> {
         ensures streams { self.new.stored ≡ self.old.stored }
         ensures whole { IsPool self.new.view }
     {
-        let Some(claim) = self.claim(slot) else {
-            return;
-        };
-        let Some(database) = claim.waiting() else {
-            return;
-        };
-        let pool = &mut self.pools[database.get() as usize];
-        pool.leave_queue(slot);
-        self.claims[slot.get() as usize] = Claim::Nothing;
+        if let Some(Claim::Waiting(_)) = self.claim(slot) {
+            self.queues.remove(slot);
+            self.claims[slot.get() as usize] = Claim::Nothing;
+        }
     }
 
     // The client of a slot waits, behind all others of its database.
@@ -54,8 +50,7 @@ impl<S: Drop> Pool<S> {
         ensures streams { self.new.stored ≡ self.old.stored }
         ensures whole { IsPool self.new.view }
     {
-        let pool = &mut self.pools[database.get() as usize];
-        pool.join_queue(slot);
+        self.queues.push(database.get() as usize, slot);
         self.claims[slot.get() as usize] = Claim::Waiting(database);
     }
 
@@ -76,7 +71,6 @@ impl<S: Drop> Pool<S> {
     fn take_idle(&mut self, slot: SlotNo, database: DatabaseNo) -> Option<Lease<S>>
         requires slot { slot < length self.old.view.claims }
         requires database { database < length self.old.view.pools }
-        requires waits { (other : ℕ) → slice_get self.old.view.claims slot ≡ Some (claim.Waiting other) → other ≡ database }
         requires free { is_holding (slice_get self.old.view.claims slot) ≡ false }
         ensures got { IfSome result (λ lease. Gets slot database lease.details self.old.view self.new.view) }
         ensures stream { IfSome result (λ lease. Takes lease.details.at lease.stream self.old.stored self.new.stored) }
@@ -88,7 +82,7 @@ impl<S: Drop> Pool<S> {
         let Some(lease) = pool.take_idle(slot) else {
             return None;
         };
-        pool.leave_queue(slot);
+        self.queues.remove(slot);
         self.claims[slot.get() as usize] = Claim::Link(lease.details().at);
         Some(lease)
     }
@@ -113,8 +107,10 @@ impl<S: Drop> Pool<S> {
         requires { database < length self.now.view.pools }
         ensures { result ≡ is_first slot (queue_at self.now.view database) }
     {
-        let pool = &self.pools[database.get() as usize];
-        pool.is_first(slot)
+        match self.queues.first(database.get() as usize) {
+            Some(first) => first == slot,
+            None => true,
+        }
     }
 
     // The client of a slot waits, if it doesn't yet.

@@ -1,8 +1,6 @@
-use Rattle.std.proofs.Common.{rules, ◌≡◌, List, subst, sym, ap, ◌∙◌, arith, length, replicate, vec_len}
+use Rattle.std.proofs.Common.{rules, ◌≡◌, ap, ◌∙◌, arith, length, vec_len}
 use Rattle.std.proofs.lemmas.List.{length-replicate}
 use Rattle.link_pool.specs.declared.entry.Entry.TheVariants as entry
-use Rattle.link_pool.specs.Entries.{idle_entry}
-use Rattle.link_pool.specs.Stacks.{IsStack}
 use Rattle.link_pool.proofs.NewLinks.{none_listed_idle}
 use Rattle.link_pool.proofs.database_links.DatabaseLinks.new.Goals as goal
 

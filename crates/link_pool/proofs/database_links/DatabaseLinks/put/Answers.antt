@@ -1,6 +1,5 @@
-use Rattle.std.proofs.Common.{rules, ◌≡◌, ◌<◌, false, length, slice_get, get_or, vec_len, sym, ap, subst, arith, ◌∙◌, refl}
+use Rattle.std.proofs.Common.{rules, ◌≡◌, ◌<◌, false, length, slice_get, get_or, vec_len, sym, ap, subst, arith, ◌∙◌}
 use Rattle.std.proofs.lemmas.Option.{slice_get-get_or}
-use Rattle.link_pool.specs.declared.entry.Entry.TheVariants as entry
 use Rattle.link_pool.specs.Entries.{place_of, idle_entry}
 use Rattle.link_pool.proofs.Stacking.{not_each, relisted, below}
 use Rattle.link_pool.proofs.database_links.DatabaseLinks.put.Goals as goal

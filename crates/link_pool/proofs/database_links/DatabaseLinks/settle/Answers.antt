@@ -1,7 +1,6 @@
-use Rattle.std.proofs.Common.{rules, ◌≡◌, ◌<◌, false, Some, length, slice_get, get_or, vec_len, sym, ap, subst, arith, ◌∙◌, refl}
-use Rattle.std.proofs.lemmas.Option.{slice_get-get_or, same_Some}
-use Rattle.link_pool.specs.declared.entry.Entry.TheVariants as entry
-use Rattle.link_pool.specs.Entries.{place_of, idle_entry, settled, leaving, with_entry}
+use Rattle.std.proofs.Common.{rules, ◌≡◌, ◌<◌, false, Some, length, slice_get, vec_len, sym, ap, subst, arith, ◌∙◌, refl}
+use Rattle.std.proofs.lemmas.Option.{same_Some}
+use Rattle.link_pool.specs.Entries.{place_of, idle_entry, leaving}
 use Rattle.link_pool.proofs.Changes.{was_read}
 use Rattle.link_pool.proofs.Stacking.{not_each, relisted, below}
 use Rattle.link_pool.proofs.database_links.DatabaseLinks.settle.Goals as goal

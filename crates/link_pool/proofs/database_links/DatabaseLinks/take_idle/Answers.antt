@@ -1,8 +1,8 @@
-use Rattle.std.proofs.Common.{rules, ◌≡◌, ◌≢◌, ◌<◌, ℕ, true, false, Some, length, slice_get, vec_len, sym, ap, subst, arith, ◌∙◌, refl}
+use Rattle.std.proofs.Common.{rules, ◌≡◌, ℕ, false, length, slice_get, vec_len, sym, subst, arith, ◌∙◌, refl}
 use Rattle.std.proofs.lemmas.Option.{slice_get_within, same_Some}
 use Rattle.link_pool.specs.declared.entry.Entry.TheVariants as entry
 use Rattle.link_pool.specs.PoolStep.{new_hold}
-use Rattle.link_pool.specs.Entries.{Entries, idle_entry, idle_link, lent}
+use Rattle.link_pool.specs.Entries.{idle_entry}
 use Rattle.link_pool.proofs.Stacking.{last_of, none_listed, popped, below}
 use Rattle.link_pool.proofs.Changes.{was_read}
 use Rattle.link_pool.proofs.Entries.{idle_one}

@@ -1,11 +1,9 @@
-use Rattle.std.proofs.Common.{◌≡◌, ◌<◌, ◌+◌, ◌^◌, true, false, Some, length, slice_get, ap, subst, sym, ◌∙◌, arith, refl}
+use Rattle.std.proofs.Common.{◌≡◌, ◌<◌, false, Some, length, slice_get, ap, subst, sym, ◌∙◌, arith, refl}
 use Rattle.lease.specs.declared.link_place.LinkPlace.{LinkPlace}
 use Rattle.lease.specs.declared.permit.PermitRecord.{PermitRecord}
 use Rattle.link_pool.specs.declared.place.Place.TheVariants as place
-use Rattle.link_pool.specs.declared.place.Claim.TheVariants as claim
-use Rattle.link_pool.specs.Pool.{PoolView, place_at, with_place, with_claim, unqueued}
+use Rattle.link_pool.specs.Pool.{PoolView, place_at}
 use Rattle.link_pool.specs.PoolOf.{pool_of}
-use Rattle.link_pool.specs.OnePlace.{IsPool}
 use Rattle.link_pool.specs.PoolStep.{is_holding}
 use Rattle.link_pool.specs.Parts.{is_bare}
 use Rattle.link_pool.proofs.Asking.{place_unqueued, kept_unqueued, opened}
@@ -40,5 +38,5 @@ change-requires-clause-whole g c =
     let says : c.new-permit.result ≡ permit = c.new-permit.ensures
     ∙ ap {B = PermitRecord} (λ (x : PoolView). record { peer = x.peer; incarnation = x.incarnation; number = c.in-Some-give.number; at = at }) (ap (λ p. p.view) c.self-2.view_is ∙ c.leave_queue.ensures.view ∙ kept_unqueued w slot)
     ∙ ap {B = PermitRecord} (λ x. record { peer = v.peer; incarnation = v.incarnation; number = x; at = at }) number in
-    let after = opened v slot n permit c.self.invariant some idle free (omega (arith, below, number)) given.2 refl in
+    let after = opened v slot n permit c.self.invariant.0 some idle free (omega (arith, below, number)) given.2 refl in
     rw (c.leave_queue.ensures.view, c.details.ensures, c.details-2.ensures, says) after

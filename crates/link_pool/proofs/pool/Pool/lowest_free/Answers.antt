@@ -1,6 +1,5 @@
-use Rattle.std.proofs.Common.{◌≡◌, ◌<◌, Some, length, subst, sym, refl}
+use Rattle.std.proofs.Common.{◌<◌, length, subst, sym, refl}
 use Rattle.link_pool.specs.declared.entry.Entry.TheVariants as entry
-use Rattle.link_pool.specs.Entries.{pool_in}
 use Rattle.link_pool.specs.PoolStep.{nth_of, NoneFree, IsLowestFree}
 use Rattle.link_pool.proofs.Entries.{read_pool, seen, not_free_at}
 use Rattle.link_pool.proofs.pool.Pool.lowest_free.Goals as goal

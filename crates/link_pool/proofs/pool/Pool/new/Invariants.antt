@@ -8,5 +8,5 @@ invariant-loop-size g l =
     record {
       room : length l.pool_sizes ≤ vec_capacity l.pools;
       count : vec_len l.pools ≡ l.size-index;
-      made : l.pools.items ≡ map (λ size. new_links size l.slots) (take l.size-index l.pool_sizes);
+      made : l.pools.items ≡ map new_links (take l.size-index l.pool_sizes);
     }

@@ -1,9 +1,8 @@
-use Rattle.std.proofs.Common.{rules, ◌≡◌, ◌<◌, Some, length, map, sym, ap, subst, ◌∙◌, refl}
+use Rattle.std.proofs.Common.{◌≡◌, Some, sym, subst, refl}
 use Rattle.link_pool.specs.declared.place.Place.TheVariants as place
-use Rattle.link_pool.specs.Pool.{PoolView, place_at}
+use Rattle.link_pool.specs.Pool.{place_at}
 use Rattle.link_pool.specs.PoolOf.{pool_of}
-use Rattle.link_pool.specs.Entries.{settled, stream_of, leaving}
-use Rattle.link_pool.specs.Parts.{settled_place, is_leaving}
+use Rattle.link_pool.specs.Entries.{settled}
 use Rattle.link_pool.proofs.Entries.{entry_seen, read_at, read_entry, wrote_place, wrote_stream}
 use Rattle.link_pool.proofs.Settling.{settled_at, settled_whole, leaves, returned}
 use Rattle.link_pool.proofs.pool.Pool.settle.Goals as goal
@@ -17,7 +16,7 @@ invariant_of-self g c =
     let there = read_at pools at c.get.result c.index_mut-pool.result.now e.was c.get.ensures e.is c.index_mut-pool.ensures.value in
     let done = c.settle.ensures e.was (read_entry pools at c.index_mut-pool.result.now e.was there e.is) in
     let seen = wrote_place pools at c.get.result c.index_mut-pool.result.now c.settle.new.self (settled c.args.hold e.was) c.get.ensures there done.1 in
-    rw (seen, settled_at c.args.hold e.was, e.same) (settled_whole (pool_of c.self.inside).view at c.args.link.now c.args.hold c.requires.not_idle c.self.invariant was c.requires.few)
+    (rw (seen, settled_at c.args.hold e.was, e.same) (settled_whole (pool_of c.self.inside).view at c.args.link.now c.args.hold c.requires.not_idle c.self.invariant.0 was c.requires.few), c.self.invariant.1)
 
 pub returns : goal.returns
 returns g c =
@@ -33,5 +32,5 @@ returns g c =
       view = rw (← c.self.view_is, seen, settled_at c.args.hold e.was, e.same) refl;
       streams = rw (← c.self.view_is, kept, done.0) (leaves pools at e.was c.args.hold e.is);
       leaves = rw (done.0, returned c.args.hold e.was, e.same) refl;
-      whole = invariant_of-self g c;
+      whole = (invariant_of-self g c).0;
     }

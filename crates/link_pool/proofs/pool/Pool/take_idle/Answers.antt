@@ -1,4 +1,4 @@
-use Rattle.std.proofs.Common.{rules, ◌≡◌, ◌<◌, ℕ, false, None, Some, length, map, slice_get, slice_set, sym, ap, subst, ◌∙◌, refl}
+use Rattle.std.proofs.Common.{◌≡◌, ◌<◌, false, None, length, slice_get, sym, ap, subst, ◌∙◌, arith, refl, length-set}
 use Rattle.lease.specs.declared.link_place.LinkPlace.{LinkPlace}
 use Rattle.lease.specs.declared.link_record.LinkRecord.{LinkRecord}
 use Rattle.link_pool.specs.declared.entry.Entry.TheVariants as entry
@@ -6,14 +6,13 @@ use Rattle.link_pool.specs.declared.place.Place.TheVariants as place
 use Rattle.link_pool.specs.declared.place.Link.{Link}
 use Rattle.link_pool.specs.declared.place.LinkState.TheVariants as state
 use Rattle.link_pool.specs.declared.place.Claim.TheVariants as claim
-use Rattle.link_pool.specs.Entries.{pool_in}
+use Rattle.slot_queues.specs.Queues.{Queues}
 use Rattle.link_pool.specs.Pool.{PoolView, place_at, unqueued, in_state, lend}
 use Rattle.link_pool.specs.PoolOf.{pool_of}
-use Rattle.link_pool.specs.PoolStep.{new_hold, nth_of, is_holding, NoIdle, Gets}
+use Rattle.link_pool.specs.PoolStep.{new_hold, nth_of, is_holding, NoIdle}
 use Rattle.link_pool.specs.OnePlace.{IsPool}
-use Rattle.link_pool.specs.Streams.{Takes}
 use Rattle.link_pool.proofs.Asking.{place_unqueued, nothing_unqueued, whole_unqueued, served}
-use Rattle.link_pool.proofs.Entries.{read_pool, seen, not_idle_at, pool_seen, entry_at, entry_in, wrote_both, wrote_both_streams, moves}
+use Rattle.link_pool.proofs.Entries.{read_pool, seen, not_idle_at, entry_in, wrote_place, wrote_stream, moves}
 use Rattle.link_pool.proofs.Handing.{its_place, got}
 use Rattle.link_pool.proofs.pool.Pool.take_idle.Goals as goal
 
@@ -23,6 +22,12 @@ returns-in_default-clause-none g c =
     let d = c.args.database in
     let there = read_pool pools d c.get.result c.index_mut-pool.result.now c.get.ensures (subst (λ w. d < length w.view.pools) (sym c.self.view_is) c.requires.database) c.index_mut-pool.ensures.value in
     subst (λ w. NoIdle d w.view) c.self.view_is (λ i. not_idle_at pools (nth_of d i) c.index_mut-pool.result.now there (c.in_default.ensures.none i))
+
+pub remove-requires : goal.remove-requires
+remove-requires g c =
+    let some = subst (λ w. c.args.slot < length w.view.claims) (sym c.self.view_is) c.requires.slot in
+    let same = c.self.invariant.1 in
+    omega (arith, some, same)
 
 pub invariant_of-self-2 : goal.invariant_of-self-2
 invariant_of-self-2 g c =
@@ -36,13 +41,12 @@ invariant_of-self-2 g c =
     let at : LinkPlace = nth_of d taken.index in
     let link : Link = record { details = lease.details; key = taken.key; state = state.Idle; hold = new_hold } in
     let was = seen pools at c.index_mut-pool.result.now (entry.Idle lease taken.key) there taken.was in
-    let said : c.details.result.at ≡ at = ap (λ (r : LinkRecord). r.at) c.details.ensures ∙ its_place v at link c.self.invariant was in
+    let said : c.details.result.at ≡ at = ap (λ (r : LinkRecord). r.at) c.details.ensures ∙ its_place v at link c.self.invariant.0 was in
     let free : is_holding (slice_get v.claims slot) ≡ false = subst (λ w. is_holding (slice_get w.view.claims slot) ≡ false) (sym c.self.view_is) c.requires.free in
     let some : slot < length v.claims = subst (λ w. slot < length w.view.claims) (sym c.self.view_is) c.requires.slot in
-    let own = subst (λ w. (other : ℕ) → slice_get w.view.claims slot ≡ Some (claim.Waiting other) → other ≡ d) (sym c.self.view_is) c.requires.waits in
-    let both = wrote_both pools at c.get.result c.index_mut-pool.result.now c.leave_queue.new.self (entry.Held lease.details taken.key new_hold slot) slot c.get.ensures there (c.leave_queue.ensures ∙ rw taken.after refl) in
-    let after = served v at (place.Link (in_state (state.Held slot) link)) slot (claim.Link at) (pool_in c.index_mut-pool.result.now) c.self.invariant free some own (pool_seen pools d c.index_mut-pool.result.now there) in
-    rw (both, c.get-2.ensures, said) (subst IsPool (sym after) (got (unqueued v slot) at link slot (whole_unqueued v slot c.self.invariant) (place_unqueued v slot at ∙ was) refl (nothing_unqueued v slot some free)))
+    let both = wrote_place pools at c.get.result c.index_mut-pool.result.now c.take_idle.new.self (entry.Held lease.details taken.key new_hold slot) c.get.ensures there taken.after in
+    let after = served v at (place.Link (in_state (state.Held slot) link)) slot (claim.Link at) c.self.invariant.0 free some in
+    (rw (both, c.remove.ensures, c.get-2.ensures, said) (subst IsPool (sym after) (got (unqueued v slot) at link slot (whole_unqueued v slot c.self.invariant.0) (place_unqueued v slot at ∙ was) refl (nothing_unqueued v slot some free))), ap (λ (q : Queues). q.slots) c.remove.ensures ∙ c.self.invariant.1 ∙ sym (length-set c.self.inside.claims.items c.get-2.result (claim.Link c.details.result.at)))
 
 pub returns : goal.returns
 returns g c =
@@ -56,16 +60,15 @@ returns g c =
     let at : LinkPlace = nth_of d taken.index in
     let link : Link = record { details = lease.details; key = taken.key; state = state.Idle; hold = new_hold } in
     let was = seen pools at c.index_mut-pool.result.now (entry.Idle lease taken.key) there taken.was in
-    let place_is = its_place v at link c.self.invariant was in
+    let place_is = its_place v at link c.self.invariant.0 was in
     let said : c.details.result.at ≡ at = ap (λ (r : LinkRecord). r.at) c.details.ensures ∙ place_is in
     let free : is_holding (slice_get v.claims slot) ≡ false = subst (λ w. is_holding (slice_get w.view.claims slot) ≡ false) (sym c.self.view_is) c.requires.free in
     let some : slot < length v.claims = subst (λ w. slot < length w.view.claims) (sym c.self.view_is) c.requires.slot in
-    let own = subst (λ w. (other : ℕ) → slice_get w.view.claims slot ≡ Some (claim.Waiting other) → other ≡ d) (sym c.self.view_is) c.requires.waits in
-    let both = wrote_both pools at c.get.result c.index_mut-pool.result.now c.leave_queue.new.self (entry.Held lease.details taken.key new_hold slot) slot c.get.ensures there (c.leave_queue.ensures ∙ rw taken.after refl) in
-    let after = served v at (place.Link (in_state (state.Held slot) link)) slot (claim.Link at) (pool_in c.index_mut-pool.result.now) c.self.invariant free some own (pool_seen pools d c.index_mut-pool.result.now there) in
-    let lies = wrote_both_streams pools at c.get.result c.index_mut-pool.result.now c.leave_queue.new.self (entry.Held lease.details taken.key new_hold slot) slot c.get.ensures there (c.leave_queue.ensures ∙ rw taken.after refl) in
+    let both = wrote_place pools at c.get.result c.index_mut-pool.result.now c.take_idle.new.self (entry.Held lease.details taken.key new_hold slot) c.get.ensures there taken.after in
+    let after = served v at (place.Link (in_state (state.Held slot) link)) slot (claim.Link at) c.self.invariant.0 free some in
+    let lies = wrote_stream pools at c.get.result c.index_mut-pool.result.now c.take_idle.new.self (entry.Held lease.details taken.key new_hold slot) c.get.ensures there taken.after in
     record {
-      got = rw (← c.self.view_is, both, c.get-2.ensures, said) (record {
+      got = rw (← c.self.view_is, both, c.remove.ensures, c.get-2.ensures, said) (record {
         link = link;
         was = ap (place_at v) place_is ∙ was;
         idle = refl;
@@ -76,5 +79,5 @@ returns g c =
       stream = rw (← c.self.view_is, lies, place_is) (moves pools at (entry.Idle lease taken.key) None (ap (λ o. entry_in o taken.index) there ∙ taken.was));
       none = tt;
       same = tt;
-      whole = invariant_of-self-2 g c;
+      whole = (invariant_of-self-2 g c).0;
     }
