@@ -1,71 +1,197 @@
--- The clients of live slots: whose databases and passes they are, through logins and leaves.
-use Rattle.std.proofs.Common.{◌≡◌, ◌≢◌, ℕ, zero, suc, ◌+◌, ◌<◌, ◌⊎◌, inl, inr, Some, None, sym, subst, ◌∙◌, arith, ⊎_elim}
+-- What is known of a node's clients through logins, leaves and new starts.
+use Rattle.std.proofs.Common.{◌≡◌, ◌≢◌, ℕ, zero, suc, ◌+◌, ◌<◌, ◌≤◌, ◌^◌, ◌⊎◌, inl, inr, ⊎_elim, false, List, [], ◌∷◌, Option, Some, None, length, map, refl, ap, sym, ◌∙◌, arith}
 use Rattle.std.proofs.Math.ListN.{set, replicate}
 use Rattle.std.specs.List.{slice_get}
-use Rattle.std.proofs.lemmas.Option.{none-some, same_Some}
+use Rattle.std.specs.Option.{is_some, option_map}
+use Rattle.std.proofs.lemmas.Option.{slice_get-map, slice_get_within, same_Some}
+use Rattle.std.proofs.lemmas.List.{map-set, length-map}
+use Rattle.pg_ids.specs.declared.client_key.ClientKey.{ClientKey}
+use Rattle.key_table.specs.Slots.{Slots, IsNext, IsFree, Issues, Frees}
+use Rattle.link_pool.specs.declared.place.Claim.{Claim}
+use Rattle.link_pool.specs.Pool.{DatabasePool, PoolView, unqueued}
+use Rattle.link_pool.specs.OnePlace.{sizes}
+use Rattle.link_pool.specs.PoolStep.{is_holding}
+use Rattle.link_pool.proofs.Asking.{nothing_unqueued}
 use Rattle.node_core.specs.declared.client.Client.{Client}
-use Rattle.node_core.proofs.Places.{Clients, read_set}
+use Rattle.node_core.specs.View.{NodeView, IsNode, IsClient, Has}
+use Rattle.node_core.proofs.Slots.{set_at}
+use Rattle.node_core.proofs.Links.{with_links, unqueued_kept}
+
+-- by slot its client
+abbrev pub Clients : Type 0
+Clients = List (Option Client)
 
 -- the slot is live, and this is its client
 abbrev pub IsAt : Clients → ℕ → Client → Type 0
 IsAt clients slot client = slice_get clients slot ≡ Some (Some client)
 
--- each client's database is one of so many, and its pass one of so many
-abbrev pub AllFit : Clients → ℕ → ℕ → Type 0
-AllFit clients databases passes =
-    (slot : ℕ) (client : Client) → IsAt clients slot client → (client.database < databases) × (client.pass < passes)
+-- as many slots have something or nothing as there are
+pub has_lengths : (clients : Clients) (claims : List Claim)
+    → ((s : ℕ) → Has (slice_get clients s) (slice_get claims s)) → length clients ≡ length claims
+has_lengths [] [] has = refl
+has_lengths [] (had ∷ claims) has = absurd (has 0)
+has_lengths (client ∷ clients) [] has = absurd (has 0)
+has_lengths (client ∷ clients) (had ∷ claims) has =
+    ap suc (has_lengths clients claims (λ s. has (suc s)))
 
--- no two slots have one pass
-abbrev pub AllDiffer : Clients → Type 0
-AllDiffer clients = (slot other : ℕ) (a b : Client) → IsAt clients slot a → IsAt clients other b → a.pass ≡ b.pass → slot ≡ other
+-- the client of a slot may ask for a link of its database
+pub record MayAsk (v : NodeView) (slot : ℕ) (client : Client) : Type 0 where
+  pub within : slot < length v.links.claims
+  pub database : client.database < length v.links.pools
+  pub waits : (other : ℕ) → slice_get v.links.claims slot ≡ Some (Claim.Waiting other)
+      → other ≡ client.database
 
--- nobody is there
-pub nobody : (n s : ℕ) (client : Client) → slice_get (replicate n None) s ≢ Some (Some client)
-nobody zero s client h = absurd (cc)
-nobody (suc n) zero client h = absurd (cc)
-nobody (suc n) (suc s) client h = nobody n s client h
+pub may_ask : (v : NodeView) (slot : ℕ) (client : Client) → IsNode v → IsClient v slot client
+    → MayAsk v slot client
+may_ask v slot client node there =
+    let below = slice_get_within v.clients slot (Some client) there in
+    let slots = has_lengths v.clients v.links.claims node.has in
+    let few = (node.clients slot client there).0 in
+    let pools : length v.pools ≡ length v.links.pools = ap length (sym node.sized)
+    ∙ length-map v.links.pools (λ (pool : DatabasePool). length pool.places) in
+    record {
+      within = omega (arith, below, slots);
+      database = omega (arith, few, pools);
+      waits = λ other e. rw (there, e) at (node.has slot);
+    }
 
--- whoever is there once a client joined is that client, or was there
-joined : (clients : Clients) (slot s : ℕ) (new client : Client) → IsAt (set clients slot (Some new)) s client
-    → ((s ≡ slot) × (client ≡ new)) ⊎ IsAt clients s client
-joined clients slot s new client h = ⊎_elim
-    (λ here. let both : Some (Some new) ≡ Some (Some client) = sym here.2 ∙ h in
-    inl (here.0, sym (same_Some new client (same_Some (Some new) (Some client) both))))
-    (λ there. inr (sym there ∙ h))
-    (read_set clients slot s (Some new))
+-- a slot has a secret exactly where it has a client
+abbrev AreLive : List (Option ℕ) → Clients → Type 0
+AreLive secrets clients = map is_some secrets ≡ map is_some clients
+
+at_slot : (secrets : List (Option ℕ)) (clients : Clients) (slot : ℕ) → AreLive secrets clients
+    → option_map is_some (slice_get secrets slot) ≡ option_map is_some (slice_get clients slot)
+at_slot secrets clients slot live =
+    sym (slice_get-map is_some secrets slot) ∙ ap (λ l. slice_get l slot) live
+    ∙ slice_get-map is_some clients slot
+
+-- a free slot has no client
+pub free_client : (secrets : List (Option ℕ)) (clients : Clients) (slot : ℕ)
+    → AreLive secrets clients → IsFree secrets slot → slice_get clients slot ≡ Some None
+free_client secrets clients slot live free = grind (arith, at_slot secrets clients slot live)
+
+-- a slot with a client has a secret
+pub secret_of : (secrets : List (Option ℕ)) (clients : Clients) (slot : ℕ) (client : Client)
+    → AreLive secrets clients → IsAt clients slot client
+    → (secret : ℕ) × (slice_get secrets slot ≡ Some (Some secret))
+secret_of secrets clients slot client live there =
+    grind (arith, at_slot secrets clients slot live)
+
+-- whoever is there once a client joined was there, or is that client
+joined : (clients : Clients) (slot : ℕ) (new : Client) (s : ℕ) (client : Client)
+    → IsAt (set clients slot (Some new)) s client
+    → IsAt clients s client ⊎ ((s ≡ slot) × (client ≡ new))
+joined clients slot new =
+    set_at (λ s o. (c : Client) → o ≡ Some (Some c) → IsAt clients s c ⊎ ((s ≡ slot) × (c ≡ new)))
+    clients slot (Some new) (λ was e c same. inr (refl, cc)) (λ s c there. inl there)
 
 -- whoever is there once a client left was there
-left : (clients : Clients) (slot s : ℕ) (client : Client) → IsAt (set clients slot None) s client → IsAt clients s client
-left clients slot s client h = ⊎_elim
-    (λ here. let both : Some None ≡ Some (Some client) = sym here.2 ∙ h in absurd (none-some client (same_Some None (Some client) both)))
-    (λ there. sym there ∙ h)
-    (read_set clients slot s None)
+left : (clients : Clients) (slot s : ℕ) (client : Client)
+    → IsAt (set clients slot None) s client → IsAt clients s client
+left clients slot = set_at (λ s o. (c : Client) → o ≡ Some (Some c) → IsAt clients s c)
+    clients slot None (λ was e c same. absurd (cc)) (λ s c there. there)
 
--- a client joins, with the next pass
-pub fit_joined : (clients : Clients) (slot databases next : ℕ) (new : Client) → new.database < databases → new.pass ≡ next
-    → AllFit clients databases next → AllFit (set clients slot (Some new)) databases (next + 1)
-fit_joined clients slot databases next new known number fit s client h = ⊎_elim
-    (λ here. subst (λ (c : Client). (c.database < databases) × (c.pass < next + 1)) (sym here.1) (known, omega (arith, number)))
-    (λ there. let was = fit s client there in (was.0, let few = was.1 in omega (arith, few)))
-    (joined clients slot s new client h)
+-- a new client has nothing yet
+new_has : (client : Client) (o : Option Claim) → Has (Some None) o → Has (Some (Some client)) o
+new_has client None h = absurd h
+new_has client (Some had) h = rw h tt
 
-pub differ_joined : (clients : Clients) (slot databases next : ℕ) (new : Client) → new.pass ≡ next → AllFit clients databases next
-    → AllDiffer clients → AllDiffer (set clients slot (Some new))
-differ_joined clients slot databases next new number fit differ s other a b ha hb same = ⊎_elim
-    (λ here. ⊎_elim
-    (λ too. here.0 ∙ sym too.0)
-    (λ there. let few = (fit other b there).1 in let is : a.pass ≡ new.pass = cc here.1 in absurd (omega (arith, few, is, number, same)))
-    (joined clients slot other new b hb))
-    (λ there. ⊎_elim
-    (λ here. let few = (fit s a there).1 in let is : b.pass ≡ new.pass = cc here.1 in absurd (omega (arith, few, is, number, same)))
-    (λ too. differ s other a b there too same)
-    (joined clients slot other new b hb))
-    (joined clients slot s new a ha)
+-- whoever is there once a client with the next pass joined has a pass of its own
+apart : (v : NodeView) (slot : ℕ) (new : Client) → IsNode v → new.pass ≡ v.next_pass
+    → (s other : ℕ) (a b : Client) → IsClient v s a ⊎ ((s ≡ slot) × (a ≡ new))
+    → IsClient v other b ⊎ ((other ≡ slot) × (b ≡ new)) → a.pass ≡ b.pass → s ≡ other
+apart v slot new node next s other a b (inl x) (inl y) same = node.passes s other a b x y same
+apart v slot new node next s other a b (inl x) (inr y) same =
+    let few = (node.clients s a x).1 in let is : b.pass ≡ new.pass = cc y.1 in
+    absurd (omega (arith, few, is, next, same))
+apart v slot new node next s other a b (inr x) (inl y) same =
+    let few = (node.clients other b y).1 in let is : a.pass ≡ new.pass = cc x.1 in
+    absurd (omega (arith, few, is, next, same))
+apart v slot new node next s other a b (inr x) (inr y) same = x.0 ∙ sym y.0
 
--- a client leaves
-pub fit_left : (clients : Clients) (slot databases next : ℕ) → AllFit clients databases next → AllFit (set clients slot None) databases next
-fit_left clients slot databases next fit s client h = fit s client (left clients slot s client h)
+-- a client of this database has the slot that was next, and the next pass
+pub joined_view : (v : NodeView) (slot secret : ℕ) (key : ClientKey) (client : Client)
+    (keys : Slots) (next : ℕ) → IsNode v → IsFree v.keys.secrets slot → v.keys.next ≡ Some slot
+    → Issues v.keys secret key keys → IsNext keys.secrets keys.next
+    → client.database < length v.pools → client.pass ≡ v.next_pass → next ≡ v.next_pass + 1
+    → next ≤ 2 ^ 64
+    → IsNode (record v {
+      keys = keys;
+      clients = set v.clients slot (Some client);
+      next_pass = next;
+    })
+joined_view v slot secret key client keys next node free was issued after known number one few =
+    let nobody = free_client v.keys.secrets v.clients slot node.live free in
+    let same : slot ≡ key.slot = same_Some slot key.slot (sym was ∙ issued.slot) in
+    let is_one = joined v.clients slot client in
+    record {
+      own = (issued.peer ∙ node.own.0, node.own.1);
+      next = after;
+      live = simp (issued.secrets, ← same, map-set, node.live);
+      has = set_at (λ s o. Has o (slice_get v.links.claims s)) v.clients slot (Some client)
+          (λ was e. new_has client _ (rw nobody at (node.has slot))) node.has;
+      clients = λ s c there. ⊎_elim
+          (λ old. let fits = node.clients s c old in (fits.0, omega (arith, fits.1, one)))
+          (λ new. rw new.1 (known, omega (arith, number, one))) (is_one s c there);
+      passes = λ s other a b at_s at_other.
+          apart v slot client node number s other a b (is_one s a at_s) (is_one other b at_other);
+      sized = node.sized;
+      numbers = few;
+    }
 
-pub differ_left : (clients : Clients) (slot : ℕ) → AllDiffer clients → AllDiffer (set clients slot None)
-differ_left clients slot differ s other a b ha hb same =
-    differ s other a b (left clients slot s a ha) (left clients slot other b hb) same
+-- the client of the slot, which holds nothing, is out of the queue, and the slot is free
+pub left_view : (v : NodeView) (slot : ℕ) (client : Client) (keys : Slots) (links : PoolView)
+    → IsNode v → IsClient v slot client → is_holding (slice_get v.links.claims slot) ≡ false
+    → links ≡ unqueued v.links slot → Frees v.keys slot keys → IsNext keys.secrets keys.next
+    → IsNode (record v { keys = keys; clients = set v.clients slot None; links = links })
+left_view v slot client keys links node there free out freed next =
+    let was = left v.clients slot in
+    let kept : IsNode (with_links v links) = rw out (unqueued_kept node slot) in
+    let nothing : slice_get links.claims slot ≡ Some Claim.Nothing =
+    rw out (nothing_unqueued v.links slot (may_ask v slot client node there).within free) in
+    record {
+      own = (freed.peer ∙ node.own.0, kept.own.1);
+      next = next;
+      live = simp (freed.secrets, map-set, node.live);
+      has = set_at (λ s o. Has o (slice_get links.claims s)) v.clients slot None
+          (λ was e. rw nothing refl) kept.has;
+      clients = λ s c here. node.clients s c (was s c here);
+      passes = λ s other a b here there.
+          node.passes s other a b (was s a here) (was other b there);
+      sized = kept.sized;
+      numbers = node.numbers;
+    }
+
+none_live : (n : ℕ) → AreLive (replicate n None) (replicate n None)
+none_live zero = refl
+none_live (suc n) = cc (none_live n)
+
+has_none : (n s : ℕ)
+    → Has (slice_get (replicate n None) s) (slice_get (replicate n Claim.Nothing) s)
+has_none zero s = tt
+has_none (suc n) zero = refl
+has_none (suc n) (suc s) = has_none n s
+
+nobody_there : (n s : ℕ) (client : Client) → slice_get (replicate n None) s ≢ Some (Some client)
+nobody_there zero s client h = absurd (cc)
+nobody_there (suc n) zero client h = absurd (cc)
+nobody_there (suc n) (suc s) client h = nobody_there n s client h
+
+-- nobody is logged in, and no link is open
+pub none_view : (v : NodeView) (slots : ℕ) → v.keys.peer ≡ v.me → v.links.peer ≡ v.me
+    → IsNext v.keys.secrets v.keys.next → v.keys.secrets ≡ replicate slots None
+    → v.clients ≡ replicate slots None → v.links.claims ≡ replicate slots Claim.Nothing
+    → sizes v.links.pools ≡ v.pools → v.next_pass ≤ 2 ^ 64 → IsNode v
+none_view v slots keys links next secrets clients claims sized numbers =
+    let nobody : (s : ℕ) (c : Client) → slice_get v.clients s ≢ Some (Some c) =
+    λ s c. rw clients (nobody_there slots s c) in
+    record {
+      own = (keys, links);
+      next = next;
+      live = rw (secrets, clients) (none_live slots);
+      has = λ s. rw (clients, claims) (has_none slots s);
+      clients = λ s c there. absurd (nobody s c there);
+      passes = λ s other a b there also alike. absurd (nobody s a there);
+      sized = sized;
+      numbers = numbers;
+    }

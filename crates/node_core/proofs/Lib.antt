@@ -1,9 +1,3 @@
-pub mod Places
-pub mod Live
-pub mod Sizes
-pub mod Owning
+pub mod Slots
+pub mod Links
 pub mod Clients
-pub mod Keeping
-pub mod LinkSteps
-pub mod Standing
-pub mod ClientSteps

@@ -6,38 +6,19 @@ use Rattle.pg_ids.specs.declared.client_key.ClientKey.{ClientKey}
 use Rattle.pg_ids.specs.Key.{IsKey, key_bytes}
 use Rattle.key_table.specs.Slots.{Issues, Frees, IsNext, IsFree}
 use Rattle.startup.specs.Packet.{cancel_request}
-use Rattle.lease.specs.declared.link_record.LinkRecord.{LinkRecord}
-use Rattle.lease.specs.declared.pass.PassRecord.{PassRecord}
-use Rattle.lease.specs.declared.permit.PermitRecord.{PermitRecord}
-use Rattle.lease.specs.declared.ticket.TicketRecord.{TicketRecord}
-use Rattle.link_pool.specs.declared.place.Place.{Place}
-use Rattle.link_pool.specs.declared.place.Place.TheVariants as place
-use Rattle.link_pool.specs.declared.place.Claim.{Claim}
-use Rattle.link_pool.specs.declared.place.Claim.TheVariants as claim
-use Rattle.link_pool.specs.declared.replies.AcquireReply.{AcquireReply}
-use Rattle.link_pool.specs.declared.replies.AcquireReply.TheVariants as acquire
-use Rattle.link_pool.specs.declared.replies.ServeReply.{ServeReply}
-use Rattle.link_pool.specs.declared.replies.ServeReply.TheVariants as serve
+use Rattle.lease.specs.declared.{link_record.LinkRecord.LinkRecord, pass.PassRecord.PassRecord}
+use Rattle.lease.specs.declared.{permit.PermitRecord.PermitRecord, ticket.TicketRecord.TicketRecord}
+use Rattle.link_pool.specs.declared.place.{Place.Place, Claim.Claim}
+use Rattle.link_pool.specs.declared.replies.{AcquireReply.AcquireReply, ServeReply.ServeReply}
 use Rattle.link_pool.specs.declared.replies.RestartReply.{RestartReply}
-use Rattle.link_pool.specs.declared.replies.RestartReply.TheVariants as restart
 use Rattle.link_pool.specs.Pool.{PoolView, place_at, unqueued}
 use Rattle.link_pool.specs.PoolStep as pool
 use Rattle.cancel_router.specs.Route.{route}
-use Rattle.cancel_router.specs.declared.table_view.Standing.{Standing}
-use Rattle.cancel_router.specs.declared.table_view.Standing.TheVariants.{Without, Holds}
-use Rattle.cancel_router.specs.declared.decision.Route.{Route}
-use Rattle.cancel_router.specs.declared.decision.Route.TheVariants as route_to
+use Rattle.cancel_router.specs.declared.{table_view.Standing.Standing, decision.Route.Route}
 use Rattle.node_core.specs.View.{NodeView, NodeValue, IsClient}
 use Rattle.node_core.specs.declared.client.Client.{Client}
-use Rattle.node_core.specs.declared.refusal.JoinRefusal.{JoinRefusal}
-use Rattle.node_core.specs.declared.refusal.JoinRefusal.TheVariants as join
-use Rattle.node_core.specs.declared.refusal.CancelRefusal.TheVariants as cancel
-use Rattle.node_core.specs.declared.exchange.LeaveReply.{LeaveReply}
-use Rattle.node_core.specs.declared.exchange.LeaveReply.TheVariants.{Left, Holding, Stale, Exhausted}
-use Rattle.node_core.specs.declared.exchange.Order.{Order}
-use Rattle.node_core.specs.declared.exchange.Order.TheVariants as order
-use Rattle.node_core.specs.declared.exchange.Exchange.{Exchange}
-use Rattle.node_core.specs.declared.exchange.Exchange.TheVariants.{Join, Leave, Acquire, Up, UpFailed, Release, Close, Cancel, Ended, Failed, Restart}
+use Rattle.node_core.specs.declared.refusal.{JoinRefusal.JoinRefusal, CancelRefusal.CancelRefusal}
+use Rattle.node_core.specs.declared.exchange.{LeaveReply.LeaveReply, Order.Order, Exchange.Exchange}
 
 -- a pass is its slot's: its node and its incarnation are this one, and its number is that of the
 -- slot's client
@@ -52,13 +33,13 @@ StalePass v pass = (client : Client) → IsPass v pass client → ⊥
 
 -- how the client stands that has the link of a place
 abbrev pub holding : Option Place → Standing
-holding (Some (place.Link link)) = Holds link.details.link
-holding other = Without
+holding (Some (Place.Link link)) = Standing.Holds link.details.link
+holding other = Standing.Without
 
 -- how a client stands, by what it has
 abbrev pub standing_by : PoolView → Option Claim → Standing
-standing_by links (Some (claim.Link at)) = holding (place_at links at)
-standing_by links other = Without
+standing_by links (Some (Claim.Link at)) = holding (place_at links at)
+standing_by links other = Standing.Without
 
 -- how the client of a slot stands
 abbrev pub standing_in : NodeView → ℕ → Standing
@@ -85,10 +66,10 @@ pub record Joins (database secret : ℕ) (pass : PassRecord) (old new : NodeView
 abbrev pub JoinStep : ℕ → ℕ → Result PassRecord JoinRefusal → NodeView → NodeView → Type 0
 JoinStep database secret (Ok pass) old new = Joins database secret pass old new
 -- no slot is free
-JoinStep database secret (Err join.Full) old new =
+JoinStep database secret (Err JoinRefusal.Full) old new =
     ((slot : ℕ) → slice_get old.keys.secrets slot ≢ Some None) × (new ≡ old)
 -- a slot is free, and no number is left for the pass
-JoinStep database secret (Err join.Exhausted) old new =
+JoinStep database secret (Err JoinRefusal.Exhausted) old new =
     ((slot : ℕ) × IsFree old.keys.secrets slot) × (old.next_pass ≡ 2 ^ 64) × (new ≡ old)
 
 -- the slot of a pass is free again and out of the queue, and no other changes
@@ -108,12 +89,13 @@ IsLeaving v pass holding = (client : Client)
 
 -- leaving
 abbrev pub LeaveStep : PassRecord → LeaveReply PassRecord → NodeView → NodeView → Type 0
-LeaveStep pass Left old new = IsLeaving old pass false × Leaves pass old new
+LeaveStep pass LeaveReply.Left old new = IsLeaving old pass false × Leaves pass old new
 -- the client has a link or a permit
-LeaveStep pass (Holding again) old new = IsLeaving old pass true × (again ≡ pass) × (new ≡ old)
-LeaveStep pass Stale old new = StalePass old pass × (new ≡ old)
+LeaveStep pass (LeaveReply.Holding again) old new =
+    IsLeaving old pass true × (again ≡ pass) × (new ≡ old)
+LeaveStep pass LeaveReply.Stale old new = StalePass old pass × (new ≡ old)
 -- no number is needed to leave
-LeaveStep pass Exhausted old new = ⊥
+LeaveStep pass LeaveReply.Exhausted old new = ⊥
 
 -- what asking for a link returns, of a link what its lease says
 abbrev pub Asked : Type 0
@@ -127,7 +109,7 @@ pub record Asks (pass : PassRecord) (reply : Asked) (old new : NodeView) : Type 
 
 -- asking for a link
 abbrev pub AcquireStep : PassRecord → Asked → NodeView → NodeView → Type 0
-AcquireStep pass acquire.Stale old new = StalePass old pass × (new ≡ old)
+AcquireStep pass AcquireReply.Stale old new = StalePass old pass × (new ≡ old)
 AcquireStep pass reply old new = Asks pass reply old new
 
 -- a ticket for the link that the client of a slot has, or the reason why there is none
@@ -136,19 +118,19 @@ Serves slot reply old new = LinksStep (pool.ServeStep slot reply) old new
 
 -- the order that a route gives, for the client of this slot where it is sent to a link
 abbrev pub Orders : ℕ → Route → Order TicketRecord → NodeView → NodeView → Type 0
-Orders slot (route_to.Forward peer key) (order.Forward to packet) old new =
+Orders slot (Route.Forward peer key) (Order.Forward to packet) old new =
     (to ≡ peer) × (packet ≡ cancel_request (key_bytes key)) × (new ≡ old)
-Orders slot (route_to.Refused reason) (order.Refused refusal) old new =
-    (refusal ≡ cancel.Route reason) × (new ≡ old)
+Orders slot (Route.Refused reason) (Order.Refused refusal) old new =
+    (refusal ≡ CancelRefusal.Route reason) × (new ≡ old)
 -- one more ticket of that very link is open
-Orders slot (route_to.Send link) (order.Serve ticket database key) old new =
-    (ticket.link ≡ link) × Serves slot (serve.Serve ticket database key) old new
+Orders slot (Route.Send link) (Order.Serve ticket database key) old new =
+    (ticket.link ≡ link) × Serves slot (ServeReply.Serve ticket database key) old new
 -- as many tickets of the link are open as may be
-Orders slot (route_to.Send link) (order.Refused cancel.Busy) old new =
-    Serves slot serve.Busy old new
+Orders slot (Route.Send link) (Order.Refused CancelRefusal.Busy) old new =
+    Serves slot ServeReply.Busy old new
 -- no number is left for the ticket
-Orders slot (route_to.Send link) (order.Refused cancel.Exhausted) old new =
-    Serves slot serve.Exhausted old new
+Orders slot (Route.Send link) (Order.Refused CancelRefusal.Exhausted) old new =
+    Serves slot ServeReply.Exhausted old new
 Orders slot way given old new = ⊥
 
 -- where a request with this key goes
@@ -163,7 +145,7 @@ pub record Cancels (bytes : List ℕ) (given : Order TicketRecord) (old new : No
 
 -- a new incarnation: no slot is live, and there is no link
 pub record Restarts (old new : NodeView) : Type 0 where
-  pub links : pool.RestartStep restart.Restarted old.links new.links
+  pub links : pool.RestartStep RestartReply.Restarted old.links new.links
   pub peer : new.keys.peer ≡ old.keys.peer
   pub free : new.keys.secrets ≡ replicate (length old.keys.secrets) None
   pub next : IsNext new.keys.secrets new.keys.next
@@ -175,24 +157,25 @@ pub record Restarts (old new : NodeView) : Type 0 where
 
 -- a new start
 abbrev pub RestartStep : RestartReply → NodeView → NodeView → Type 0
-RestartStep restart.Restarted old new = Restarts old new
+RestartStep RestartReply.Restarted old new = Restarts old new
 -- no number is left for the incarnation
-RestartStep restart.Exhausted old new =
-    pool.RestartStep restart.Exhausted old.links new.links × (new ≡ old)
+RestartStep RestartReply.Exhausted old new =
+    pool.RestartStep RestartReply.Exhausted old.links new.links × (new ≡ old)
 
 -- from old, the node may give this call its reply and go on to new
 abbrev pub NodeStep : NodeView → Exchange → NodeView → Type 0
-NodeStep old (Join database secret reply) new = JoinStep database secret reply old new
-NodeStep old (Leave pass reply) new = LeaveStep pass reply old new
-NodeStep old (Acquire pass reply) new = AcquireStep pass reply old new
-NodeStep old (Up permit key reply) new = LinksStep (pool.UpStep permit key reply) old new
-NodeStep old (UpFailed permit reply) new = LinksStep (pool.UpFailedStep permit reply) old new
-NodeStep old (Release lease reply) new = LinksStep (pool.ReleaseStep lease reply) old new
-NodeStep old (Close lease reply) new = LinksStep (pool.CloseStep lease reply) old new
-NodeStep old (Cancel bytes reply) new = Cancels bytes reply old new
-NodeStep old (Ended ticket reply) new = LinksStep (pool.EndedStep ticket reply) old new
-NodeStep old (Failed ticket reply) new = LinksStep (pool.FailedStep ticket reply) old new
-NodeStep old (Restart reply) new = RestartStep reply old new
+NodeStep old (Exchange.Join database secret reply) new = JoinStep database secret reply old new
+NodeStep old (Exchange.Leave pass reply) new = LeaveStep pass reply old new
+NodeStep old (Exchange.Acquire pass reply) new = AcquireStep pass reply old new
+NodeStep old (Exchange.Up permit key reply) new = LinksStep (pool.UpStep permit key reply) old new
+NodeStep old (Exchange.UpFailed permit reply) new =
+    LinksStep (pool.UpFailedStep permit reply) old new
+NodeStep old (Exchange.Release lease reply) new = LinksStep (pool.ReleaseStep lease reply) old new
+NodeStep old (Exchange.Close lease reply) new = LinksStep (pool.CloseStep lease reply) old new
+NodeStep old (Exchange.Cancel bytes reply) new = Cancels bytes reply old new
+NodeStep old (Exchange.Ended ticket reply) new = LinksStep (pool.EndedStep ticket reply) old new
+NodeStep old (Exchange.Failed ticket reply) new = LinksStep (pool.FailedStep ticket reply) old new
+NodeStep old (Exchange.Restart reply) new = RestartStep reply old new
 
 -- a node with its streams takes the step of this call
 abbrev pub IsStep : {S : Type 0} → Exchange → NodeValue S → NodeValue S → Type 0

@@ -3,7 +3,6 @@ use Rattle.std.specs.Prelude.{ℕ, ◌≡◌, ◌<◌, ◌≤◌, ◌^◌, List,
 use Rattle.key_table.specs.Slots.{Slots, IsNext}
 use Rattle.ini_config.specs.Node.{NodeSettings}
 use Rattle.link_pool.specs.declared.place.Claim.{Claim}
-use Rattle.link_pool.specs.declared.place.Claim.TheVariants as claim
 use Rattle.link_pool.specs.Pool.{PoolView}
 use Rattle.link_pool.specs.OnePlace.{IsPool, sizes, WithinSizes}
 use Rattle.link_pool.specs.PoolStep.{fresh}
@@ -44,15 +43,15 @@ IsClient v slot client = slice_get v.clients slot ≡ Some (Some client)
 
 -- what a client has is of its own database
 abbrev pub IsOwn : Client → Claim → Type 0
-IsOwn client claim.Nothing = Unit {0}
-IsOwn client (claim.Waiting database) = database ≡ client.database
-IsOwn client (claim.Open at) = at.database ≡ client.database
-IsOwn client (claim.Link at) = at.database ≡ client.database
+IsOwn client Claim.Nothing = Unit {0}
+IsOwn client (Claim.Waiting database) = database ≡ client.database
+IsOwn client (Claim.Open at) = at.database ≡ client.database
+IsOwn client (Claim.Link at) = at.database ≡ client.database
 
 -- a slot that isn't live has no link and no permit, and doesn't wait
 abbrev pub Has : Option (Option Client) → Option Claim → Type 0
 Has None None = Unit {0}
-Has (Some None) (Some had) = had ≡ claim.Nothing
+Has (Some None) (Some had) = had ≡ Claim.Nothing
 Has (Some (Some client)) (Some had) = IsOwn client had
 Has None (Some had) = ⊥
 Has (Some client) None = ⊥

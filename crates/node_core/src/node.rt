@@ -1,5 +1,5 @@
 //! A node: what can be read of its state, and its steps by subject.
-ghost use Rattle.std.specs.Prelude.{◌≡◌, IfOk, slice_get};
+ghost use Rattle.std.specs.Prelude.{◌≡◌, IfOk, length, slice_get};
 ghost use Rattle.link_pool.specs.Streams.{NothingStored, AreStored, RestartStreams};
 ghost use Rattle.node_core.specs.View.{IsView, IsFresh, client_at, links_of};
 ghost use Rattle.node_core.specs.declared.exchange.Exchange.TheVariants as call;
@@ -94,6 +94,13 @@ impl<S: Drop> NodeCore<S> {
         ensures streams { AreStored (links_of self.now) }
     {
         self.links.incarnation()
+    }
+
+    /// How many slots it has.
+    pub fn slots(&self) -> usize
+        ensures { result ≡ length self.now.view.clients }
+    {
+        self.clients.len()
     }
 
     /// The slot that the next client gets, and none where each slot is live.

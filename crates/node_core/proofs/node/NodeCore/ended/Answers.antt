@@ -1,10 +1,5 @@
-use Rattle.node_core.specs.ViewOf.{node_of}
-use Rattle.node_core.proofs.Keeping.{links_kept}
-use Rattle.node_core.proofs.LinkSteps.{ended_keeps}
+use Rattle.node_core.proofs.Links.{ended_kept}
 use Rattle.node_core.proofs.node.NodeCore.ended.Goals as goal
 
 pub invariant_of-self : goal.invariant_of-self
-invariant_of-self g c =
-    let node = (node_of c.self.inside).view in
-    links_kept node c.ended.new.self.view c.self.invariant
-    (ended_keeps node.clients node.links c.ended.new.self.view c.args.ticket _ c.ended.ensures.step)
+invariant_of-self g c = ended_kept _ _ _ c.self.invariant c.ended.ensures.step

@@ -1,10 +1,5 @@
-use Rattle.node_core.specs.ViewOf.{node_of}
-use Rattle.node_core.proofs.Keeping.{links_kept}
-use Rattle.node_core.proofs.LinkSteps.{up_failed_keeps}
+use Rattle.node_core.proofs.Links.{up_failed_kept}
 use Rattle.node_core.proofs.node.NodeCore.up_failed.Goals as goal
 
 pub invariant_of-self : goal.invariant_of-self
-invariant_of-self g c =
-    let node = (node_of c.self.inside).view in
-    links_kept node c.up_failed.new.self.view c.self.invariant
-    (up_failed_keeps node.clients node.links c.up_failed.new.self.view c.args.permit _ c.up_failed.ensures.step)
+invariant_of-self g c = up_failed_kept _ _ _ c.self.invariant c.up_failed.ensures.step
