@@ -1,5 +1,5 @@
-//! Tests of a node by public calls alone. They have a crate of their own, since a crate with tests is
-//! proved twice: without them and with them.
+//! Tests of a node by public calls alone. They have a crate of their own, since a crate with tests
+//! is proved twice: without them and with them.
 #![tactic(auto)]
 
 #[cfg(test)]

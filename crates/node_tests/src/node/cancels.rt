@@ -1,12 +1,8 @@
 //! Cancel requests: where they go, and the links that wait for their end.
 use crate::node::desk::{Act, Desk, Said};
-use crate::node::{FIRST, KEY, run};
+use crate::node::{FIRST, KEY, OTHER_KEY, SECOND, run, run_with_link};
+use node_core::{CloseReply, EndedReply, FailedReply, ReleaseReply};
 use std::test::Fail;
-
-const OTHER_KEY: [u8; 8] = [0, 0, 0, 3, 0, 0, 0, 4];
-
-// The key bytes of the client that node 2 gave slot 1 and the secret 5.
-const SECOND: [u8; 8] = [0, 8, 0, 4, 0, 0, 0, 0x17];
 
 const LOWERED: [u8; 16] = [0, 0, 0, 16, 4, 0xd2, 0x16, 0x2e, 0, 8, 0, 0, 0, 0, 0, 6];
 
@@ -29,55 +25,52 @@ const BY_KEY: &[(Act, Said)] = &[
     (Act::Cancel([0, 8, 0, 0, 0, 0, 0, 5]), Said::Serve(0, KEY)),
     (Act::Cancel(SECOND), Said::Serve(1, OTHER_KEY)),
     (Act::Cancel(FIRST), Said::Serve(2, KEY)),
-    (Act::Close(0), Said::Closed(70)),
+    (Act::Close(0), Said::Close(CloseReply::Closed(70))),
     (Act::Cancel(FIRST), Said::Refused(63)),
     (Act::Leave(0), Said::Left),
     (Act::Cancel(FIRST), Said::Refused(61)),
 ];
 
+const ONE_TICKET: &[(Act, Said)] = &[
+    (Act::Cancel(FIRST), Said::Serve(0, KEY)),
+    (Act::Release(0), Said::Release(ReleaseReply::Quarantined)),
+    (Act::Acquire(1), Said::Waiting),
+    (Act::Ended(0), Said::Ended(EndedReply::Freed)),
+    (Act::Acquire(1), Said::Link(0)),
+];
+
 const QUARANTINED: &[(Act, Said)] = &[
-    (Act::Join(1), Said::Key(FIRST)),
-    (Act::Join(5), Said::Key(SECOND)),
-    (Act::Acquire(0), Said::Open(0)),
-    (Act::Up(0, 70, KEY), Said::Link(0)),
     (Act::Cancel(FIRST), Said::Serve(0, KEY)),
     (Act::Cancel(FIRST), Said::Serve(1, KEY)),
     (Act::Cancel(FIRST), Said::Serve(2, KEY)),
-    (Act::Release(0), Said::Quarantined),
+    (Act::Release(0), Said::Release(ReleaseReply::Quarantined)),
     (Act::Acquire(1), Said::Waiting),
-    (Act::Ended(0), Said::Counted),
-    (Act::Ended(1), Said::Counted),
-    (Act::Ended(2), Said::Freed),
-    (Act::Ended(2), Said::Refused(32)),
+    (Act::Ended(0), Said::Ended(EndedReply::Counted)),
+    (Act::Ended(1), Said::Ended(EndedReply::Counted)),
+    (Act::Ended(2), Said::Ended(EndedReply::Freed)),
+    (Act::Ended(2), Said::Ended(EndedReply::Stale)),
     (Act::Acquire(1), Said::Link(0)),
     (Act::Cancel(SECOND), Said::Serve(3, KEY)),
-    (Act::Release(1), Said::Quarantined),
-    (Act::Failed(3), Said::Closed(70)),
+    (Act::Release(1), Said::Release(ReleaseReply::Quarantined)),
+    (Act::Failed(3), Said::Failed(FailedReply::Closed(70))),
     (Act::Acquire(0), Said::Open(1)),
 ];
 
 const CONDEMNED: &[(Act, Said)] = &[
-    (Act::Join(1), Said::Key(FIRST)),
-    (Act::Join(5), Said::Key(SECOND)),
-    (Act::Acquire(0), Said::Open(0)),
-    (Act::Up(0, 70, KEY), Said::Link(0)),
     (Act::Cancel(FIRST), Said::Serve(0, KEY)),
-    (Act::Failed(0), Said::Condemned),
-    (Act::Release(0), Said::Closed(70)),
+    (Act::Failed(0), Said::Failed(FailedReply::Condemned)),
+    (Act::Release(0), Said::Release(ReleaseReply::Closed(70))),
     (Act::Acquire(1), Said::Open(1)),
     (Act::Up(1, 71, OTHER_KEY), Said::Link(1)),
-    (Act::Failed(0), Said::Refused(32)),
-    (Act::Release(1), Said::Idle),
+    (Act::Failed(0), Said::Failed(FailedReply::Stale)),
+    (Act::Release(1), Said::Release(ReleaseReply::Idle)),
 ];
 
 const MANY: &[(Act, Said)] = &[
-    (Act::Join(1), Said::Key(FIRST)),
-    (Act::Acquire(0), Said::Open(0)),
-    (Act::Up(0, 70, KEY), Said::Link(0)),
     (Act::Cancel(FIRST), Said::Serve(0, KEY)),
     (Act::Cancels(65_535, FIRST), Said::Served(65_534)),
     (Act::Cancel(FIRST), Said::Refused(31)),
-    (Act::Ended(0), Said::Counted),
+    (Act::Ended(0), Said::Ended(EndedReply::Counted)),
     (Act::Cancels(2, FIRST), Said::Served(1)),
 ];
 
@@ -93,7 +86,8 @@ fn routes(rt: HostRuntime) -> Result<(), Fail> {
 
 #[test]
 fn tickets(rt: HostRuntime) -> Result<(), Fail> {
-    run(&rt, &mut Desk::new(rt.alloc(), 2, None, 1, 2)?, QUARANTINED)?;
-    run(&rt, &mut Desk::new(rt.alloc(), 2, None, 1, 2)?, CONDEMNED)?;
-    run(&rt, &mut Desk::new(rt.alloc(), 2, None, 1, 1)?, MANY)
+    run_with_link(&rt, rt.alloc(), 1, ONE_TICKET)?;
+    run_with_link(&rt, rt.alloc(), 1, QUARANTINED)?;
+    run_with_link(&rt, rt.alloc(), 1, CONDEMNED)?;
+    run_with_link(&rt, rt.alloc(), 1, MANY)
 }

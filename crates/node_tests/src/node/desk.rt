@@ -1,5 +1,5 @@
-//! A node, and what it handed out. Each value is kept as what it says, and made again to be handed in: so a stale
-//! one can be handed in as well.
+//! A node, and what it handed out. Each value is kept as what it says, and made again to be handed
+//! in: so a stale one can be handed in as well.
 ghost use Rattle.std.specs.Prelude.{◌≡◌, ◌<◌, ◌≤◌, IfOk, All, length};
 
 use ini_config::Settings;
@@ -8,17 +8,22 @@ use node_core::{
     NodeCore, Order, Pass, PassRecord, Permit, PermitRecord, ReleaseReply, RestartReply,
     StepRefusal, Ticket, TicketRecord, UpFailedReply, UpReply,
 };
-use pg_ids::{PeerNo, Secret, ServerKey};
+use pg_ids::{PeerNo, Secret, ServerKey, SlotNo};
 use std::alloc::{AllocError, Global};
 use std::test::Fail;
 
 const SHOP: DatabaseNo = DatabaseNo(0);
+
+// How many values of a kind are kept without further memory.
+const KEPT: usize = 8;
 
 /// What is done at a node. A value is named by how many of its kind were handed out before it.
 #[derive(Clone, Copy, Debug, PartialEq, Eq)]
 pub(crate) enum Act {
     /// With this secret.
     Join(u32),
+    /// The same, whichever slot it gets.
+    Enter(u32),
     Leave(usize),
     Acquire(usize),
     /// Over this stream, and with this key.
@@ -38,24 +43,47 @@ pub(crate) enum Act {
 #[derive(Clone, Copy, Debug, PartialEq, Eq)]
 pub(crate) enum Said {
     Key([u8; 8]),
+    Entered,
     Left,
     Open(u64),
     Link(u64),
     Waiting,
-    Freed,
-    Idle,
-    Quarantined,
-    Closed(u32),
+    /// The link wasn't opened in time, and its stream is handed back.
     Stale(u32),
+    UpFailed(UpFailedReply),
+    Release(ReleaseReply<u32>),
+    Close(CloseReply<u32>),
     Serve(u64, [u8; 8]),
     Forward(u16, [u8; 16]),
     Served(u32),
-    Counted,
-    Condemned,
-    Restarted,
+    Ended(EndedReply),
+    Failed(FailedReply<u32>),
+    Restart(RestartReply),
     Refused(u8),
-    /// No such value was handed out.
-    Nothing,
+}
+
+impl Said {
+    /// The same as many rounds later, in each of which so many permits, links and tickets are made.
+    pub(crate) fn later(self, rounds: u64, made: Made) -> Said {
+        match self {
+            Said::Open(number) => Said::Open(after(number, rounds, made.permits)),
+            Said::Link(number) => Said::Link(after(number, rounds, made.links)),
+            Said::Serve(number, key) => Said::Serve(after(number, rounds, made.tickets), key),
+            said => said,
+        }
+    }
+}
+
+/// How many permits, links and tickets are made in one round of steps.
+#[derive(Clone, Copy, Debug)]
+pub(crate) struct Made {
+    pub(crate) permits: u64,
+    pub(crate) links: u64,
+    pub(crate) tickets: u64,
+}
+
+fn after(number: u64, rounds: u64, each: u64) -> u64 {
+    number.saturating_add(rounds.saturating_mul(each))
 }
 
 fn refused(refusal: StepRefusal) -> Said {
@@ -99,7 +127,8 @@ pub(crate) struct Desk {
 }
 
 impl Desk {
-    /// A node with this number, one peer at most, and one database.
+    /// A node with this number, one peer at most, and one database. Room for what it hands out is
+    /// there before the node is made.
     pub(crate) fn new(
         alloc: Global,
         me: u16,
@@ -113,12 +142,16 @@ impl Desk {
     {
         let me = PeerNo::new(me).ok_or("no such peer")?;
         let settings = Settings::plain(alloc, me, listed(alloc, peer)?, pool, clients)?;
+        let passes = Vec::with_capacity(alloc, KEPT)?;
+        let permits = Vec::with_capacity(alloc, KEPT)?;
+        let links = Vec::with_capacity(alloc, KEPT)?;
+        let tickets = Vec::with_capacity(alloc, KEPT)?;
         Ok(Desk {
             core: NodeCore::new(alloc, &settings)?,
-            passes: Vec::new(alloc),
-            permits: Vec::new(alloc),
-            links: Vec::new(alloc),
-            tickets: Vec::new(alloc),
+            passes,
+            permits,
+            links,
+            tickets,
         })
     }
 
@@ -127,27 +160,57 @@ impl Desk {
         std::mem::swap(&mut self.core, &mut other.core);
     }
 
+    /// What was handed out so far is forgotten.
+    pub(crate) fn forget(&mut self) {
+        self.passes.clear();
+        self.permits.clear();
+        self.links.clear();
+        self.tickets.clear();
+    }
+
+    /// The slot that the next client gets.
+    pub(crate) fn next_slot(&self) -> Option<SlotNo> {
+        self.core.next_slot()
+    }
+
     /// Does this, and says what the node returned.
-    pub(crate) fn act(&mut self, act: Act) -> Result<Said, AllocError> {
+    pub(crate) fn act(&mut self, act: Act) -> Result<Said, Fail> {
         match act {
             Act::Join(secret) => self.join(secret),
-            Act::Leave(pass) => Ok(self.leave(pass)),
+            Act::Enter(secret) => self.enter(secret),
+            Act::Leave(pass) => self.leave(pass),
             Act::Acquire(pass) => self.acquire(pass),
             Act::Up(permit, stream, key) => self.up(permit, stream, key),
-            Act::UpFailed(permit) => Ok(self.up_failed(permit)),
-            Act::Release(lease) => Ok(self.release(lease)),
-            Act::Close(lease) => Ok(self.close(lease)),
-            Act::Cancel(key) => self.cancel(&key),
+            Act::UpFailed(permit) => self.up_failed(permit),
+            Act::Release(link) => self.release(link),
+            Act::Close(link) => self.close(link),
+            Act::Cancel(key) => Ok(self.cancel(&key)?),
             Act::Cancels(count, key) => Ok(self.cancels(count, &key)),
-            Act::Ended(ticket) => Ok(self.ended(ticket)),
-            Act::Failed(ticket) => Ok(self.failed(ticket)),
-            Act::Restart => Ok(self.restart()),
+            Act::Ended(ticket) => self.ended(ticket),
+            Act::Failed(ticket) => self.failed(ticket),
+            Act::Restart => Ok(Said::Restart(self.core.restart())),
         }
     }
 
-    fn join(&mut self, secret: u32) -> Result<Said, AllocError> {
+    fn pass(&self, number: usize) -> Result<Pass, Fail> {
+        Ok(Pass::new(self.passes.get(number).copied().ok_or("no such pass")?))
+    }
+
+    fn permit(&self, number: usize) -> Result<Permit, Fail> {
+        Ok(Permit::new(self.permits.get(number).copied().ok_or("no such permit")?))
+    }
+
+    fn lease(&self, number: usize) -> Result<Lease<u32>, Fail> {
+        Ok(self.links.get(number).ok_or("no such link")?.lease())
+    }
+
+    fn ticket(&self, number: usize) -> Result<Ticket, Fail> {
+        Ok(Ticket::new(self.tickets.get(number).copied().ok_or("no such ticket")?))
+    }
+
+    fn join(&mut self, secret: u32) -> Result<Said, Fail> {
         if self.core.pool_sizes().is_empty() {
-            return Ok(Said::Nothing);
+            return Err(Fail::from("no database"));
         }
         match self.core.join(SHOP, Secret(secret)) {
             Ok(pass) => {
@@ -159,11 +222,16 @@ impl Desk {
         }
     }
 
-    fn leave(&mut self, pass: usize) -> Said {
-        let Some(details) = self.passes.get(pass).copied() else {
-            return Said::Nothing;
-        };
-        match self.core.leave(Pass::new(details)) {
+    fn enter(&mut self, secret: u32) -> Result<Said, Fail> {
+        match self.join(secret)? {
+            Said::Key(_key) => Ok(Said::Entered),
+            said => Ok(said),
+        }
+    }
+
+    fn leave(&mut self, pass: usize) -> Result<Said, Fail> {
+        let pass = self.pass(pass)?;
+        Ok(match self.core.leave(pass) {
             LeaveReply::Left => Said::Left,
             LeaveReply::Holding(pass) => {
                 let _details = pass.forfeit();
@@ -171,18 +239,15 @@ impl Desk {
             }
             LeaveReply::Stale => refused(StepRefusal::Stale),
             LeaveReply::Exhausted => refused(StepRefusal::Exhausted),
-        }
+        })
     }
 
-    fn acquire(&mut self, pass: usize) -> Result<Said, AllocError> {
-        let Some(details) = self.passes.get(pass).copied() else {
-            return Ok(Said::Nothing);
-        };
-        let pass = Pass::new(details);
+    fn acquire(&mut self, pass: usize) -> Result<Said, Fail> {
+        let pass = self.pass(pass)?;
         let reply = self.core.acquire(&pass);
         let _details = pass.forfeit();
         match reply {
-            AcquireReply::Got(lease) => self.lent(lease),
+            AcquireReply::Got(lease) => Ok(self.lent(lease)?),
             AcquireReply::Open(permit) => {
                 let said = Said::Open(permit.details().number);
                 self.permits.push(permit.forfeit())?;
@@ -201,12 +266,10 @@ impl Desk {
         Ok(said)
     }
 
-    fn up(&mut self, permit: usize, stream: u32, key: [u8; 8]) -> Result<Said, AllocError> {
-        let Some(details) = self.permits.get(permit).copied() else {
-            return Ok(Said::Nothing);
-        };
-        match self.core.up(Permit::new(details), stream, ServerKey(key)) {
-            UpReply::Up(lease) => self.lent(lease),
+    fn up(&mut self, permit: usize, stream: u32, key: [u8; 8]) -> Result<Said, Fail> {
+        let permit = self.permit(permit)?;
+        match self.core.up(permit, stream, ServerKey(key)) {
+            UpReply::Up(lease) => Ok(self.lent(lease)?),
             UpReply::Exhausted(permit, _stream) => {
                 let _details = permit.forfeit();
                 Ok(refused(StepRefusal::Exhausted))
@@ -216,39 +279,19 @@ impl Desk {
         }
     }
 
-    fn up_failed(&mut self, permit: usize) -> Said {
-        let Some(details) = self.permits.get(permit).copied() else {
-            return Said::Nothing;
-        };
-        match self.core.up_failed(Permit::new(details)) {
-            UpFailedReply::Freed => Said::Freed,
-            UpFailedReply::Stale => refused(StepRefusal::Stale),
-            UpFailedReply::Exhausted => refused(StepRefusal::Exhausted),
-        }
+    fn up_failed(&mut self, permit: usize) -> Result<Said, Fail> {
+        let permit = self.permit(permit)?;
+        Ok(Said::UpFailed(self.core.up_failed(permit)))
     }
 
-    fn release(&mut self, lease: usize) -> Said {
-        let Some(link) = self.links.get(lease).copied() else {
-            return Said::Nothing;
-        };
-        match self.core.release(link.lease()) {
-            ReleaseReply::Idle => Said::Idle,
-            ReleaseReply::Quarantined => Said::Quarantined,
-            ReleaseReply::Closed(stream) => Said::Closed(stream),
-            ReleaseReply::Stale(stream) => Said::Stale(stream),
-            ReleaseReply::Exhausted(_stream) => refused(StepRefusal::Exhausted),
-        }
+    fn release(&mut self, link: usize) -> Result<Said, Fail> {
+        let lease = self.lease(link)?;
+        Ok(Said::Release(self.core.release(lease)))
     }
 
-    fn close(&mut self, lease: usize) -> Said {
-        let Some(link) = self.links.get(lease).copied() else {
-            return Said::Nothing;
-        };
-        match self.core.close(link.lease()) {
-            CloseReply::Closed(stream) => Said::Closed(stream),
-            CloseReply::Stale(stream) => Said::Stale(stream),
-            CloseReply::Exhausted(_stream) => refused(StepRefusal::Exhausted),
-        }
+    fn close(&mut self, link: usize) -> Result<Said, Fail> {
+        let lease = self.lease(link)?;
+        Ok(Said::Close(self.core.close(lease)))
     }
 
     fn cancel(&mut self, key: &[u8; 8]) -> Result<Said, AllocError> {
@@ -274,35 +317,14 @@ impl Desk {
         Said::Served(served)
     }
 
-    fn ended(&mut self, ticket: usize) -> Said {
-        let Some(details) = self.tickets.get(ticket).copied() else {
-            return Said::Nothing;
-        };
-        match self.core.ended(Ticket::new(details)) {
-            EndedReply::Freed => Said::Freed,
-            EndedReply::Counted => Said::Counted,
-            EndedReply::Stale => refused(StepRefusal::Stale),
-            EndedReply::Exhausted => refused(StepRefusal::Exhausted),
-        }
+    fn ended(&mut self, ticket: usize) -> Result<Said, Fail> {
+        let ticket = self.ticket(ticket)?;
+        Ok(Said::Ended(self.core.ended(ticket)))
     }
 
-    fn failed(&mut self, ticket: usize) -> Said {
-        let Some(details) = self.tickets.get(ticket).copied() else {
-            return Said::Nothing;
-        };
-        match self.core.failed(Ticket::new(details)) {
-            FailedReply::Condemned => Said::Condemned,
-            FailedReply::Closed(stream) => Said::Closed(stream),
-            FailedReply::Stale => refused(StepRefusal::Stale),
-            FailedReply::Exhausted => refused(StepRefusal::Exhausted),
-        }
-    }
-
-    fn restart(&mut self) -> Said {
-        match self.core.restart() {
-            RestartReply::Restarted => Said::Restarted,
-            RestartReply::Exhausted => refused(StepRefusal::Exhausted),
-        }
+    fn failed(&mut self, ticket: usize) -> Result<Said, Fail> {
+        let ticket = self.ticket(ticket)?;
+        Ok(Said::Failed(self.core.failed(ticket)))
     }
 }
 

@@ -1,22 +1,19 @@
 //! New starts: what was handed out before is stale, and the slots are given from the first one on.
-use crate::node::desk::{Act, Desk, Said};
-use crate::node::{FIRST, KEY, run};
+use crate::node::desk::{Act, Said};
+use crate::node::{FIRST, KEY, run, start_with_link};
+use node_core::{CloseReply, EndedReply, FailedReply, ReleaseReply, RestartReply, UpFailedReply};
 use std::test::Fail;
 
 const FROM_BEFORE: &[(Act, Said)] = &[
-    (Act::Join(1), Said::Key(FIRST)),
-    (Act::Acquire(0), Said::Open(0)),
-    (Act::Up(0, 70, KEY), Said::Link(0)),
     (Act::Cancel(FIRST), Said::Serve(0, KEY)),
-    (Act::Join(5), Said::Key([0, 8, 0, 4, 0, 0, 0, 0x17])),
     (Act::Acquire(1), Said::Open(1)),
-    (Act::Restart, Said::Restarted),
-    (Act::Ended(0), Said::Refused(32)),
-    (Act::Failed(0), Said::Refused(32)),
-    (Act::Release(0), Said::Stale(70)),
-    (Act::Close(0), Said::Stale(70)),
+    (Act::Restart, Said::Restart(RestartReply::Restarted)),
+    (Act::Ended(0), Said::Ended(EndedReply::Stale)),
+    (Act::Failed(0), Said::Failed(FailedReply::Stale)),
+    (Act::Release(0), Said::Release(ReleaseReply::Stale(70))),
+    (Act::Close(0), Said::Close(CloseReply::Stale(70))),
     (Act::Up(1, 71, KEY), Said::Stale(71)),
-    (Act::UpFailed(1), Said::Refused(32)),
+    (Act::UpFailed(1), Said::UpFailed(UpFailedReply::Stale)),
     (Act::Acquire(1), Said::Refused(32)),
     (Act::Leave(0), Said::Refused(32)),
 ];
@@ -28,22 +25,22 @@ const AFTERWARDS: &[(Act, Said)] = &[
     (Act::Cancel(FIRST), Said::Refused(61)),
     (Act::Acquire(2), Said::Open(2)),
     (Act::Up(2, 72, KEY), Said::Link(1)),
-    (Act::Release(0), Said::Stale(70)),
+    (Act::Release(0), Said::Release(ReleaseReply::Stale(70))),
     (Act::Leave(0), Said::Refused(32)),
     (
         Act::Cancel([0, 8, 0, 0, 0, 0, 0, 0x27]),
         Said::Serve(1, KEY),
     ),
-    (Act::Ended(0), Said::Refused(32)),
-    (Act::Release(1), Said::Quarantined),
-    (Act::Restart, Said::Restarted),
+    (Act::Ended(0), Said::Ended(EndedReply::Stale)),
+    (Act::Release(1), Said::Release(ReleaseReply::Quarantined)),
+    (Act::Restart, Said::Restart(RestartReply::Restarted)),
     (Act::Join(1), Said::Key(FIRST)),
     (Act::Acquire(4), Said::Open(3)),
 ];
 
 #[test]
 fn values_from_before(rt: HostRuntime) -> Result<(), Fail> {
-    let mut desk = Desk::new(rt.alloc(), 2, None, 2, 2)?;
+    let mut desk = start_with_link(&rt, rt.alloc(), 2)?;
     run(&rt, &mut desk, FROM_BEFORE)?;
     run(&rt, &mut desk, AFTERWARDS)
 }
