@@ -34,24 +34,17 @@ use Rattle.locked_node.specs.Totals.{is_of}
 abbrev pub one : ℕ → Exchange → ℕ
 one kind call = if is_of kind call then 1 else 0
 
--- the numbers of a node's links
-record Numbers : Type 0 where
-  permit : ℕ
-  link : ℕ
-  ticket : ℕ
-  incarnation : ℕ
+-- the next numbers of a node's links, and its incarnation
+pub record Numbers : Type 0 where
+  pub permit : ℕ
+  pub link : ℕ
+  pub ticket : ℕ
+  pub incarnation : ℕ
 
-abbrev numbers : PoolView → Numbers
+abbrev pub numbers : PoolView → Numbers
 numbers v = record { permit = v.next_permit; link = v.next_link; ticket = v.next_ticket; incarnation = v.incarnation }
 
--- so many permits, links, tickets and incarnations were made, at most
-record LinksGrow (permit link ticket incarnation : ℕ) (old new : PoolView) : Type 0 where
-  permits : permit + old.next_permit ≤ new.next_permit
-  links : link + old.next_link ≤ new.next_link
-  tickets : ticket + old.next_ticket ≤ new.next_ticket
-  incarnations : incarnation + old.incarnation ≤ new.incarnation
-
--- besides so many passes, and what the settings fix stays
+-- so many passes, permits, links, tickets and incarnations were made, at most, and what the settings fix stays
 pub record Grows (pass permit link ticket incarnation : ℕ) (old new : NodeView) : Type 0 where
   pub fixed : fixed_of new ≡ fixed_of old
   pub passes : pass + old.next_pass ≤ new.next_pass
@@ -81,42 +74,28 @@ without v slot = left_out (slice_get v.claims slot) v slot
 within : (v : PoolView) (slot database : ℕ) → numbers (queued v slot database) ≡ numbers v
 within v slot database = put_in (slice_get v.claims slot) v slot database
 
--- nothing was made
-none_made : (old new : PoolView) → numbers new ≡ numbers old → LinksGrow 0 0 0 0 old new
-none_made old new e = record {
-  permits = let n = ap (λ (x : Numbers). x.permit) e in omega (arith, n);
-  links = let n = ap (λ (x : Numbers). x.link) e in omega (arith, n);
-  tickets = let n = ap (λ (x : Numbers). x.ticket) e in omega (arith, n);
-  incarnations = let n = ap (λ (x : Numbers). x.incarnation) e in omega (arith, n);
+-- the node has this pass and these numbers next
+made : {pass permit link ticket incarnation : ℕ} (old new : NodeView) (next : ℕ) (now : Numbers) → fixed_of new ≡ fixed_of old → new.next_pass ≡ next → numbers new.links ≡ now
+    → pass + old.next_pass ≤ next → permit + old.links.next_permit ≤ now.permit → link + old.links.next_link ≤ now.link → ticket + old.links.next_ticket ≤ now.ticket
+    → incarnation + old.links.incarnation ≤ now.incarnation → Grows pass permit link ticket incarnation old new
+made old new next now fixed is e a b c d f = record {
+  fixed = fixed;
+  passes = omega (arith, is, a);
+  permits = let n = ap (λ (x : Numbers). x.permit) e in omega (arith, n, b);
+  links = let n = ap (λ (x : Numbers). x.link) e in omega (arith, n, c);
+  tickets = let n = ap (λ (x : Numbers). x.ticket) e in omega (arith, n, d);
+  incarnations = let n = ap (λ (x : Numbers). x.incarnation) e in omega (arith, n, f);
 }
-
--- these numbers were given
-given : (permit link ticket incarnation : ℕ) (old now new : PoolView) → new ≡ now → permit + old.next_permit ≤ now.next_permit → link + old.next_link ≤ now.next_link
-    → ticket + old.next_ticket ≤ now.next_ticket → incarnation + old.incarnation ≤ now.incarnation → LinksGrow permit link ticket incarnation old new
-given permit link ticket incarnation old now new e a b c d = subst (LinksGrow permit link ticket incarnation old) (sym e) record { permits = a; links = b; tickets = c; incarnations = d }
 
 -- a step of the links alone
-by_links : {permit link ticket incarnation : ℕ} (old new : NodeView) → LinksGrow permit link ticket incarnation old.links new.links → new ≡ record old { links = new.links }
-    → Grows 0 permit link ticket incarnation old new
-by_links old new grow e = record {
-  fixed = ap fixed_of e;
-  passes = let n = ap (λ (v : NodeView). v.next_pass) e in omega (arith, n);
-  permits = grow.permits;
-  links = grow.links;
-  tickets = grow.tickets;
-  incarnations = grow.incarnations;
-}
+by_links : {permit link ticket incarnation : ℕ} (old new : NodeView) (now : PoolView) → new.links ≡ now → new ≡ record old { links = new.links }
+    → permit + old.links.next_permit ≤ now.next_permit → link + old.links.next_link ≤ now.next_link → ticket + old.links.next_ticket ≤ now.next_ticket
+    → incarnation + old.links.incarnation ≤ now.incarnation → Grows 0 permit link ticket incarnation old new
+by_links old new now links e a b c d = made old new old.next_pass (numbers now) (ap fixed_of e) (ap (λ (v : NodeView). v.next_pass) e) (ap numbers links) (omega arith) a b c d
 
 -- a step that makes no number
 unmoved : (old new : NodeView) → fixed_of new ≡ fixed_of old → new.next_pass ≡ old.next_pass → numbers new.links ≡ numbers old.links → Grows 0 0 0 0 0 old new
-unmoved old new fixed pass links = let grow = none_made old.links new.links links in record {
-  fixed = fixed;
-  passes = omega (arith, pass);
-  permits = grow.permits;
-  links = grow.links;
-  tickets = grow.tickets;
-  incarnations = grow.incarnations;
-}
+unmoved old new fixed pass links = made old new old.next_pass (numbers old.links) fixed pass links (omega arith) (omega arith) (omega arith) (omega arith) (omega arith)
 
 -- a step that changes nothing
 still : (old new : NodeView) → new ≡ old → Grows 0 0 0 0 0 old new
@@ -124,7 +103,7 @@ still old new e = unmoved old new (ap fixed_of e) (ap (λ (v : NodeView). v.next
 
 -- a step of the links that makes no number
 linked : (old new : NodeView) (links : PoolView) → numbers links ≡ numbers old.links → new.links ≡ links → new ≡ record old { links = new.links } → Grows 0 0 0 0 0 old new
-linked old new links same e after = by_links old new (none_made old.links new.links (ap numbers e ∙ same)) after
+linked old new links same e after = unmoved old new (ap fixed_of after) (ap (λ (v : NodeView). v.next_pass) after) (ap numbers e ∙ same)
 
 -- a cancel request that isn't sent to a server
 forwarded : (slot : ℕ) (r : Route) (to : ℕ) (packet : List ℕ) (old new : NodeView) → Orders slot r (order.Forward to packet) old new → Grows 0 0 0 0 0 old new
@@ -144,18 +123,12 @@ served : (slot : ℕ) (r : Route) (ticket : TicketRecord) (database : ℕ) (key 
 served slot (route_to.Forward peer link) ticket database key old new o = absurd o
 served slot (route_to.Refused reason) ticket database key old new o = absurd o
 served slot (route_to.Send link) ticket database key old new o =
-    by_links old new (given 0 0 1 0 old.links _ new.links o.1.0.after (omega arith) (omega arith) (omega arith) (omega arith)) o.1.1
+    by_links old new _ o.1.0.after o.1.1 (omega arith) (omega arith) (omega arith) (omega arith)
 
 -- what a step makes
 pub step_grows : (old : NodeView) (call : Exchange) (new : NodeView) → NodeStep old call new → Grows (one (index_of Joined) call) (one (index_of AcquireOpen) call) (one (index_of WentUp) call) (one (index_of Served) call) (one (index_of Restarted) call) old new
-step_grows old (Join database secret (Ok pass)) new step = let e = step.after in record {
-  fixed = ap fixed_of e;
-  passes = let n = ap (λ (v : NodeView). v.next_pass) e in omega (arith, n);
-  permits = let n = ap (λ (v : NodeView). v.links.next_permit) e in omega (arith, n);
-  links = let n = ap (λ (v : NodeView). v.links.next_link) e in omega (arith, n);
-  tickets = let n = ap (λ (v : NodeView). v.links.next_ticket) e in omega (arith, n);
-  incarnations = let n = ap (λ (v : NodeView). v.links.incarnation) e in omega (arith, n);
-}
+step_grows old (Join database secret (Ok pass)) new step = let e = step.after in
+    made old new _ _ (ap fixed_of e) (ap (λ (v : NodeView). v.next_pass) e) (ap (λ (v : NodeView). numbers v.links) e) (omega arith) (omega arith) (omega arith) (omega arith) (omega arith)
 step_grows old (Join database secret (Err join.Full)) new step = still old new step.1
 step_grows old (Join database secret (Err join.Exhausted)) new step = still old new step.2
 step_grows old (Leave pass leave.Left) new step = let e = step.1.after in unmoved old new (ap fixed_of e) (ap (λ (v : NodeView). v.next_pass) e) (ap (λ (v : NodeView). numbers v.links) e ∙ without old.links pass.key.slot)
@@ -168,12 +141,12 @@ step_grows old (Acquire pass (acquire.Open permit)) new step =
     let link = ap (λ (x : Numbers). x.link) u in
     let ticket = ap (λ (x : Numbers). x.ticket) u in
     let incarnation = ap (λ (x : Numbers). x.incarnation) u in
-    by_links old new (given 1 0 0 0 old.links _ new.links step.step.0.2.after (omega arith) (omega (arith, link)) (omega (arith, ticket)) (omega (arith, incarnation))) step.step.1
+    by_links old new _ step.step.0.2.after step.step.1 (omega arith) (omega (arith, link)) (omega (arith, ticket)) (omega (arith, incarnation))
 step_grows old (Acquire pass acquire.Waiting) new step = linked old new _ (within old.links pass.key.slot step.client.database) step.step.0.2 step.step.1
 step_grows old (Acquire pass acquire.Holding) new step = linked old new _ refl step.step.0.1 step.step.1
 step_grows old (Acquire pass acquire.Exhausted) new step = linked old new _ refl step.step.0.4 step.step.1
 step_grows old (Acquire pass acquire.Stale) new step = still old new step.1
-step_grows old (Up permit key (up.Up lease)) new step = by_links old new (given 0 1 0 0 old.links _ new.links step.0.after (omega arith) (omega arith) (omega arith) (omega arith)) step.1
+step_grows old (Up permit key (up.Up lease)) new step = by_links old new _ step.0.after step.1 (omega arith) (omega arith) (omega arith) (omega arith)
 step_grows old (Up permit key (up.Exhausted again stream)) new step = linked old new _ refl step.0.3 step.1
 step_grows old (Up permit key (up.Stale stream)) new step = linked old new _ refl step.0.1 step.1
 step_grows old (Up permit key (up.AtEnd stream)) new step = absurd step.0
@@ -204,12 +177,6 @@ step_grows old (Failed ticket failed.Condemned) new step = linked old new _ refl
 step_grows old (Failed ticket (failed.Closed stream)) new step = linked old new _ refl step.0.3 step.1
 step_grows old (Failed ticket failed.Stale) new step = linked old new _ refl step.0.1 step.1
 step_grows old (Failed ticket failed.Exhausted) new step = absurd step.0
-step_grows old (Restart restart.Restarted) new step = let e = step.after in let grow = given 0 0 0 1 old.links _ new.links step.links.0 (omega arith) (omega arith) (omega arith) (omega arith) in record {
-  fixed = ap fixed_of e;
-  passes = let n = ap (λ (v : NodeView). v.next_pass) e in omega (arith, n);
-  permits = grow.permits;
-  links = grow.links;
-  tickets = grow.tickets;
-  incarnations = grow.incarnations;
-}
+step_grows old (Restart restart.Restarted) new step = let e = step.after in
+    made old new _ _ (ap fixed_of e) (ap (λ (v : NodeView). v.next_pass) e) (ap numbers step.links.0) (omega arith) (omega arith) (omega arith) (omega arith) (omega arith)
 step_grows old (Restart restart.Exhausted) new step = still old new step.1

@@ -8,7 +8,7 @@ use Rattle.std.specs.Prelude.{sum_by}
 use Rattle.node_core.specs.declared.exchange.Exchange.{Exchange}
 use Rattle.locked_node.specs.declared.tally.Row.{Row}
 use Rattle.locked_node.specs.CallNumbers.{kind_of, index_of, numbers_of}
-use Rattle.locked_node.specs.Totals.{Counts, AddsUp, IsEmpty, SameSum, SumsUp}
+use Rattle.locked_node.specs.Totals.{Counts, AddsUp, IsEmpty, SameSum, SumsUp, with_number, with_numbers}
 use Rattle.locked_node.proofs.Sums.{same_reduced, same_equal}
 
 -- a row that counts nothing
@@ -39,6 +39,41 @@ summed_all n old numbers now long s p = ⊎_elim
     (λ (h : p < n). s.below p h)
     (λ (h : n ≤ p). let a = s.above p h in let z = get_or_past numbers p 0 (omega (arith, long)) in same_equal _ _ (omega (arith, a, z)))
     (cases_lt p n)
+
+-- the sums before the position of a row's first number stay
+with_before : (row : Row) (at : ℕ) (numbers : List ℕ) (p : ℕ) → p < at → get_or (with_numbers row at numbers).sums p 0 ≡ get_or row.sums p 0
+unfolding with_number
+with_before row at [] p h = refl
+with_before row at (n ∷ numbers) p h =
+    with_before (with_number row at n) (at + 1) numbers p (omega arith)
+    ∙ get_or-set_other row.sums at p _ 0 (λ (e : p ≡ at). absurd (omega (arith, e, h)))
+
+-- from there on each number is added
+with_from : (row : Row) (at : ℕ) (numbers : List ℕ) → at + length numbers ≤ length row.sums
+    → (k : ℕ) → SameSum (get_or (with_numbers row at numbers).sums (at + k) 0) (get_or row.sums (at + k) 0 + get_or numbers k 0)
+unfolding with_number
+with_from row at [] long k = same_equal _ _ (omega arith)
+with_from row at (n ∷ numbers) long zero =
+    let z : at + 0 ≡ at = omega arith in
+    subst (λ (p : ℕ). SameSum (get_or (with_numbers row at (n ∷ numbers)).sums p 0) (get_or row.sums p 0 + n)) (sym z)
+    (same_reduced _ _ (with_before (with_number row at n) (at + 1) numbers at (omega arith) ∙ get_or-set_same row.sums at _ 0 (omega (arith, long))))
+with_from row at (n ∷ numbers) long (suc k) =
+    let next : at + suc k ≡ (at + 1) + k = omega arith in
+    let longer : (at + 1) + length numbers ≤ length (with_number row at n).sums = let l = length-set row.sums at ((get_or row.sums at 0 + n) % 2 ^ 128) in omega (arith, l, long) in
+    let rest = with_from (with_number row at n) (at + 1) numbers longer k in
+    subst (λ (p : ℕ). SameSum (get_or (with_numbers row at (n ∷ numbers)).sums p 0) (get_or row.sums p 0 + get_or numbers k 0)) (sym next)
+    (rest ∙ same_equal _ _ (ap (λ (m : ℕ). m + get_or numbers k 0) (get_or-set_other row.sums at ((at + 1) + k) _ 0 (λ (e : (at + 1) + k ≡ at). absurd (omega (arith, e))))))
+
+pub with_calls : (row : Row) (at : ℕ) (numbers : List ℕ) → (with_numbers row at numbers).calls ≡ row.calls
+unfolding with_number
+with_calls row at [] = refl
+with_calls row at (n ∷ numbers) = with_calls (with_number row at n) (at + 1) numbers
+
+pub with_sums : (row : Row) (numbers : List ℕ) → length numbers ≤ length row.sums → SumsUp row.sums numbers (with_numbers row 0 numbers).sums
+with_sums row numbers long p =
+    let z : 0 + p ≡ p = omega arith in
+    subst (λ (q : ℕ). SameSum (get_or (with_numbers row 0 numbers).sums q 0) (get_or row.sums q 0 + get_or numbers p 0)) z
+    (with_from row 0 numbers (omega (arith, long)) p)
 
 -- a row of no call
 abbrev pub nothing : ℕ → Row

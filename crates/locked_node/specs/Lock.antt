@@ -125,6 +125,7 @@ no_journal = record {
       peer = 0;
       incarnation = 0;
       pools = [];
+      queues = [];
       claims = [];
       next_link = 0;
       next_permit = 0;

@@ -1,5 +1,5 @@
 -- Calls counted by their kind, with the sums of their numbers (own).
-use Rattle.std.specs.Prelude.{ℕ, ◌≡◌, ◌+◌, ◌%◌, ◌^◌, ◌==◌, Bool, List, [], slice_index, slice_index_or, if◌then◌else◌, count_by, sum_by}
+use Rattle.std.specs.Prelude.{ℕ, ◌≡◌, ◌+◌, ◌%◌, ◌^◌, ◌==◌, Bool, List, [], ◌∷◌, slice_index, slice_index_or, slice_set, if◌then◌else◌, count_by, sum_by}
 use Rattle.node_core.specs.declared.exchange.Exchange.{Exchange}
 use Rattle.locked_node.specs.CallNumbers.{kind_of, index_of, numbers_of}
 use Rattle.locked_node.specs.declared.tally.Row.{Row}
@@ -46,6 +46,18 @@ abbrev pub SumsUp : List ℕ → List ℕ → List ℕ → Type 0
 SumsUp old numbers new =
     (position : ℕ)
     → SameSum (slice_index new position) (slice_index old position + slice_index numbers position)
+
+-- a row with one more number in the sum at a position
+unfoldable pub with_number : Row → ℕ → ℕ → Row
+with_number row position number = record row {
+  sums = slice_set row.sums position ((slice_index row.sums position + number) % 2 ^ 128);
+}
+
+-- and with more numbers, from a position on
+abbrev pub with_numbers : Row → ℕ → List ℕ → Row
+with_numbers row position [] = row
+with_numbers row position (number ∷ numbers) =
+    with_numbers (with_number row position number) (position + 1) numbers
 
 -- a tally of no call
 pub record IsEmpty (tally : Tally) : Type 0 where

@@ -1,21 +1,28 @@
 //! The kinds of a call with its answer.
-ghost use Rattle.std.specs.Prelude.{◌≡◌, ◌<◌, ℕ, List};
-ghost use Rattle.lease.specs.declared.pass.PassRecord.{PassRecord as PassOf};
-ghost use Rattle.lease.specs.declared.permit.PermitRecord.{PermitRecord as PermitOf};
-ghost use Rattle.lease.specs.declared.link_record.LinkRecord.{LinkRecord as LinkOf};
-ghost use Rattle.lease.specs.declared.ticket.TicketRecord.{TicketRecord as TicketOf};
-ghost use Rattle.node_core.specs.declared.exchange.Exchange.{Exchange};
-ghost use Rattle.locked_node.specs.CallNumbers.{KINDS, kind_of, index_of};
 
 use cancel_router::RouteRefusal;
 use node_core::{
     AcquireReply, CancelRefusal, CloseReply, EndedReply, Exchange, FailedReply, JoinRefusal,
-    LeaveReply, LinkRecord, Order, PermitRecord, ReleaseReply, RestartReply, TicketRecord,
-    UpFailedReply, UpReply,
+    LeaveReply, Order, ReleaseReply, RestartReply, UpFailedReply, UpReply,
 };
 
 /// How many kinds there are.
 pub const KINDS: usize = 46;
+
+// How many numbers a call of each kind has, by the kind's place.
+const WIDTHS: [usize; KINDS] = [
+    6, 2, 2, // Join
+    4, 8, 4, 4, // Leave
+    9, 9, 4, 4, 4, 4, // Acquire
+    11, 11, 6, 6, // Up
+    5, 5, 5, // UpFailed
+    5, 5, 5, 5, 5, // Release
+    5, 5, 5, // Close
+    9, 3, 1, 1, 1, 1, 1, 1, // Cancel
+    6, 6, 6, 6, // Ended
+    6, 6, 6, 6, // Failed
+    0, 0, // Restart
+];
 
 /// The kind of a call: its step with the answer's name.
 #[derive(Clone, Copy, Debug, PartialEq, Eq, Hash)]
@@ -115,126 +122,66 @@ pub enum CallKind {
 }
 
 impl CallKind {
+    ghost use Rattle.std.specs.Prelude.{◌≡◌, ◌<◌, ◌≤◌, length};
+    ghost use Rattle.node_core.specs.declared.exchange.Exchange.{Exchange};
+    ghost use Rattle.locked_node.specs.CallNumbers.{KINDS, WIDEST, kind_of, index_of, numbers_of};
+
     /// The kind of a call.
     pub fn of(call: &Exchange) -> CallKind
         ensures { result ≡ kind_of call.now }
     {
         match call {
-            Exchange::Join(_, _, reply) => match reply {
-                Ok(_) => CallKind::Joined,
-                Err(JoinRefusal::Full) => CallKind::JoinFull,
-                Err(JoinRefusal::Exhausted) => CallKind::JoinExhausted,
-            },
-            Exchange::Leave(_, reply) => match reply {
-                LeaveReply::Left => CallKind::Left,
-                LeaveReply::Holding(_) => CallKind::LeaveHolding,
-                LeaveReply::Stale => CallKind::LeaveStale,
-                LeaveReply::Exhausted => CallKind::LeaveExhausted,
-            },
-            Exchange::Acquire(_, reply) => CallKind::of_acquire(reply),
-            Exchange::Up(_, _, reply) => CallKind::of_up(reply),
-            Exchange::UpFailed(_, reply) => CallKind::of_up_failed(reply),
-            Exchange::Release(_, reply) => CallKind::of_release(reply),
-            Exchange::Close(_, reply) => CallKind::of_close(reply),
-            Exchange::Cancel(_, order) => CallKind::of_cancel(order),
-            Exchange::Ended(_, reply) => CallKind::of_ended(reply),
-            Exchange::Failed(_, reply) => CallKind::of_failed(reply),
+            Exchange::Join(_, _, Ok(_)) => CallKind::Joined,
+            Exchange::Join(_, _, Err(JoinRefusal::Full)) => CallKind::JoinFull,
+            Exchange::Join(_, _, Err(JoinRefusal::Exhausted)) => CallKind::JoinExhausted,
+            Exchange::Leave(_, LeaveReply::Left) => CallKind::Left,
+            Exchange::Leave(_, LeaveReply::Holding(_)) => CallKind::LeaveHolding,
+            Exchange::Leave(_, LeaveReply::Stale) => CallKind::LeaveStale,
+            Exchange::Leave(_, LeaveReply::Exhausted) => CallKind::LeaveExhausted,
+            Exchange::Acquire(_, AcquireReply::Got(_)) => CallKind::AcquireGot,
+            Exchange::Acquire(_, AcquireReply::Open(_)) => CallKind::AcquireOpen,
+            Exchange::Acquire(_, AcquireReply::Waiting) => CallKind::AcquireWaiting,
+            Exchange::Acquire(_, AcquireReply::Holding) => CallKind::AcquireHolding,
+            Exchange::Acquire(_, AcquireReply::Stale) => CallKind::AcquireStale,
+            Exchange::Acquire(_, AcquireReply::Exhausted) => CallKind::AcquireExhausted,
+            Exchange::Up(_, _, UpReply::Up(_)) => CallKind::WentUp,
+            Exchange::Up(_, _, UpReply::Exhausted(_, ())) => CallKind::UpExhausted,
+            Exchange::Up(_, _, UpReply::Stale(())) => CallKind::UpStale,
+            Exchange::Up(_, _, UpReply::AtEnd(())) => CallKind::UpAtEnd,
+            Exchange::UpFailed(_, UpFailedReply::Freed) => CallKind::UpFailedFreed,
+            Exchange::UpFailed(_, UpFailedReply::Stale) => CallKind::UpFailedStale,
+            Exchange::UpFailed(_, UpFailedReply::Exhausted) => CallKind::UpFailedExhausted,
+            Exchange::Release(_, ReleaseReply::Idle) => CallKind::ReleasedIdle,
+            Exchange::Release(_, ReleaseReply::Quarantined) => CallKind::ReleasedQuarantined,
+            Exchange::Release(_, ReleaseReply::Closed(())) => CallKind::ReleasedClosed,
+            Exchange::Release(_, ReleaseReply::Stale(())) => CallKind::ReleaseStale,
+            Exchange::Release(_, ReleaseReply::Exhausted(())) => CallKind::ReleaseExhausted,
+            Exchange::Close(_, CloseReply::Closed(())) => CallKind::Closed,
+            Exchange::Close(_, CloseReply::Stale(())) => CallKind::CloseStale,
+            Exchange::Close(_, CloseReply::Exhausted(())) => CallKind::CloseExhausted,
+            Exchange::Cancel(_, Order::Serve(_, _, _)) => CallKind::Served,
+            Exchange::Cancel(_, Order::Forward(_, _)) => CallKind::Forwarded,
+            Exchange::Cancel(_, Order::Refused(CancelRefusal::Route(RouteRefusal::Spent))) =>
+                CallKind::CancelSpent,
+            Exchange::Cancel(_, Order::Refused(CancelRefusal::Route(RouteRefusal::Unknown))) =>
+                CallKind::CancelUnknown,
+            Exchange::Cancel(_, Order::Refused(CancelRefusal::Route(RouteRefusal::NoPeer))) =>
+                CallKind::CancelNoPeer,
+            Exchange::Cancel(_, Order::Refused(CancelRefusal::Route(RouteRefusal::NoLink))) =>
+                CallKind::CancelNoLink,
+            Exchange::Cancel(_, Order::Refused(CancelRefusal::Busy)) => CallKind::CancelBusy,
+            Exchange::Cancel(_, Order::Refused(CancelRefusal::Exhausted)) =>
+                CallKind::CancelExhausted,
+            Exchange::Ended(_, EndedReply::Freed) => CallKind::EndedFreed,
+            Exchange::Ended(_, EndedReply::Counted) => CallKind::EndedCounted,
+            Exchange::Ended(_, EndedReply::Stale) => CallKind::EndedStale,
+            Exchange::Ended(_, EndedReply::Exhausted) => CallKind::EndedExhausted,
+            Exchange::Failed(_, FailedReply::Condemned) => CallKind::FailedCondemned,
+            Exchange::Failed(_, FailedReply::Closed(())) => CallKind::FailedClosed,
+            Exchange::Failed(_, FailedReply::Stale) => CallKind::FailedStale,
+            Exchange::Failed(_, FailedReply::Exhausted) => CallKind::FailedExhausted,
             Exchange::Restart(RestartReply::Restarted) => CallKind::Restarted,
             Exchange::Restart(RestartReply::Exhausted) => CallKind::RestartExhausted,
-        }
-    }
-
-    fn of_acquire(reply: &AcquireReply<LinkRecord, PermitRecord>) -> CallKind
-        ensures { (pass : PassOf) → result ≡ kind_of (Exchange.Acquire pass reply.now) }
-    {
-        match reply {
-            AcquireReply::Got(_) => CallKind::AcquireGot,
-            AcquireReply::Open(_) => CallKind::AcquireOpen,
-            AcquireReply::Waiting => CallKind::AcquireWaiting,
-            AcquireReply::Holding => CallKind::AcquireHolding,
-            AcquireReply::Stale => CallKind::AcquireStale,
-            AcquireReply::Exhausted => CallKind::AcquireExhausted,
-        }
-    }
-
-    fn of_up(reply: &UpReply<LinkRecord, PermitRecord, ()>) -> CallKind
-        ensures { (permit : PermitOf) (key : List ℕ)
-            → result ≡ kind_of (Exchange.Up permit key reply.now) }
-    {
-        match reply {
-            UpReply::Up(_) => CallKind::WentUp,
-            UpReply::Exhausted(_, ()) => CallKind::UpExhausted,
-            UpReply::Stale(()) => CallKind::UpStale,
-            UpReply::AtEnd(()) => CallKind::UpAtEnd,
-        }
-    }
-
-    fn of_release(reply: &ReleaseReply<()>) -> CallKind
-        ensures { (lease : LinkOf) → result ≡ kind_of (Exchange.Release lease reply.now) }
-    {
-        match reply {
-            ReleaseReply::Idle => CallKind::ReleasedIdle,
-            ReleaseReply::Quarantined => CallKind::ReleasedQuarantined,
-            ReleaseReply::Closed(()) => CallKind::ReleasedClosed,
-            ReleaseReply::Stale(()) => CallKind::ReleaseStale,
-            ReleaseReply::Exhausted(()) => CallKind::ReleaseExhausted,
-        }
-    }
-
-    fn of_close(reply: &CloseReply<()>) -> CallKind
-        ensures { (lease : LinkOf) → result ≡ kind_of (Exchange.Close lease reply.now) }
-    {
-        match reply {
-            CloseReply::Closed(()) => CallKind::Closed,
-            CloseReply::Stale(()) => CallKind::CloseStale,
-            CloseReply::Exhausted(()) => CallKind::CloseExhausted,
-        }
-    }
-
-    fn of_cancel(order: &Order<TicketRecord>) -> CallKind
-        ensures { (key : List ℕ) → result ≡ kind_of (Exchange.Cancel key order.now) }
-    {
-        match order {
-            Order::Serve(_, _, _) => CallKind::Served,
-            Order::Forward(_, _) => CallKind::Forwarded,
-            Order::Refused(CancelRefusal::Route(RouteRefusal::Spent)) => CallKind::CancelSpent,
-            Order::Refused(CancelRefusal::Route(RouteRefusal::Unknown)) => CallKind::CancelUnknown,
-            Order::Refused(CancelRefusal::Route(RouteRefusal::NoPeer)) => CallKind::CancelNoPeer,
-            Order::Refused(CancelRefusal::Route(RouteRefusal::NoLink)) => CallKind::CancelNoLink,
-            Order::Refused(CancelRefusal::Busy) => CallKind::CancelBusy,
-            Order::Refused(CancelRefusal::Exhausted) => CallKind::CancelExhausted,
-        }
-    }
-
-    fn of_ended(reply: &EndedReply) -> CallKind
-        ensures { (ticket : TicketOf) → result ≡ kind_of (Exchange.Ended ticket reply.now) }
-    {
-        match reply {
-            EndedReply::Freed => CallKind::EndedFreed,
-            EndedReply::Counted => CallKind::EndedCounted,
-            EndedReply::Stale => CallKind::EndedStale,
-            EndedReply::Exhausted => CallKind::EndedExhausted,
-        }
-    }
-
-    fn of_failed(reply: &FailedReply<()>) -> CallKind
-        ensures { (ticket : TicketOf) → result ≡ kind_of (Exchange.Failed ticket reply.now) }
-    {
-        match reply {
-            FailedReply::Condemned => CallKind::FailedCondemned,
-            FailedReply::Closed(()) => CallKind::FailedClosed,
-            FailedReply::Stale => CallKind::FailedStale,
-            FailedReply::Exhausted => CallKind::FailedExhausted,
-        }
-    }
-
-    fn of_up_failed(reply: &UpFailedReply) -> CallKind
-        ensures { (permit : PermitOf) → result ≡ kind_of (Exchange.UpFailed permit reply.now) }
-    {
-        match reply {
-            UpFailedReply::Freed => CallKind::UpFailedFreed,
-            UpFailedReply::Stale => CallKind::UpFailedStale,
-            UpFailedReply::Exhausted => CallKind::UpFailedExhausted,
         }
     }
 
@@ -244,5 +191,14 @@ impl CallKind {
         ensures within { result < KINDS }
     {
         self as usize
+    }
+
+    /// How many numbers a call of this kind has: the kind fixes it.
+    pub fn numbers(self) -> usize
+        ensures fixed { (call : Exchange) → kind_of call ≡ self
+            → length (numbers_of call) ≡ result }
+        ensures within { result ≤ WIDEST }
+    {
+        WIDTHS[self.index()]
     }
 }

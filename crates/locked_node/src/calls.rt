@@ -18,7 +18,7 @@ ghost use Rattle.node_core.specs.declared.exchange.Order.TheVariants as order;
 ghost use Rattle.node_core.specs.declared.refusal.JoinRefusal.TheVariants as join;
 ghost use Rattle.node_core.specs.declared.refusal.CancelRefusal.TheVariants as cancel;
 
-use crate::call::{Call, NO_ENTRY};
+use crate::call::Call;
 use crate::caller::Caller;
 use crate::shared::Shared;
 use crate::steps::{
@@ -38,19 +38,19 @@ impl<S: Drop> Shared<S> {
     fn call<R: Wait, C: Call<S>>(&self, rt: &R, caller: &mut Caller<S>, call: C) -> C::Reply
         requires own { caller.old.lock ≡ self.now }
         requires can { C.can_make caller.old.start.view.pools call }
-        ensures counted { Counted (C.exchange call result) result (C.at_end call)
+        ensures counted { Counted (C.exchange (C.handed call) result) result (C.at_end call)
             caller.old caller.new }
         ensures streams { Somewhere (C.streams call result) }
     {
         if caller.allowance == 0 {
             return call.forfeit();
         }
-        let mut entry = NO_ENTRY;
+        let details = call.details();
         self.take(rt, &mut caller.seat);
-        let reply = self.make(&mut caller.seat, call, &mut entry);
+        let reply = self.make(&mut caller.seat, call, &details);
         self.give(&mut caller.seat);
         caller.allowance -= 1;
-        caller.tally.count(&entry);
+        caller.tally.count(&C::record(&details, &reply));
         reply
     }
 

@@ -2,10 +2,10 @@
 ghost use Rattle.std.specs.Prelude.{◌≡◌, ◌+◌, ◌^◌, ◌<◌, ◌≤◌, [], length, IfOk};
 ghost use Rattle.node_core.specs.View.{NodeView, IsView};
 
-use crate::call::{Call, NO_ENTRY};
+use crate::call::Call;
 use crate::log::{Entry, Log};
 use crate::tally::Tally;
-use node_core::{Exchange, NodeCore};
+use node_core::NodeCore;
 use std::alloc::{AllocError, Global};
 use std::collections::vec_deque::Iter;
 use std::marker::Model;
@@ -100,19 +100,19 @@ impl<S: Drop> Journal<S> {
         self.log.trimmed()
     }
 
-    // Makes a call of any step where one is left, and keeps it with its reply. What it keeps is
-    // written for the caller too, in its place, so that it isn't copied from layer to layer.
-    pub(crate) fn make<C: Call<S>>(&mut self, call: C, entry: &mut Exchange) -> C::Reply
+    // Makes a call of any step, which hands this in, where one is left, and keeps it with its
+    // reply.
+    pub(crate) fn make<C: Call<S>>(&mut self, call: C, details: &C::Details) -> C::Reply
+        requires details { C.handed call ≡ details.now }
         requires room { log_all self.old.log < CALL_LIMIT }
         requires can { C.can_make self.old.view.pools call }
-        ensures step { JournalStep (journal_view self.old) (C.exchange call result)
+        ensures step { JournalStep (journal_view self.old) (C.exchange (C.handed call) result)
             (journal_view self.new) }
-        ensures entry { entry.new ≡ C.exchange call result }
         ensures streams { C.streams call result self.old.stored self.new.stored }
     {
         self.core.incarnation();
-        let reply = call.make(&mut self.core, entry);
-        self.log.append(entry);
+        let reply = call.make(&mut self.core);
+        self.log.append(C::record(details, &reply));
         reply
     }
 
@@ -120,14 +120,14 @@ impl<S: Drop> Journal<S> {
     /// spent.
     pub fn call<C: Call<S>>(&mut self, call: C) -> C::Reply
         requires { C.can_make self.old.view.pools call }
-        ensures made { Journaled (C.exchange call result) result (C.at_end call)
+        ensures made { Journaled (C.exchange (C.handed call) result) result (C.at_end call)
             (journal_view self.old) (journal_view self.new) }
         ensures streams { C.streams call result self.old.stored self.new.stored }
     {
         if self.log.is_full() {
             return call.forfeit();
         }
-        let mut entry = NO_ENTRY;
-        self.make(call, &mut entry)
+        let details = call.details();
+        self.make(call, &details)
     }
 }

@@ -9,7 +9,6 @@ mod journal;
 mod locked;
 mod log;
 mod numbers;
-mod reply_records;
 mod rule;
 mod shared;
 mod steps;

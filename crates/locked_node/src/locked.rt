@@ -1,7 +1,6 @@
 //! A journal as it lies in the lock's table.
 use crate::call::Call;
 use crate::journal::Journal;
-use node_core::Exchange;
 use std::marker::Model;
 
 /// A journal without what its model says of streams: the lock's rule doesn't speak of them.
@@ -23,14 +22,14 @@ impl<S: Drop> Locked<S> {
     ghost use Rattle.locked_node.specs.Journal.{JournalStep, log_all, CALL_LIMIT};
     ghost use Rattle.locked_node.specs.Lock.{Somewhere};
 
-    /// Makes a call of any step where one is left, and writes what the journal keeps of it.
-    pub(crate) fn make<C: Call<S>>(&mut self, call: C, entry: &mut Exchange) -> C::Reply
+    /// Makes a call of any step, which hands this in, where one is left.
+    pub(crate) fn make<C: Call<S>>(&mut self, call: C, details: &C::Details) -> C::Reply
+        requires details { C.handed call ≡ details.now }
         requires room { log_all self.old.log < CALL_LIMIT }
         requires can { C.can_make self.old.view.pools call }
-        ensures step { JournalStep self.old (C.exchange call result) self.new }
-        ensures entry { entry.new ≡ C.exchange call result }
+        ensures step { JournalStep self.old (C.exchange (C.handed call) result) self.new }
         ensures streams { Somewhere (C.streams call result) }
     {
-        self.journal.make(call, entry)
+        self.journal.make(call, details)
     }
 }

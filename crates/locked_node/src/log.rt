@@ -117,14 +117,14 @@ impl Log {
     }
 
     /// Puts a call behind the tail. The oldest one leaves it where it is full.
-    pub(crate) fn append(&mut self, call: &Exchange)
+    pub(crate) fn append(&mut self, call: Exchange)
         requires { log_all self.old < CALL_LIMIT }
-        ensures { Appends self.old call.now self.new }
+        ensures { Appends self.old call self.new }
     {
         if self.tail.len() == TAIL {
             self.trim();
         }
-        self.tail.push_back_reserved(Entry { call: *call });
+        self.tail.push_back_reserved(Entry { call });
         self.calls += 1;
     }
 

@@ -1,202 +1,191 @@
-//! The numbers in a call with its answer.
-ghost use Rattle.std.specs.Prelude.{◌≡◌, ◌+◌, ◌≤◌, ◌<◌, [], ◌∷◌, ◌++◌, length};
+//! The numbers in a call with its answer, as they are added to the sums of its kind.
+ghost use Rattle.std.specs.Prelude.{◌≡◌, ◌+◌, ◌≤◌, ◌<◌};
 ghost use Rattle.locked_node.specs.CallNumbers as call;
 ghost use Rattle.locked_node.specs.CallNumbers.{WIDEST, numbers_of};
+ghost use Rattle.locked_node.specs.Totals.{with_number, with_numbers};
 ghost use Rattle.node_core.specs.declared.exchange.Exchange.{Exchange};
-ghost use Rattle.pg_ids.specs.Key.{key_bytes};
 
+use crate::tally::Row;
 use byteorder::{BigEndian, ByteOrder};
 use node_core::{
     AcquireReply, Exchange, LeaveReply, LinkPlace, LinkRecord, Order, PassRecord, PermitRecord,
     TicketRecord, UpReply,
 };
-use std::marker::Model;
 
 /// How many numbers a call has at most.
 pub const WIDEST: usize = 11;
 
-// Up to eleven numbers, in their order.
-#[derive(Drop)]
-pub(crate) struct Numbers {
-    items: [u64; WIDEST],
-    count: usize,
-}
-
-impl Model for Numbers {
-    ghost use Rattle.std.specs.Prelude.{ℕ, List, ◌≤◌, take};
-    ghost use Rattle.locked_node.specs.CallNumbers.{WIDEST};
-
-    ghost Value = { List ℕ };
-
-    ghost view = { λ n. take n.count n.items };
-
-    ghost invariant = { λ n. n.count ≤ WIDEST };
-}
-
-impl Numbers {
-    /// No number.
-    pub(crate) const fn new() -> Numbers
-        ensures { result ≡ [] }
-    {
-        Numbers {
-            items: [0; WIDEST],
-            count: 0,
-        }
-    }
-
-    /// The numbers of a call. They are written in place, since a copy of what was just written is
-    /// slow to read.
-    pub(crate) fn read(&mut self, call: &Exchange)
-        requires { self.old ≡ [] }
-        ensures { self.new ≡ numbers_of call.now }
+// Each adds to the sums from a position on, and returns the position behind.
+impl Row {
+    /// The numbers of a call, straight from it: an array in between would be slow to read.
+    pub(crate) fn add(&mut self, call: &Exchange)
+        ensures { self.new ≡ with_numbers self.old 0 (numbers_of call.now) }
     {
         match call {
-            Exchange::Join(database, secret, reply) => {
-                if let Ok(pass) = reply {
-                    self.pass(pass);
-                }
-                self.push(u64::from(database.get()));
-                self.push(u64::from(secret.get()));
-                if let Ok(pass) = reply {
-                    self.key(&pass.key.to_bytes());
-                }
+            Exchange::Join(database, secret, Ok(pass)) => {
+                let at = self.pass(0, pass);
+                let at = self.number(at, u64::from(database.get()));
+                let at = self.number(at, u64::from(secret.get()));
+                self.key(at, &pass.key.to_bytes());
+            }
+            Exchange::Join(database, secret, Err(_)) => {
+                let at = self.number(0, u64::from(database.get()));
+                self.number(at, u64::from(secret.get()));
             }
             Exchange::Leave(pass, reply) => {
-                self.pass(pass);
+                let at = self.pass(0, pass);
                 if let LeaveReply::Holding(again) = reply {
-                    self.pass(again);
-                }
-                self.key(&pass.key.to_bytes());
-                if let LeaveReply::Holding(again) = reply {
-                    self.key(&again.key.to_bytes());
+                    let at = self.pass(at, again);
+                    let at = self.key(at, &pass.key.to_bytes());
+                    self.key(at, &again.key.to_bytes());
+                } else {
+                    self.key(at, &pass.key.to_bytes());
                 }
             }
             Exchange::Acquire(pass, reply) => {
-                self.pass(pass);
-                match reply {
-                    AcquireReply::Got(lease) => self.link(lease),
-                    AcquireReply::Open(permit) => self.permit(permit),
-                    _ => {}
-                }
-                self.key(&pass.key.to_bytes());
+                let at = self.pass(0, pass);
+                let at = match reply {
+                    AcquireReply::Got(lease) => self.link(at, lease),
+                    AcquireReply::Open(permit) => self.permit(at, permit),
+                    _ => at,
+                };
+                self.key(at, &pass.key.to_bytes());
             }
-            Exchange::Up(permit, key, reply) => {
-                self.permit(permit);
-                match reply {
-                    UpReply::Up(lease) => self.link(lease),
-                    UpReply::Exhausted(again, ()) => self.permit(again),
-                    _ => {}
-                }
-                self.key(&key.to_bytes());
+            Exchange::Up(permit, key, reply) => self.up(permit, &key.to_bytes(), reply),
+            Exchange::UpFailed(permit, _) => {
+                self.permit(0, permit);
             }
-            Exchange::UpFailed(permit, _) => self.permit(permit),
-            Exchange::Release(lease, _) | Exchange::Close(lease, _) => self.link(lease),
+            Exchange::Release(lease, _) | Exchange::Close(lease, _) => {
+                self.link(0, lease);
+            }
             Exchange::Cancel(key, order) => self.cancel(key, order),
-            Exchange::Ended(ticket, _) | Exchange::Failed(ticket, _) => self.ticket(ticket),
+            Exchange::Ended(ticket, _) | Exchange::Failed(ticket, _) => {
+                self.ticket(0, ticket);
+            }
             Exchange::Restart(_) => {}
         }
     }
 
-    /// The numbers, as a slice.
-    pub(crate) fn as_slice(&self) -> &[u64]
-        ensures value { result.now ≡ self.now }
-        ensures within { length result.now ≤ WIDEST }
+    #[tactic(auto, unfolding(crate::specs::Totals::with_number))]
+    fn number(&mut self, at: usize, number: u64) -> usize
+        requires { at < WIDEST }
+        ensures sums { self.new ≡ with_number self.old at number }
+        ensures next { result ≡ at + 1 }
     {
-        &self.items[..self.count]
-    }
-
-    // One more number.
-    fn push(&mut self, number: u64)
-        requires { length self.old < WIDEST }
-        ensures items { self.new ≡ self.old ++ number ∷ [] }
-        ensures count { length self.new ≡ length self.old + 1 }
-    {
-        self.items[self.count] = number;
-        self.count += 1;
+        self.sums[at] = self.sums[at].wrapping_add(u128::from(number));
+        at + 1
     }
 
     // Eight key bytes.
-    fn key(&mut self, bytes: &[u8; 8])
-        requires { length self.old < WIDEST }
-        ensures items { self.new ≡ self.old ++ call.key_number bytes.now ∷ [] }
-        ensures count { length self.new ≡ length self.old + 1 }
+    fn key(&mut self, at: usize, bytes: &[u8; 8]) -> usize
+        requires { at < WIDEST }
+        ensures sums { self.new ≡ with_number self.old at (call.key_number bytes.now) }
+        ensures next { result ≡ at + 1 }
     {
-        self.push(BigEndian::read_u64(bytes));
+        self.number(at, BigEndian::read_u64(bytes))
     }
 
     // A place of the pools.
-    fn place(&mut self, at: &LinkPlace)
-        requires { length self.old + 2 ≤ WIDEST }
-        ensures items { self.new ≡ self.old ++ call.place_numbers at.now }
-        ensures count { length self.new ≡ length self.old + 2 }
+    fn place(&mut self, at: usize, place: &LinkPlace) -> usize
+        requires { at + 2 ≤ WIDEST }
+        ensures sums { self.new ≡ with_numbers self.old at (call.place_numbers place.now) }
+        ensures next { result ≡ at + 2 }
     {
-        self.push(u64::from(at.database.get()));
-        self.push(u64::from(at.index));
+        let at = self.number(at, u64::from(place.database.get()));
+        self.number(at, u64::from(place.index))
     }
 
-    fn pass(&mut self, pass: &PassRecord)
-        requires { length self.old + 3 ≤ WIDEST }
-        ensures items { self.new ≡ self.old ++ call.pass_numbers pass.now }
-        ensures count { length self.new ≡ length self.old + 3 }
+    fn pass(&mut self, at: usize, pass: &PassRecord) -> usize
+        requires { at + 3 ≤ WIDEST }
+        ensures sums { self.new ≡ with_numbers self.old at (call.pass_numbers pass.now) }
+        ensures next { result ≡ at + 3 }
     {
-        self.push(u64::from(pass.key.peer.get()));
-        self.push(pass.incarnation);
-        self.push(pass.number);
+        let at = self.number(at, u64::from(pass.key.peer.get()));
+        let at = self.number(at, pass.incarnation);
+        self.number(at, pass.number)
     }
 
-    fn permit(&mut self, permit: &PermitRecord)
-        requires { length self.old + 5 ≤ WIDEST }
-        ensures items { self.new ≡ self.old ++ call.permit_numbers permit.now }
-        ensures count { length self.new ≡ length self.old + 5 }
+    fn permit(&mut self, at: usize, permit: &PermitRecord) -> usize
+        requires { at + 5 ≤ WIDEST }
+        ensures sums { self.new ≡ with_numbers self.old at (call.permit_numbers permit.now) }
+        ensures next { result ≡ at + 5 }
     {
-        self.push(u64::from(permit.peer.get()));
-        self.push(permit.incarnation);
-        self.push(permit.number);
-        self.place(&permit.at);
+        let at = self.number(at, u64::from(permit.peer.get()));
+        let at = self.number(at, permit.incarnation);
+        let at = self.number(at, permit.number);
+        self.place(at, &permit.at)
     }
 
-    fn link(&mut self, lease: &LinkRecord)
-        requires { length self.old + 5 ≤ WIDEST }
-        ensures items { self.new ≡ self.old ++ call.link_numbers lease.now }
-        ensures count { length self.new ≡ length self.old + 5 }
+    fn link(&mut self, at: usize, lease: &LinkRecord) -> usize
+        requires { at + 5 ≤ WIDEST }
+        ensures sums { self.new ≡ with_numbers self.old at (call.link_numbers lease.now) }
+        ensures next { result ≡ at + 5 }
     {
-        self.push(u64::from(lease.peer.get()));
-        self.push(lease.incarnation);
-        self.push(lease.link.get());
-        self.place(&lease.at);
+        let at = self.number(at, u64::from(lease.peer.get()));
+        let at = self.number(at, lease.incarnation);
+        let at = self.number(at, lease.link.get());
+        self.place(at, &lease.at)
     }
 
-    fn ticket(&mut self, ticket: &TicketRecord)
-        requires { length self.old + 6 ≤ WIDEST }
-        ensures items { self.new ≡ self.old ++ call.ticket_numbers ticket.now }
-        ensures count { length self.new ≡ length self.old + 6 }
+    fn ticket(&mut self, at: usize, ticket: &TicketRecord) -> usize
+        requires { at + 6 ≤ WIDEST }
+        ensures sums { self.new ≡ with_numbers self.old at (call.ticket_numbers ticket.now) }
+        ensures next { result ≡ at + 6 }
     {
-        self.push(u64::from(ticket.peer.get()));
-        self.push(ticket.incarnation);
-        self.push(ticket.number);
-        self.push(ticket.link.get());
-        self.place(&ticket.at);
+        let at = self.number(at, u64::from(ticket.peer.get()));
+        let at = self.number(at, ticket.incarnation);
+        let at = self.number(at, ticket.number);
+        let at = self.number(at, ticket.link.get());
+        self.place(at, &ticket.at)
+    }
+
+    // The report of an open link.
+    fn up(
+        &mut self,
+        permit: &PermitRecord,
+        key: &[u8; 8],
+        reply: &UpReply<LinkRecord, PermitRecord, ()>,
+    )
+        ensures { self.new
+            ≡ with_numbers self.old 0 (numbers_of (Exchange.Up permit.now key.now reply.now)) }
+    {
+        let at = self.permit(0, permit);
+        match reply {
+            UpReply::Up(lease) => {
+                let at = self.link(at, lease);
+                self.key(at, key);
+            }
+            UpReply::Exhausted(again, ()) => {
+                let at = self.permit(at, again);
+                self.key(at, key);
+            }
+            UpReply::Stale(()) | UpReply::AtEnd(()) => {
+                self.key(at, key);
+            }
+        }
     }
 
     // A cancel request. The key of a CancelRequest follows its length and its code, of four bytes
     // each.
     fn cancel(&mut self, key: &[u8; 8], order: &Order<TicketRecord>)
-        requires { self.old ≡ [] }
-        ensures { self.new ≡ numbers_of (Exchange.Cancel key.now order.now) }
+        ensures { self.new
+            ≡ with_numbers self.old 0 (numbers_of (Exchange.Cancel key.now order.now)) }
     {
         match order {
             Order::Serve(ticket, database, server) => {
-                self.ticket(ticket);
-                self.push(u64::from(database.get()));
-                self.key(key);
-                self.key(&server.to_bytes());
+                let at = self.ticket(0, ticket);
+                let at = self.number(at, u64::from(database.get()));
+                let at = self.key(at, key);
+                self.key(at, &server.to_bytes());
             }
             Order::Forward(peer, packet) => {
-                self.push(u64::from(peer.get()));
-                self.key(key);
-                self.push(BigEndian::read_u64(&packet[8..]));
+                let at = self.number(0, u64::from(peer.get()));
+                let at = self.key(at, key);
+                self.number(at, BigEndian::read_u64(&packet[8..]));
             }
-            Order::Refused(_) => self.key(key),
+            Order::Refused(_) => {
+                self.key(0, key);
+            }
         }
     }
 }

@@ -9,7 +9,6 @@ use crate::locked::Locked;
 use crate::log::MOST;
 use crate::rule::{Both, Give, Hand, Look, Place, Rule, Share, Take};
 use atomic_table::Table;
-use node_core::Exchange;
 use std::alloc::{AllocError, Global};
 use std::hint::spin_loop;
 use std::marker::Model;
@@ -53,7 +52,8 @@ impl<S: Drop> Shared<S> {
     ghost use Rattle.locked_node.specs.Lock.{Somewhere, IsTotalOf, IsWhole, IsAmong, IsWithin, HANDED, handing, handed, joined, stake};
 
     /// A lock with this journal, and its first caller, which has the journal's totals and may make
-    /// all calls that are left.
+    /// all calls that are left. Beside the lock's word its table has a word for each slot of the
+    /// node, for the client there to sleep on while it waits for a link.
     pub fn new(alloc: Global, journal: Journal<S>) -> Result<(Shared<S>, Caller<S>), AllocError>
         ensures lock { IfOk result (λ made. made.1.lock ≡ made.0) }
         ensures start { IfOk result (λ made. made.1.start ≡ journal_view journal) }
@@ -64,11 +64,12 @@ impl<S: Drop> Shared<S> {
     {
         let tally = journal.totals();
         let allowance = journal.calls_left();
+        let words = vec![in alloc; FREE; 1 + journal.view().slots()]?;
         let locked = Locked { journal };
         let start = Snapshot::of(&locked);
         let mut slots = Vec::with_capacity(alloc, 1)?;
         slots.push(locked)?;
-        let Ok((table, seat)) = Table::new(alloc, &[FREE], slots, &start) else {
+        let Ok((table, seat)) = Table::new(alloc, &words, slots, &start) else {
             return Err(AllocError);
         };
         let first = Caller {
@@ -211,22 +212,22 @@ impl<S: Drop> Shared<S> {
         shared.load::<Look>(seat, 0);
     }
 
-    // Makes a call of any step on the journal that the seat holds.
+    // Makes a call of any step, which hands this in, on the journal that the seat holds.
     pub(crate) fn make<C: Call<S>>(
         &self,
         seat: &mut Place<S>,
         call: C,
-        entry: &mut Exchange,
+        details: &C::Details,
     ) -> C::Reply
         requires own { seat.old.table_id ≡ self.now }
+        requires details { C.handed call ≡ details.now }
         requires holds { Holds seat.old.me }
         requires can { C.can_make seat.old.me.0.start.view.pools call }
         ensures own { seat.new.table_id ≡ seat.old.table_id }
-        ensures calls { Calls seat.old.me (C.exchange call result) seat.new.me }
-        ensures entry { entry.new ≡ C.exchange call result }
+        ensures calls { Calls seat.old.me (C.exchange (C.handed call) result) seat.new.me }
         ensures streams { Somewhere (C.streams call result) }
     {
-        seat.slot_mut(&self.table.shared, 0).make(call, entry)
+        seat.slot_mut(&self.table.shared, 0).make(call, details)
     }
 
     // Gives the lock back, with one call more in the journal.

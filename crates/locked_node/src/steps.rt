@@ -17,14 +17,10 @@ ghost use Rattle.node_core.specs.declared.refusal.JoinRefusal.TheVariants as joi
 ghost use Rattle.node_core.specs.declared.refusal.CancelRefusal.TheVariants as cancel;
 
 use crate::call::Call;
-use crate::reply_records::{
-    acquire_record, cancel_record, close_record, failed_record, join_record, leave_record,
-    release_record, up_record,
-};
 use node_core::{
     AcquireReply, CancelRefusal, CloseReply, DatabaseNo, EndedReply, Exchange, FailedReply,
-    JoinRefusal, Lease, LeaveReply, NodeCore, Order, Pass, Permit, ReleaseReply, RestartReply,
-    Ticket, UpFailedReply, UpReply,
+    JoinRefusal, Lease, LeaveReply, LinkRecord, NodeCore, Order, Pass, PassRecord, Permit,
+    PermitRecord, ReleaseReply, RestartReply, Ticket, TicketRecord, UpFailedReply, UpReply,
 };
 use pg_ids::{Secret, ServerKey};
 
@@ -35,16 +31,30 @@ pub struct Join(pub DatabaseNo, pub Secret);
 impl<S: Drop> Call<S> for Join {
     type Reply = Result<Pass, JoinRefusal>;
 
+    type Details = (DatabaseNo, Secret);
+
+    ghost handed = { λ made. (made.0, made.1) };
+
     ghost exchange = { λ made reply. call.Join made.0 made.1 reply };
 
     ghost can_make = { λ pools made. made.0 < length pools };
 
     ghost at_end = { λ _. Err join.Exhausted };
 
-    fn make(self, core: &mut NodeCore<S>, entry: &mut Exchange) -> Self::Reply {
-        let reply = core.join(self.0, self.1);
-        *entry = Exchange::Join(self.0, self.1, join_record(&reply));
-        reply
+    fn details(&self) -> Self::Details {
+        (self.0, self.1)
+    }
+
+    fn make(self, core: &mut NodeCore<S>) -> Self::Reply {
+        core.join(self.0, self.1)
+    }
+
+    fn record(details: &Self::Details, reply: &Self::Reply) -> Exchange {
+        let kept = match reply {
+            Ok(pass) => Ok(pass.details()),
+            Err(refusal) => Err(*refusal),
+        };
+        Exchange::Join(details.0, details.1, kept)
     }
 
     fn forfeit(self) -> Self::Reply {
@@ -58,16 +68,31 @@ pub struct Leave(pub Pass);
 impl<S: Drop> Call<S> for Leave {
     type Reply = LeaveReply<Pass>;
 
-    ghost exchange = { λ made reply. call.Leave made.0 reply };
+    type Details = PassRecord;
+
+    ghost handed = { λ made. made.0 };
+
+    ghost exchange = { λ made reply. call.Leave made reply };
 
     ghost at_end = { λ _. leave.Exhausted };
 
-    fn make(self, core: &mut NodeCore<S>, entry: &mut Exchange) -> Self::Reply {
+    fn details(&self) -> Self::Details {
+        self.0.details()
+    }
+
+    fn make(self, core: &mut NodeCore<S>) -> Self::Reply {
         let Leave(pass) = self;
-        let details = pass.details();
-        let reply = core.leave(pass);
-        *entry = Exchange::Leave(details, leave_record(&reply));
-        reply
+        core.leave(pass)
+    }
+
+    fn record(details: &Self::Details, reply: &Self::Reply) -> Exchange {
+        let kept = match reply {
+            LeaveReply::Left => LeaveReply::Left,
+            LeaveReply::Holding(pass) => LeaveReply::Holding(pass.details()),
+            LeaveReply::Stale => LeaveReply::Stale,
+            LeaveReply::Exhausted => LeaveReply::Exhausted,
+        };
+        Exchange::Leave(*details, kept)
     }
 
     fn forfeit(self) -> Self::Reply {
@@ -84,16 +109,36 @@ pub struct Acquire<'a>(pub &'a Pass);
 impl<S: Drop> Call<S> for Acquire<'_> {
     type Reply = AcquireReply<Lease<S>, Permit>;
 
-    ghost exchange = { λ made reply. call.Acquire made.0.now (acquire_said reply) };
+    type Details = PassRecord;
+
+    ghost handed = { λ made. made.0.now };
+
+    ghost exchange = { λ made reply. call.Acquire made (acquire_said reply) };
 
     ghost streams = { λ _ reply. AcquireStreams reply };
 
     ghost at_end = { λ _. acquire.Exhausted };
 
-    fn make(self, core: &mut NodeCore<S>, entry: &mut Exchange) -> Self::Reply {
-        let reply = core.acquire(self.0);
-        *entry = Exchange::Acquire(self.0.details(), acquire_record(&reply));
-        reply
+    fn details(&self) -> Self::Details {
+        self.0.details()
+    }
+
+    fn make(self, core: &mut NodeCore<S>) -> Self::Reply {
+        core.acquire(self.0)
+    }
+
+    fn record(details: &Self::Details, reply: &Self::Reply) -> Exchange
+        ensures { result ≡ call.Acquire details.now (acquire_said reply.now) }
+    {
+        let kept = match reply {
+            AcquireReply::Got(lease) => AcquireReply::Got(lease.details()),
+            AcquireReply::Open(permit) => AcquireReply::Open(permit.details()),
+            AcquireReply::Waiting => AcquireReply::Waiting,
+            AcquireReply::Holding => AcquireReply::Holding,
+            AcquireReply::Exhausted => AcquireReply::Exhausted,
+            AcquireReply::Stale => AcquireReply::Stale,
+        };
+        Exchange::Acquire(*details, kept)
     }
 
     fn forfeit(self) -> Self::Reply {
@@ -107,18 +152,33 @@ pub struct Up<S>(pub Permit, pub S, pub ServerKey);
 impl<S: Drop> Call<S> for Up<S> {
     type Reply = UpReply<Lease<S>, Permit, S>;
 
-    ghost exchange = { λ made reply. call.Up made.0 made.2 (up_said reply) };
+    type Details = (PermitRecord, ServerKey);
+
+    ghost handed = { λ made. (made.0, made.2) };
+
+    ghost exchange = { λ made reply. call.Up made.0 made.1 (up_said reply) };
 
     ghost streams = { λ made reply. UpStreams made.1 reply };
 
     ghost at_end = { λ made. up.AtEnd made.1 };
 
-    fn make(self, core: &mut NodeCore<S>, entry: &mut Exchange) -> Self::Reply {
+    fn details(&self) -> Self::Details {
+        (self.0.details(), self.2)
+    }
+
+    fn make(self, core: &mut NodeCore<S>) -> Self::Reply {
         let Up(permit, stream, key) = self;
-        let details = permit.details();
-        let reply = core.up(permit, stream, key);
-        *entry = Exchange::Up(details, key, up_record(&reply));
-        reply
+        core.up(permit, stream, key)
+    }
+
+    fn record(details: &Self::Details, reply: &Self::Reply) -> Exchange {
+        let kept = match reply {
+            UpReply::Up(lease) => UpReply::Up(lease.details()),
+            UpReply::Exhausted(permit, _) => UpReply::Exhausted(permit.details(), ()),
+            UpReply::Stale(_) => UpReply::Stale(()),
+            UpReply::AtEnd(_) => UpReply::AtEnd(()),
+        };
+        Exchange::Up(details.0, details.1, kept)
     }
 
     fn forfeit(self) -> Self::Reply {
@@ -134,16 +194,25 @@ pub struct UpFailed(pub Permit);
 impl<S: Drop> Call<S> for UpFailed {
     type Reply = UpFailedReply;
 
-    ghost exchange = { λ made reply. call.UpFailed made.0 reply };
+    type Details = PermitRecord;
+
+    ghost handed = { λ made. made.0 };
+
+    ghost exchange = { λ made reply. call.UpFailed made reply };
 
     ghost at_end = { λ _. failing.Exhausted };
 
-    fn make(self, core: &mut NodeCore<S>, entry: &mut Exchange) -> Self::Reply {
+    fn details(&self) -> Self::Details {
+        self.0.details()
+    }
+
+    fn make(self, core: &mut NodeCore<S>) -> Self::Reply {
         let UpFailed(permit) = self;
-        let details = permit.details();
-        let reply = core.up_failed(permit);
-        *entry = Exchange::UpFailed(details, reply);
-        reply
+        core.up_failed(permit)
+    }
+
+    fn record(details: &Self::Details, reply: &Self::Reply) -> Exchange {
+        Exchange::UpFailed(*details, *reply)
     }
 
     fn forfeit(self) -> Self::Reply {
@@ -159,18 +228,34 @@ pub struct Release<S>(pub Lease<S>);
 impl<S: Drop> Call<S> for Release<S> {
     type Reply = ReleaseReply<S>;
 
-    ghost exchange = { λ made reply. call.Release made.0.details (release_said reply) };
+    type Details = LinkRecord;
+
+    ghost handed = { λ made. made.0.details };
+
+    ghost exchange = { λ made reply. call.Release made (release_said reply) };
 
     ghost streams = { λ made reply. ReleaseStreams made.0 reply };
 
     ghost at_end = { λ made. release.Exhausted made.0.stream };
 
-    fn make(self, core: &mut NodeCore<S>, entry: &mut Exchange) -> Self::Reply {
+    fn details(&self) -> Self::Details {
+        self.0.details()
+    }
+
+    fn make(self, core: &mut NodeCore<S>) -> Self::Reply {
         let Release(lease) = self;
-        let details = lease.details();
-        let reply = core.release(lease);
-        *entry = Exchange::Release(details, release_record(&reply));
-        reply
+        core.release(lease)
+    }
+
+    fn record(details: &Self::Details, reply: &Self::Reply) -> Exchange {
+        let kept = match reply {
+            ReleaseReply::Idle => ReleaseReply::Idle,
+            ReleaseReply::Quarantined => ReleaseReply::Quarantined,
+            ReleaseReply::Closed(_) => ReleaseReply::Closed(()),
+            ReleaseReply::Stale(_) => ReleaseReply::Stale(()),
+            ReleaseReply::Exhausted(_) => ReleaseReply::Exhausted(()),
+        };
+        Exchange::Release(*details, kept)
     }
 
     fn forfeit(self) -> Self::Reply {
@@ -185,18 +270,32 @@ pub struct Close<S>(pub Lease<S>);
 impl<S: Drop> Call<S> for Close<S> {
     type Reply = CloseReply<S>;
 
-    ghost exchange = { λ made reply. call.Close made.0.details (close_said reply) };
+    type Details = LinkRecord;
+
+    ghost handed = { λ made. made.0.details };
+
+    ghost exchange = { λ made reply. call.Close made (close_said reply) };
 
     ghost streams = { λ made reply. CloseStreams made.0 reply };
 
     ghost at_end = { λ made. close.Exhausted made.0.stream };
 
-    fn make(self, core: &mut NodeCore<S>, entry: &mut Exchange) -> Self::Reply {
+    fn details(&self) -> Self::Details {
+        self.0.details()
+    }
+
+    fn make(self, core: &mut NodeCore<S>) -> Self::Reply {
         let Close(lease) = self;
-        let details = lease.details();
-        let reply = core.close(lease);
-        *entry = Exchange::Close(details, close_record(&reply));
-        reply
+        core.close(lease)
+    }
+
+    fn record(details: &Self::Details, reply: &Self::Reply) -> Exchange {
+        let kept = match reply {
+            CloseReply::Closed(_) => CloseReply::Closed(()),
+            CloseReply::Stale(_) => CloseReply::Stale(()),
+            CloseReply::Exhausted(_) => CloseReply::Exhausted(()),
+        };
+        Exchange::Close(*details, kept)
     }
 
     fn forfeit(self) -> Self::Reply {
@@ -212,14 +311,31 @@ pub struct Cancel<'a>(pub &'a [u8; 8]);
 impl<S: Drop> Call<S> for Cancel<'_> {
     type Reply = Order<Ticket>;
 
-    ghost exchange = { λ made reply. call.Cancel made.0.now reply };
+    type Details = [u8; 8];
+
+    ghost handed = { λ made. made.0.now };
+
+    ghost exchange = { λ made reply. call.Cancel made reply };
 
     ghost at_end = { λ _. order.Refused cancel.Exhausted };
 
-    fn make(self, core: &mut NodeCore<S>, entry: &mut Exchange) -> Self::Reply {
-        let order = core.cancel(self.0);
-        *entry = Exchange::Cancel(*self.0, cancel_record(&order));
-        order
+    fn details(&self) -> Self::Details {
+        *self.0
+    }
+
+    fn make(self, core: &mut NodeCore<S>) -> Self::Reply {
+        core.cancel(self.0)
+    }
+
+    fn record(details: &Self::Details, reply: &Self::Reply) -> Exchange
+        ensures { result ≡ call.Cancel details.now reply.now }
+    {
+        let kept = match reply {
+            Order::Serve(ticket, database, key) => Order::Serve(ticket.details(), *database, *key),
+            Order::Forward(peer, packet) => Order::Forward(*peer, *packet),
+            Order::Refused(refusal) => Order::Refused(*refusal),
+        };
+        Exchange::Cancel(*details, kept)
     }
 
     fn forfeit(self) -> Self::Reply {
@@ -233,16 +349,25 @@ pub struct Ended(pub Ticket);
 impl<S: Drop> Call<S> for Ended {
     type Reply = EndedReply;
 
-    ghost exchange = { λ made reply. call.Ended made.0 reply };
+    type Details = TicketRecord;
+
+    ghost handed = { λ made. made.0 };
+
+    ghost exchange = { λ made reply. call.Ended made reply };
 
     ghost at_end = { λ _. ended.Exhausted };
 
-    fn make(self, core: &mut NodeCore<S>, entry: &mut Exchange) -> Self::Reply {
+    fn details(&self) -> Self::Details {
+        self.0.details()
+    }
+
+    fn make(self, core: &mut NodeCore<S>) -> Self::Reply {
         let Ended(ticket) = self;
-        let details = ticket.details();
-        let reply = core.ended(ticket);
-        *entry = Exchange::Ended(details, reply);
-        reply
+        core.ended(ticket)
+    }
+
+    fn record(details: &Self::Details, reply: &Self::Reply) -> Exchange {
+        Exchange::Ended(*details, *reply)
     }
 
     fn forfeit(self) -> Self::Reply {
@@ -258,18 +383,33 @@ pub struct Failed(pub Ticket);
 impl<S: Drop> Call<S> for Failed {
     type Reply = FailedReply<S>;
 
-    ghost exchange = { λ made reply. call.Failed made.0 (failed_said reply) };
+    type Details = TicketRecord;
+
+    ghost handed = { λ made. made.0 };
+
+    ghost exchange = { λ made reply. call.Failed made (failed_said reply) };
 
     ghost streams = { λ made reply. FailedStreams made.0.at reply };
 
     ghost at_end = { λ _. failed.Exhausted };
 
-    fn make(self, core: &mut NodeCore<S>, entry: &mut Exchange) -> Self::Reply {
+    fn details(&self) -> Self::Details {
+        self.0.details()
+    }
+
+    fn make(self, core: &mut NodeCore<S>) -> Self::Reply {
         let Failed(ticket) = self;
-        let details = ticket.details();
-        let reply = core.failed(ticket);
-        *entry = Exchange::Failed(details, failed_record(&reply));
-        reply
+        core.failed(ticket)
+    }
+
+    fn record(details: &Self::Details, reply: &Self::Reply) -> Exchange {
+        let kept = match reply {
+            FailedReply::Condemned => FailedReply::Condemned,
+            FailedReply::Closed(_) => FailedReply::Closed(()),
+            FailedReply::Stale => FailedReply::Stale,
+            FailedReply::Exhausted => FailedReply::Exhausted,
+        };
+        Exchange::Failed(*details, kept)
     }
 
     fn forfeit(self) -> Self::Reply {
@@ -286,16 +426,26 @@ pub struct Restart;
 impl<S: Drop> Call<S> for Restart {
     type Reply = RestartReply;
 
+    type Details = ();
+
+    ghost handed = { λ _. tt };
+
     ghost exchange = { λ made reply. call.Restart reply };
 
     ghost streams = { λ _ reply. RestartStreams reply };
 
     ghost at_end = { λ _. restart.Exhausted };
 
-    fn make(self, core: &mut NodeCore<S>, entry: &mut Exchange) -> Self::Reply {
-        let reply = core.restart();
-        *entry = Exchange::Restart(reply);
-        reply
+    fn details(&self) -> Self::Details {
+        ()
+    }
+
+    fn make(self, core: &mut NodeCore<S>) -> Self::Reply {
+        core.restart()
+    }
+
+    fn record(details: &Self::Details, reply: &Self::Reply) -> Exchange {
+        Exchange::Restart(*reply)
     }
 
     fn forfeit(self) -> Self::Reply {

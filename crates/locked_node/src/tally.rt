@@ -1,10 +1,10 @@
 //! Calls counted by their kind, with the sums of their numbers.
-ghost use Rattle.std.specs.Prelude.{◌≡◌, ◌+◌, ◌≤◌, ◌^◌, ◌<◌, length};
-ghost use Rattle.locked_node.specs.CallNumbers.{WIDEST};
+ghost use Rattle.std.specs.Prelude.{◌≡◌, ◌+◌, ◌^◌, ◌<◌};
+ghost use Rattle.locked_node.specs.CallNumbers.{numbers_of};
 ghost use Rattle.locked_node.specs.Totals.{SumsUp};
 
 use crate::call_kind::{CallKind, KINDS};
-use crate::numbers::{Numbers, WIDEST};
+use crate::numbers::WIDEST;
 use node_core::Exchange;
 
 /// The calls of one kind.
@@ -28,17 +28,14 @@ const NO_CALL: Row = Row {
 };
 
 impl Row {
-    // One more call with these numbers.
-    fn count(&mut self, numbers: &[u64])
-        requires room { self.old.calls + 1 < 2 ^ 128 }
-        requires within { length numbers.now ≤ WIDEST }
+    // One more call.
+    fn count(&mut self, call: &Exchange)
+        requires { self.old.calls + 1 < 2 ^ 128 }
         ensures calls { self.new.calls ≡ self.old.calls + 1 }
-        ensures sums { SumsUp self.old.sums numbers.now self.new.sums }
+        ensures sums { SumsUp self.old.sums (numbers_of call.now) self.new.sums }
     {
         self.calls += 1;
-        for i in 0..numbers.len() {
-            self.sums[i] = self.sums[i].wrapping_add(u128::from(numbers[i]));
-        }
+        self.add(call);
     }
 
     // The calls of another row besides.
@@ -86,11 +83,9 @@ impl Tally {
         requires { all_calls self.old < 2 ^ 127 }
         ensures { Counts self.old call.now self.new }
     {
-        let mut numbers = Numbers::new();
-        numbers.read(call);
         let kind = CallKind::of(call);
         let row = &mut self.rows[kind.index()];
-        row.count(numbers.as_slice());
+        row.count(call);
     }
 
     /// Counts the calls of another tally too.

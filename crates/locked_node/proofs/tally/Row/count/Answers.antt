@@ -1,0 +1,17 @@
+use Rattle.std.proofs.Common.{rules, ◌≡◌, ℕ, List, length, sym, ap, ◌∙◌, subst, arith}
+use Rattle.locked_node.specs.declared.tally.Row.{Row}
+use Rattle.locked_node.specs.CallNumbers.{numbers_of}
+use Rattle.locked_node.specs.Totals.{SumsUp}
+use Rattle.locked_node.proofs.Tallies.{with_calls, with_sums}
+use Rattle.locked_node.proofs.Widths.{wide}
+use Rattle.locked_node.proofs.tally.Row.count.Goals as goal
+
+pub returns-clause-calls : goal.returns-clause-calls
+returns-clause-calls c = ap (λ (row : Row). row.calls) c.add.ensures ∙ with_calls _ 0 (numbers_of c.args.call.now)
+
+pub returns-clause-sums : goal.returns-clause-sums
+returns-clause-sums c =
+    let long : length c.args.self.now.sums ≡ 11 = search rules in
+    let most = (wide c.args.call.now).1 in
+    subst (λ (row : Row). SumsUp c.args.self.now.sums (numbers_of c.args.call.now) row.sums) (sym c.add.ensures)
+    (with_sums _ (numbers_of c.args.call.now) (omega (arith, long, most)))
