@@ -14,23 +14,36 @@ use Rattle.pgpeer.specs.Files.{Folder, Says, SayInOrder, HasFault, IsFirstFault,
 use Rattle.std.specs.Result.{IfErr, IsErrAnd}
 
 -- `?` passes a refusal on as it is
-pub passed_on : {T E : Type 0} (r : Result T E) (e : E) (P : E → Type 0) → IsErrAnd r (λ y. y ≡ e) → P e → IfErr r P
+pub passed_on : {T E : Type 0} (r : Result T E) (e : E) (P : E → Type 0) → IsErrAnd r (λ y. y ≡ e)
+    → P e → IfErr r P
 passed_on (Err y) e P is holds = subst P (sym is) holds
 passed_on (Ok x) e P never holds = absurd never
 
-module _ (folder : Folder) (files : List (Bor (List ℕ))) (i : ℕ) (d : Bor (List ℕ)) (nodes : List NodeSettings) where
+module _ (folder : Folder) (files : List (Bor (List ℕ))) (i : ℕ) (d : Bor (List ℕ))
+    (nodes : List NodeSettings) where
   -- the file at a place says what one node more is
-  pub SayInOrder-next : (node : NodeSettings) → i < length files → SayInOrder folder (map (λ w. w.now) (take i files)) nodes → Says (folder (get_or files i d).now) node → SayInOrder folder (map (λ w. w.now) (take (i + 1) files)) (nodes ++ node ∷ [])
-  SayInOrder-next node within said says = AllZip-next (λ file n. Says (folder file) n) files i nodes d node within said says
+  pub SayInOrder-next : (node : NodeSettings) → i < length files
+      → SayInOrder folder (map (λ w. w.now) (take i files)) nodes
+      → Says (folder (get_or files i d).now) node
+      → SayInOrder folder (map (λ w. w.now) (take (i + 1) files)) (nodes ++ node ∷ [])
+  SayInOrder-next node within said says =
+      AllZip-next (λ file n. Says (folder file) n) files i nodes d node within said says
 
   -- the file at a place stands between the others
-  place_at : i < length files → map (λ w. w.now) files ≡ map (λ w. w.now) (take i files) ++ (get_or files i d).now ∷ map (λ w. w.now) (drop (suc i) files)
+  place_at : i < length files → map (λ w. w.now) files ≡ map (λ w. w.now) (take i files)
+      ++ (get_or files i d).now ∷ map (λ w. w.now) (drop (suc i) files)
   place_at within =
-      ap (map (λ (w : Bor (List ℕ)). w.now)) (sym (take-append-drop i files) ∙ ap (λ rest. take i files ++ rest) (drop-cons files i d within))
-      ∙ map-append (λ (w : Bor (List ℕ)). w.now) (take i files) (get_or files i d ∷ drop (suc i) files)
+      ap (map (λ (w : Bor (List ℕ)). w.now))
+      (sym (take-append-drop i files)
+      ∙ ap (λ rest. take i files ++ rest) (drop-cons files i d within))
+      ∙ map-append (λ (w : Bor (List ℕ)). w.now) (take i files)
+      (get_or files i d ∷ drop (suc i) files)
 
   -- the file at a place is the first with a fault
-  pub IsFirstFault-at : (error : IniError) → i < length files → SayInOrder folder (map (λ w. w.now) (take i files)) nodes → HasFault (folder (get_or files i d).now) error → IsFirstFault folder (map (λ w. w.now) files) (get_or files i d).now error
+  pub IsFirstFault-at : (error : IniError) → i < length files
+      → SayInOrder folder (map (λ w. w.now) (take i files)) nodes
+      → HasFault (folder (get_or files i d).now) error
+      → IsFirstFault folder (map (λ w. w.now) files) (get_or files i d).now error
   IsFirstFault-at error within said fault = record {
     before = map (λ w. w.now) (take i files);
     after = map (λ w. w.now) (drop (suc i) files);
@@ -41,7 +54,8 @@ module _ (folder : Folder) (files : List (Bor (List ℕ))) (i : ℕ) (d : Bor (L
   }
 
   -- the file at a place can't be read
-  pub IsUnread-at : i < length files → SayInOrder folder (map (λ w. w.now) (take i files)) nodes → IsUnread folder (map (λ w. w.now) files) (get_or files i d).now
+  pub IsUnread-at : i < length files → SayInOrder folder (map (λ w. w.now) (take i files)) nodes
+      → IsUnread folder (map (λ w. w.now) files) (get_or files i d).now
   IsUnread-at within said = record {
     before = map (λ w. w.now) (take i files);
     after = map (λ w. w.now) (drop (suc i) files);
@@ -51,10 +65,16 @@ module _ (folder : Folder) (files : List (Bor (List ℕ))) (i : ℕ) (d : Bor (L
   }
 
   -- the fault of the file at a place
-  pub IsCheckFault-at : (f : Fault) → i < length files → SayInOrder folder (map (λ w. w.now) (take i files)) nodes → IsFileFault (folder (get_or files i d).now) (get_or files i d).now f → IsCheckFault folder (map (λ w. w.now) files) f
+  pub IsCheckFault-at : (f : Fault) → i < length files
+      → SayInOrder folder (map (λ w. w.now) (take i files)) nodes
+      → IsFileFault (folder (get_or files i d).now) (get_or files i d).now f
+      → IsCheckFault folder (map (λ w. w.now) files) f
   IsCheckFault-at (fault.InFile file error) within said (same, inl memory) = inl memory
-  IsCheckFault-at (fault.InFile file error) within said (same, inr fault) = inr (subst (λ name. IsFirstFault folder (map (λ w. w.now) files) name error) (sym same) (IsFirstFault-at error within said fault))
-  IsCheckFault-at (fault.Unread file reason) within said same = subst (IsUnread folder (map (λ w. w.now) files)) (sym same) (IsUnread-at within said)
+  IsCheckFault-at (fault.InFile file error) within said (same, inr fault) =
+      inr (subst (λ name. IsFirstFault folder (map (λ w. w.now) files) name error) (sym same)
+      (IsFirstFault-at error within said fault))
+  IsCheckFault-at (fault.Unread file reason) within said same =
+      subst (IsUnread folder (map (λ w. w.now) files)) (sym same) (IsUnread-at within said)
   IsCheckFault-at fault.Memory within said _ = tt
   IsCheckFault-at (fault.Usage text) within said never = absurd never
   IsCheckFault-at (fault.OfGroup error) within said never = absurd never
@@ -63,8 +83,15 @@ module _ (folder : Folder) (files : List (Bor (List ℕ))) (i : ℕ) (d : Bor (L
   IsCheckFault-at (fault.Unexpected reply) within said never = absurd never
 
 -- nodes that are no group
-pub MakeNoGroup-of : (folder : Folder) (files : List (List ℕ)) (nodes : List NodeSettings) (error : GroupError) → SayInOrder folder files nodes → (error ≡ NoPeering → ¬ AllPeer nodes) → (error ≡ SamePeer → AllPeer nodes × ¬ PeersDiffer nodes) → (error ≡ MissingPeer → AllPeer nodes × PeersDiffer nodes × ¬ AllListed nodes) → (error ≡ Memory) ⊎ MakeNoGroup folder files error
-MakeNoGroup-of folder files nodes NoPeering said zero same missing = inr record { nodes = nodes; said = said; fault = zero refl }
-MakeNoGroup-of folder files nodes SamePeer said zero same missing = inr record { nodes = nodes; said = said; fault = same refl }
-MakeNoGroup-of folder files nodes MissingPeer said zero same missing = inr record { nodes = nodes; said = said; fault = missing refl }
+pub MakeNoGroup-of : (folder : Folder) (files : List (List ℕ)) (nodes : List NodeSettings)
+    (error : GroupError) → SayInOrder folder files nodes → (error ≡ NoPeering → ¬ AllPeer nodes)
+    → (error ≡ SamePeer → AllPeer nodes × ¬ PeersDiffer nodes)
+    → (error ≡ MissingPeer → AllPeer nodes × PeersDiffer nodes × ¬ AllListed nodes)
+    → (error ≡ Memory) ⊎ MakeNoGroup folder files error
+MakeNoGroup-of folder files nodes NoPeering said zero same missing =
+    inr record { nodes = nodes; said = said; fault = zero refl }
+MakeNoGroup-of folder files nodes SamePeer said zero same missing =
+    inr record { nodes = nodes; said = said; fault = same refl }
+MakeNoGroup-of folder files nodes MissingPeer said zero same missing =
+    inr record { nodes = nodes; said = said; fault = missing refl }
 MakeNoGroup-of folder files nodes Memory said zero same missing = inl refl

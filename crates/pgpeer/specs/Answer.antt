@@ -34,9 +34,11 @@ pub record IsKeyLine (bytes line : List ℕ) : Type 0 where
 
 -- a slot and a place for a link for each client, and one at least
 abbrev pub settings_in : Decision → NodeSettings
-settings_in given = plain_settings given.me given.peers (max (length given.clients) 1) (max (length given.clients) 1)
+settings_in given = plain_settings given.me given.peers (max (length given.clients) 1)
+    (max (length given.clients) 1)
 
--- the line names an order that the node may give for the request in the packet, which is a CancelRequest and nothing else
+-- the line names an order that the node may give for the request in the packet, which is a
+-- CancelRequest and nothing else
 pub record IsOrderLine (given : Decision) (line : List ℕ) : Type 0 where
   pub key : List ℕ
   pub eight : length key ≡ 8
@@ -74,8 +76,8 @@ pub record AsksElse (packet : List ℕ) : Type 0 where
   pub is : IsOutcome none_seen packet true outcome
   pub else : IsNoCancel outcome
 
--- why a packet is no CancelRequest: bytes stand behind it, it is refused, or it asks for something else; or memory ran
--- out
+-- why a packet is no CancelRequest: bytes stand behind it, it is refused, or it asks for something
+-- else; or memory ran out
 abbrev pub IsPacketFault : List ℕ → Fault → Type 0
 IsPacketFault packet (Usage text) = HasMore packet
 IsPacketFault packet (Packet number) = IsRefused packet number
@@ -130,19 +132,25 @@ pub record Change : Type 0 where
   pub old : Option (List ℕ)
   pub new : Option (List ℕ)
 
--- the text was written whole, with this status; or the writer failed, and a beginning was written, with status 1
+-- the text was written whole, with this status; or the writer failed, and a beginning was written,
+-- with status 1
 abbrev pub IsWritten : Change → Text → ℕ → ℕ → Type 0
 IsWritten writer text status result =
-    ((result ≡ status) × Appends writer.old writer.new text) ⊎ ((result ≡ 1) × AppendsPart writer.old writer.new text)
+    ((result ≡ status) × Appends writer.old writer.new text)
+    ⊎ ((result ≡ 1) × AppendsPart writer.old writer.new text)
 
 -- the fault was written, or where there was no memory for its text, that memory ran out
 abbrev pub WritesFault : Fault → Change → ℕ → Type 0
 WritesFault fault err result =
-    IsWritten err (fault_text fault) (status_of fault) result ⊎ IsWritten err (fault_text Memory) (status_of Memory) result
+    IsWritten err (fault_text fault) (status_of fault) result
+    ⊎ IsWritten err (fault_text Memory) (status_of Memory) result
 
--- The answer to arguments, by what files hold: a line on standard output and nothing on standard error, with status 0;
--- or a fault on standard error and nothing on standard output, with its status.
+-- The answer to arguments, by what files hold: a line on standard output and nothing on standard
+-- error, with status 0; or a fault on standard error and nothing on standard output, with its
+-- status.
 abbrev pub IsAnswer : Folder → List Text → Change → Change → ℕ → Type 0
 IsAnswer folder arguments out err result =
-    ((line : Text) × IsLine folder (asked arguments) line × IsWritten out line 0 result × Keeps err.old err.new)
-    ⊎ ((fault : Fault) × IsFault folder (asked arguments) fault × IsWritten err (fault_text fault) (status_of fault) result × Keeps out.old out.new)
+    ((line : Text) × IsLine folder (asked arguments) line
+    × IsWritten out line 0 result × Keeps err.old err.new)
+    ⊎ ((fault : Fault) × IsFault folder (asked arguments) fault
+    × IsWritten err (fault_text fault) (status_of fault) result × Keeps out.old out.new)

@@ -1,7 +1,9 @@
--- What the arguments behind a command's name give (own): options with their values, and plain arguments.
+-- What the arguments behind a command's name give (own): options with their values, and plain
+-- arguments.
 use Rattle.std.specs.Prelude.{ℕ, ◌≡◌, ◌==◌, Bool, false, not, ◌&&◌, ◌||◌, nat_le, if◌then◌else◌, List, [], ◌∷◌, ◌++◌, length, map, slice_index, Option, Some, None, codes}
 use Rattle.std.specs.Borrow.{Bor}
 use Rattle.std.specs.List.{list_any, before_first, after_first}
+use Rattle.std.specs.Map.{lookup}
 use Rattle.std.specs.Option.{option_map}
 use Rattle.std.specs.Str.{bytes_eq}
 use Rattle.pgpeer.specs.declared.arguments.OptionName.{OptionName}
@@ -26,19 +28,20 @@ is_end argument = bytes_eq argument (codes "--")
 unfoldable pub cut_at : ℕ → Text → Text × Option Text
 cut_at mark text = (
   before_first (λ byte. byte == mark) text,
-  if list_any (λ byte. byte == mark) text then Some (after_first (λ byte. byte == mark) text) else None,
+  if list_any (λ byte. byte == mark) text
+      then Some (after_first (λ byte. byte == mark) text) else None,
 )
+
+-- the options, by their names
+abbrev pub options : List (Text × OptionName)
+options = (codes "--me", Me) ∷ (codes "--peers", Peers) ∷ (codes "--live", Live) ∷ []
 
 -- the option of this name
 unfoldable pub option_named : Text → Option OptionName
-option_named name =
-    if bytes_eq name (codes "--me") then Some Me
-    else (if bytes_eq name (codes "--peers") then Some Peers
-    else (if bytes_eq name (codes "--live") then Some Live
-    else None))
+option_named name = lookup (bytes_eq name) options
 
--- What one argument is: a plain one, the end of the options, an option whose value is the next argument, an option
--- with its value behind `=`, or nothing that there is
+-- What one argument is: a plain one, the end of the options, an option whose value is the next
+-- argument, an option with its value behind `=`, or nothing that there is
 pub data Shape : Type 0 where
   Plain : Shape
   End : Shape
@@ -78,7 +81,8 @@ abbrev pub with_plain : Text → Given → Given
 with_plain argument given = record given { plain = argument ∷ given.plain }
 
 -- what the first argument gives, where it is of this shape; what follows gives the rest
-abbrev pub given_by : Shape → Text → List Text → Option Given → (OptionName → Option Given) → Option Given
+abbrev pub given_by : Shape → Text → List Text → Option Given → (OptionName → Option Given)
+    → Option Given
 given_by Plain argument rest after awaiting = option_map (with_plain argument) after
 given_by End argument rest after awaiting = Some (plain_alone rest)
 given_by (Alone name) argument rest after awaiting = awaiting name
@@ -90,11 +94,13 @@ unfoldable pub given_behind : Option OptionName → List Text → Option Given
 given_behind None [] = Some (plain_alone [])
 given_behind (Some name) [] = None
 given_behind None (argument ∷ rest) =
-    given_by (shape_of argument) argument rest (given_behind None rest) (λ name. given_behind (Some name) rest)
+    given_by (shape_of argument) argument rest (given_behind None rest)
+    (λ name. given_behind (Some name) rest)
 given_behind (Some name) (value ∷ rest) =
     if is_plain value then option_map (with_value name value) (given_behind None rest) else None
 
--- what arguments give: options in any order, as `--name VALUE` or `--name=VALUE`, and plain arguments among them
+-- what arguments give: options in any order, as `--name VALUE` or `--name=VALUE`, and plain
+-- arguments among them
 abbrev pub given_by_all : List Text → Option Given
 given_by_all arguments = given_behind None arguments
 
@@ -140,7 +146,8 @@ joined some others = record {
   plain = some.plain ++ others.plain;
 }
 
--- Arguments that say this give one thing first, by which what was given before grew, and then what the others give.
+-- Arguments that say this give one thing first, by which what was given before grew, and then what
+-- the others give.
 pub record LeadsOn (old new : Given) (said : Option Given) (others : List Text) : Type 0 where
   pub one : Given
   pub grown : new ≡ joined old one

@@ -16,7 +16,8 @@ abbrev pub key_behind : Option Text → Option (Option (List ℕ))
 key_behind None = Some None
 key_behind (Some digits) = option_map Some (eight_bytes digits)
 
--- a client: its secret in decimal digits, and then nothing else, or a colon (58) and its server's key
+-- a client: its secret in decimal digits, and then nothing else, or a colon (58) and its server's
+-- key
 unfoldable pub client_of : Text → Option LiveClient
 client_of text = do
   secret ← number_from 0 4294967295 (cut_at 58 text).0

@@ -28,15 +28,16 @@ use Rattle.pgpeer.specs.declared.live_client.LiveClient.{LiveClient}
 
 -- ---- which calls are made
 
--- the calls by which the client of a pass opens a link, whose server cancels by this key; without a key none
+-- the calls by which the client of a pass opens a link, whose server cancels by this key; without a
+-- key none
 abbrev pub AreOpening : PassRecord → Option (List ℕ) → List Exchange → Type 0
 AreOpening pass None calls = calls ≡ []
 AreOpening pass (Some key) calls =
     (permit : PermitRecord) × (lease : LinkRecord)
     × (calls ≡ Acquire pass (acquire.Open permit) ∷ Up permit key (up.Up lease) ∷ [])
 
--- the calls by which a client comes: it joins the first database with its secret and gets a slot, and then it opens its
--- link, if it has one
+-- the calls by which a client comes: it joins the first database with its secret and gets a slot,
+-- and then it opens its link, if it has one
 pub record IsComing (client : LiveClient) (calls : List Exchange) : Type 0 where
   pub pass : PassRecord
   pub after : List Exchange
@@ -124,8 +125,10 @@ pub record Goes (old new : CallerView) : Type 0 where
   pub calls : List Exchange
   pub makes : Makes old calls new
 
--- These clients came, and then a request with these key bytes got this order; more calls may follow.
-pub record Orders (old : CallerView) (clients : List LiveClient) (key : List ℕ) (order : Order TicketRecord) (new : CallerView) : Type 0 where
+-- These clients came, and then a request with these key bytes got this order; more calls may
+-- follow.
+pub record Orders (old : CallerView) (clients : List LiveClient) (key : List ℕ)
+    (order : Order TicketRecord) (new : CallerView) : Type 0 where
   pub calls : List Exchange
   pub live : AreLive clients calls
   pub more : List Exchange
@@ -133,8 +136,10 @@ pub record Orders (old : CallerView) (clients : List LiveClient) (key : List ℕ
 
 -- ---- what a new node may do
 
--- from this view these clients come, and then the node gives this order for a request with these key bytes
-pub record MayOrder (first : NodeView) (clients : List LiveClient) (key : List ℕ) (order : Order TicketRecord) : Type 0 where
+-- from this view these clients come, and then the node gives this order for a request with these
+-- key bytes
+pub record MayOrder (first : NodeView) (clients : List LiveClient) (key : List ℕ)
+    (order : Order TicketRecord) : Type 0 where
   pub calls : List Exchange
   pub live : AreLive clients calls
   pub last : NodeView
@@ -149,7 +154,8 @@ pub record MayReply (first : NodeView) (given : Reply) : Type 0 where
   pub replay : Replay first (calls ++ call ∷ []) last
 
 -- a new node to which these clients came may give this order for a request with these key bytes
-pub record IsDecided (settings : NodeSettings) (clients : List LiveClient) (key : List ℕ) (order : Order TicketRecord) : Type 0 where
+pub record IsDecided (settings : NodeSettings) (clients : List LiveClient) (key : List ℕ)
+    (order : Order TicketRecord) : Type 0 where
   pub fresh : NodeView
   pub made : IsFresh settings fresh
   pub order_is : MayOrder fresh clients key order

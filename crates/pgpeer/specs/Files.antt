@@ -39,7 +39,8 @@ pub record HasFault (known : Option (List ℕ)) (error : IniError) : Type 0 wher
   pub refused : settings_of text ≡ Err error
 
 -- this file has this fault, and each file before it says what a node is
-pub record IsFirstFault (folder : Folder) (files : List (List ℕ)) (file : List ℕ) (error : IniError) : Type 0 where
+pub record IsFirstFault (folder : Folder) (files : List (List ℕ)) (file : List ℕ)
+    (error : IniError) : Type 0 where
   pub before : List (List ℕ)
   pub after : List (List ℕ)
   pub place : files ≡ before ++ file ∷ after
@@ -68,18 +69,21 @@ pub record IsUnread (folder : Folder) (files : List (List ℕ)) (file : List ℕ
   pub nodes : List NodeSettings
   pub said : SayInOrder folder before nodes
 
--- Why files make no group: the first fault of a file, that it can't be read, or else why they are no group; or memory
--- ran out.
+-- Why files make no group: the first fault of a file, that it can't be read, or else why they are
+-- no group; or memory ran out.
 abbrev pub IsCheckFault : Folder → List (List ℕ) → Fault → Type 0
-IsCheckFault folder files (fault.InFile file error) = IsMemory error ⊎ IsFirstFault folder files (string_bytes file) error
+IsCheckFault folder files (fault.InFile file error) = IsMemory error
+    ⊎ IsFirstFault folder files (string_bytes file) error
 IsCheckFault folder files (fault.OfGroup error) = (error ≡ Memory) ⊎ MakeNoGroup folder files error
 IsCheckFault folder files (fault.Unread file reason) = IsUnread folder files (string_bytes file)
 IsCheckFault folder files fault.Memory = ⊤
 IsCheckFault folder files _ = ⊥
 
--- The fault is one of the file with this name: its own first, or that it can't be read, or that memory ran out.
+-- The fault is one of the file with this name: its own first, or that it can't be read, or that
+-- memory ran out.
 abbrev pub IsFileFault : Option (List ℕ) → List ℕ → Fault → Type 0
-IsFileFault known name (fault.InFile file error) = (string_bytes file ≡ name) × (IsMemory error ⊎ HasFault known error)
+IsFileFault known name (fault.InFile file error) = (string_bytes file ≡ name)
+    × (IsMemory error ⊎ HasFault known error)
 IsFileFault known name (fault.Unread file reason) = string_bytes file ≡ name
 IsFileFault known name fault.Memory = ⊤
 IsFileFault known name _ = ⊥

@@ -5,7 +5,8 @@ use Rattle.pgpeer.specs.Arguments.{Text, Given, given_by_all, LeadsOn}
 use Rattle.pgpeer.specs.declared.wrong.Wrong.{Wrong}
 use Rattle.pgpeer.specs.declared.wrong.Wrong.TheVariants.{Memory}
 
--- what a reader returned, seen by view, is what is said, and where nothing is said it is refused; or memory ran out
+-- what a reader returned, seen by view, is what is said, and where nothing is said it is refused;
+-- or memory ran out
 abbrev pub Finds : {X Y : Type 0} → (X → Y) → Result X Wrong → Option Y → Type 0
 Finds view (Ok found) said = said ≡ Some (view found)
 Finds view (Err wrong) said = (wrong ≡ Memory) ⊎ (said ≡ None)
@@ -15,9 +16,11 @@ abbrev pub Reads : {X Y : Type 0} → (X → Y) → Result X Wrong → Option Y 
 Reads view (Ok found) said = said ≡ Some (view found)
 Reads view (Err wrong) said = said ≡ None
 
--- The first of these arguments were taken, by which what was given before grew, and the others give the rest; or it is
--- refused; or memory ran out.
+-- The first of these arguments were taken, by which what was given before grew, and the others give
+-- the rest; or it is refused; or memory ran out.
 abbrev pub Takes : Given → Given → List (Bor Text) → Result ℕ Wrong → Type 0
 Takes old new arguments (Ok count) =
-    LeadsOn old new (given_by_all (map (λ argument. argument.now) arguments)) (map (λ argument. argument.now) (drop count arguments))
-Takes old new arguments (Err wrong) = (wrong ≡ Memory) ⊎ (given_by_all (map (λ argument. argument.now) arguments) ≡ None)
+    LeadsOn old new (given_by_all (map (λ argument. argument.now) arguments))
+    (map (λ argument. argument.now) (drop count arguments))
+Takes old new arguments (Err wrong) = (wrong ≡ Memory)
+    ⊎ (given_by_all (map (λ argument. argument.now) arguments) ≡ None)

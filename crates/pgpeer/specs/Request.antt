@@ -1,6 +1,7 @@
 -- What each list of arguments asks the program for (own).
 use Rattle.std.specs.Prelude.{ℕ, Bool, true, false, ◌&&◌, if◌then◌else◌, List, [], ◌∷◌, map, Option, Some, None, codes}
-use Rattle.std.specs.Option.{option_map}
+use Rattle.std.specs.Map.{lookup}
+use Rattle.std.specs.Option.{option_map, option_or}
 use Rattle.std.specs.Result.{result_ok}
 use Rattle.std.specs.Str.{bytes_eq}
 use Rattle.hex.specs.Hex.{decode_of}
@@ -24,8 +25,8 @@ pub record Decision : Type 0 where
   pub clients : List LiveClient
   pub packet : List ℕ
 
--- a key's parts, by its eight bytes; a decision; whether files make a group; help on a command or on the program; the
--- program's version
+-- a key's parts, by its eight bytes; a decision; whether files make a group; help on a command or
+-- on the program; the program's version
 pub data Asked : Type 0 where
   Key : (bytes : List ℕ) → Asked
   Decide : Decision → Asked
@@ -33,23 +34,27 @@ pub data Asked : Type 0 where
   Help : Option CommandName → Asked
   Version : Asked
 
+-- the commands, by their names
+abbrev pub commands : List (Text × CommandName)
+commands = (codes "key", command.Key) ∷ (codes "decide", command.Decide)
+    ∷ (codes "check", command.Check) ∷ []
+
+-- what may stand first besides a command
+abbrev pub first_words : List (Text × FirstArgument)
+first_words =
+    (codes "-h", first.Help) ∷ (codes "--help", first.Help)
+    ∷ (codes "-V", first.Version) ∷ (codes "--version", first.Version)
+    ∷ (codes "help", first.HelpOn) ∷ []
+
 -- the command of this name
 unfoldable pub command_named : Text → Option CommandName
-command_named name =
-    if bytes_eq name (codes "key") then Some command.Key
-    else (if bytes_eq name (codes "decide") then Some command.Decide
-    else (if bytes_eq name (codes "check") then Some command.Check
-    else None))
+command_named name = lookup (bytes_eq name) commands
 
--- what the first argument says: help or the version whatever follows, help on what follows, or a command
+-- what the first argument says: help or the version whatever follows, help on what follows, or a
+-- command
 unfoldable pub first_of : Text → Option FirstArgument
-first_of argument =
-    if bytes_eq argument (codes "-h") then Some first.Help
-    else (if bytes_eq argument (codes "--help") then Some first.Help
-    else (if bytes_eq argument (codes "-V") then Some first.Version
-    else (if bytes_eq argument (codes "--version") then Some first.Version
-    else (if bytes_eq argument (codes "help") then Some first.HelpOn
-    else option_map first.Command (command_named argument)))))
+first_of argument = option_or (lookup (bytes_eq argument) first_words)
+    (option_map first.Command (command_named argument))
 
 -- whether no option is given
 abbrev pub is_none : List Text → Bool
@@ -86,7 +91,8 @@ decision_of me_text peers_text live_text packet_text = do
   packet ← result_ok (decode_of packet_text)
   Some (record { me = me; peers = peers; clients = clients; packet = packet })
 
--- `decide` wants the node's number once, its peers and its clients at most once, and a packet in hexadecimal digits
+-- `decide` wants the node's number once, its peers and its clients at most once, and a packet in
+-- hexadecimal digits
 abbrev pub decide_asked : Given → Option Asked
 decide_asked given = do
   me ← only_one given.me
@@ -120,7 +126,12 @@ asked (argument ∷ rest) = first_of argument >>= (λ found. asked_behind found 
 
 -- what a request asks for
 abbrev pub decision_in : DecideRequest → Decision
-decision_in given = record { me = given.me; peers = given.peers.items; clients = given.clients.items; packet = given.packet.items }
+decision_in given = record {
+  me = given.me;
+  peers = given.peers.items;
+  clients = given.clients.items;
+  packet = given.packet.items;
+}
 
 abbrev pub asked_in : RequestGiven → Asked
 asked_in (request.Key key) = Key (key_bytes key)

@@ -17,7 +17,8 @@ abbrev pub group_status : GroupError → ℕ
 group_status group.Memory = 1
 group_status error = 2
 
--- 2 for arguments that ask for nothing and for what is refused in settings, 1 for a fault in running
+-- 2 for arguments that ask for nothing and for what is refused in settings, 1 for a fault in
+-- running
 abbrev pub status_of : Fault → ℕ
 status_of (Usage text) = 2
 status_of (InFile file error) = file_status error.code

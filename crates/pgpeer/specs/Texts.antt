@@ -19,7 +19,8 @@ use Rattle.pgpeer.specs.declared.fault.Reply.TheVariants as reply
 
 -- the parts of a key
 abbrev pub key_text : ClientKey → List ℕ
-key_text k = codes "peer " ++ decimal k.peer ++ codes " slot " ++ decimal k.slot ++ codes " secret " ++ decimal k.secret ++ codes " hops " ++ decimal k.hops ++ codes "\n"
+key_text k = codes "peer " ++ decimal k.peer ++ codes " slot " ++ decimal k.slot ++ codes " secret "
+    ++ decimal k.secret ++ codes " hops " ++ decimal k.hops ++ codes "\n"
 
 -- a request that is carried to a server, with the key by which that cancels
 abbrev pub serve_text : List ℕ → List ℕ
@@ -27,7 +28,8 @@ serve_text key = codes "serve " ++ encode_lower key ++ codes "\n"
 
 -- a request that goes on to a peer
 abbrev pub forward_text : ℕ → List ℕ → List ℕ
-forward_text peer packet = codes "forward " ++ decimal peer ++ codes " " ++ encode_lower packet ++ codes "\n"
+forward_text peer packet = codes "forward " ++ decimal peer ++ codes " " ++ encode_lower packet
+    ++ codes "\n"
 
 -- a request that goes nowhere
 abbrev pub refused_text : ℕ → List ℕ
@@ -79,9 +81,11 @@ reply_text reply.Closed = codes "closed"
 abbrev pub fault_text : Fault → List ℕ
 fault_text (Usage text) = string_bytes text
 fault_text (InFile file error) =
-    string_bytes file ++ codes ":" ++ decimal error.line ++ codes ": " ++ numbered (ini_number error.code) (ini_name error.code)
+    string_bytes file ++ codes ":" ++ decimal error.line ++ codes ": "
+    ++ numbered (ini_number error.code) (ini_name error.code)
 fault_text (OfGroup error) = numbered (group_number error) (group_name error)
-fault_text (Unread file reason) = string_bytes file ++ codes ": " ++ string_bytes reason ++ codes "\n"
+fault_text (Unread file reason) = string_bytes file ++ codes ": " ++ string_bytes reason
+    ++ codes "\n"
 fault_text (Packet number) = codes "packet " ++ decimal number ++ codes "\n"
 fault_text NotACancel = codes "not a cancel\n"
 fault_text (Unexpected reply) = codes "unexpected answer: " ++ reply_text reply ++ codes "\n"

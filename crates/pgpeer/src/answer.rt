@@ -17,9 +17,10 @@ use std::alloc::{AllocError, Global};
 use std::io::{ErrorKind, Write};
 use std::sync::Wait;
 
-/// Writes the answer to these arguments to `out`, or why there is none to `err`, and nothing else. Returns the status
-/// that the program ends with: 0 for an answer, 1 for a fault in running, 2 for arguments, settings or a group that
-/// are refused. Where memory runs out the fault says so, and where a writer fails the status is 1.
+/// Writes the answer to these arguments to `out`, or why there is none to `err`, and nothing else.
+/// Returns the status that the program ends with: 0 for an answer, 1 for a fault in running, 2 for
+/// arguments, settings or a group that are refused. Where memory runs out the fault says so, and
+/// where a writer fails the status is 1.
 pub fn answer<R: Wait, O: Opener, W: Write, E: Write>(
     rt: &R,
     alloc: Global,
@@ -45,8 +46,10 @@ fn line<R: Wait, O: Opener>(
     arguments: &[&str],
     opener: &O,
 ) -> Result<String, Fault>
-    ensures line { IfOk result (λ line. IsLine (O.text opener.now) (asked (map (λ argument. argument.now) arguments.now)) (string_bytes line)) }
-    ensures fault { IfErr result (λ fault. IsFault (O.text opener.now) (asked (map (λ argument. argument.now) arguments.now)) fault) }
+    ensures line { IfOk result (λ line. IsLine (O.text opener.now)
+        (asked (map (λ argument. argument.now) arguments.now)) (string_bytes line)) }
+    ensures fault { IfErr result (λ fault. IsFault (O.text opener.now)
+        (asked (map (λ argument. argument.now) arguments.now)) fault) }
 {
     match Request::read(alloc, arguments) {
         Ok(request) => line_of(rt, alloc, request, opener),
@@ -61,8 +64,10 @@ fn line_of<R: Wait, O: Opener>(
     request: Request<'_>,
     opener: &O,
 ) -> Result<String, Fault>
-    ensures line { IfOk result (λ line. IsLine (O.text opener.now) (Some (asked_in request.entry)) (string_bytes line)) }
-    ensures fault { IfErr result (λ fault. IsFault (O.text opener.now) (Some (asked_in request.entry)) fault) }
+    ensures line { IfOk result (λ line. IsLine (O.text opener.now) (Some (asked_in request.entry))
+        (string_bytes line)) }
+    ensures fault { IfErr result (λ fault. IsFault (O.text opener.now)
+        (Some (asked_in request.entry)) fault) }
 {
     match request {
         Request::Key(key) => Ok(key_line(alloc, key)?),
@@ -86,7 +91,8 @@ fn key_line(alloc: Global, key: ClientKey) -> Result<String, AllocError>
 
 /// Writes a fault, and returns its status, or 1 where it can't be written.
 pub fn write_fault<W: Write>(alloc: Global, writer: &mut W, fault: &Fault) -> u8
-    ensures { WritesFault fault.now (record { old = W.contents writer.old; new = W.contents writer.new }) result }
+    ensures { WritesFault fault.now
+        (record { old = W.contents writer.old; new = W.contents writer.new }) result }
 {
     match fault.text(alloc) {
         Ok(text) => write(writer, text.as_str(), fault.status()),
@@ -96,7 +102,8 @@ pub fn write_fault<W: Write>(alloc: Global, writer: &mut W, fault: &Fault) -> u8
 
 // Returns the status, or 1 where the text can't be written whole.
 fn write<W: Write>(writer: &mut W, text: &str, status: u8) -> u8
-    ensures { IsWritten (record { old = W.contents writer.old; new = W.contents writer.new }) text.now status result }
+    ensures { IsWritten (record { old = W.contents writer.old; new = W.contents writer.new })
+        text.now status result }
 {
     if write_whole(writer, text.as_bytes()) && writer.flush().is_ok() {
         status
@@ -107,7 +114,8 @@ fn write<W: Write>(writer: &mut W, text: &str, status: u8) -> u8
 
 // Whether all bytes were written. Otherwise a beginning of them was.
 fn write_whole<W: Write>(writer: &mut W, bytes: &[u8]) -> bool
-    ensures whole { result ≡ true → Appends (W.contents writer.old) (W.contents writer.new) bytes.now }
+    ensures whole { result ≡ true
+        → Appends (W.contents writer.old) (W.contents writer.new) bytes.now }
     ensures part { AppendsPart (W.contents writer.old) (W.contents writer.new) bytes.now }
 {
     let mut taken = 0;

@@ -63,7 +63,8 @@ impl<'a> Shape<'a> {
     }
 
     fn of_option(argument: &'a str) -> Shape<'a>
-        ensures { shape_in result ≡ option_shape (option_named (cut_at 61 argument.now).0) (cut_at 61 argument.now).1 }
+        ensures { shape_in result ≡ option_shape (option_named (cut_at 61 argument.now).0)
+            (cut_at 61 argument.now).1 }
     {
         let (name, value) = cut_at(argument, '=');
         match (OptionName::read(name), value) {
@@ -109,8 +110,12 @@ pub fn ask_help(arguments: &[&str]) -> bool
 
 // The value of an option, which is the first of these arguments.
 fn next_value<'a>(arguments: &[&'a str]) -> Result<&'a str, Wrong<'a>>
-    ensures found { IfOk result (λ value. (map (λ word. word.now) arguments.now ≡ value.now ∷ map (λ word. word.now) (drop 1 arguments.now)) × (is_plain value.now ≡ true)) }
-    ensures none { IfErr result (λ wrong. (name : OptionName) → given_behind (Some name) (map (λ word. word.now) arguments.now) ≡ None) }
+    ensures found { IfOk result (λ value.
+        (map (λ word. word.now) arguments.now
+        ≡ value.now ∷ map (λ word. word.now) (drop 1 arguments.now))
+        × (is_plain value.now ≡ true)) }
+    ensures none { IfErr result (λ wrong. (name : OptionName)
+        → given_behind (Some name) (map (λ word. word.now) arguments.now) ≡ None) }
     ensures some { IfOk result (λ _. 0 < length arguments.now) }
 {
     if arguments.is_empty() {
@@ -139,7 +144,8 @@ pub struct Given<'a> {
 impl<'a> Given<'a> {
     /// What these arguments give.
     pub fn read(alloc: Global, arguments: &[&'a str]) -> Result<Given<'a>, Wrong<'a>>
-        ensures { Finds given_in result (given_by_all (map (λ argument. argument.now) arguments.now)) }
+        ensures { Finds given_in result (given_by_all
+            (map (λ argument. argument.now) arguments.now)) }
     {
         let mut given = Given {
             me: Vec::new(alloc),
@@ -154,7 +160,8 @@ impl<'a> Given<'a> {
         Ok(given)
     }
 
-    // Takes the first of these arguments, and its value where that is the next one. Returns how many it took.
+    // Takes the first of these arguments, and its value where that is the next one. Returns how
+    // many it took.
     fn take(&mut self, arguments: &[&'a str]) -> Result<usize, Wrong<'a>>
         requires { 0 < length arguments.now }
         ensures taken { Takes (given_in self.old) (given_in self.new) arguments.now result }
@@ -180,7 +187,9 @@ impl<'a> Given<'a> {
 
     // Takes one value of an option.
     fn push(&mut self, name: OptionName, value: &'a str) -> Result<(), Wrong<'a>>
-        ensures { MatchResult result (λ _. given_in self.new ≡ joined (given_in self.old) (value_alone name value.now)) (λ wrong. wrong ≡ Wrong.Memory) }
+        ensures { MatchResult result
+            (λ _. given_in self.new ≡ joined (given_in self.old) (value_alone name value.now))
+            (λ wrong. wrong ≡ Wrong.Memory) }
     {
         match name {
             OptionName::Me => self.me.push(value)?,
@@ -192,7 +201,9 @@ impl<'a> Given<'a> {
 
     // Takes one plain argument.
     fn push_plain(&mut self, argument: &'a str) -> Result<(), Wrong<'a>>
-        ensures { MatchResult result (λ _. given_in self.new ≡ joined (given_in self.old) (plain_alone (argument.now ∷ []))) (λ wrong. wrong ≡ Wrong.Memory) }
+        ensures { MatchResult result
+            (λ _. given_in self.new ≡ joined (given_in self.old) (plain_alone (argument.now ∷ [])))
+            (λ wrong. wrong ≡ Wrong.Memory) }
     {
         self.plain.push(argument)?;
         Ok(())
@@ -200,7 +211,10 @@ impl<'a> Given<'a> {
 
     // Takes plain arguments.
     fn take_plain(&mut self, arguments: &[&'a str]) -> Result<(), Wrong<'a>>
-        ensures { MatchResult result (λ _. given_in self.new ≡ joined (given_in self.old) (plain_alone (map (λ word. word.now) arguments.now))) (λ wrong. wrong ≡ Wrong.Memory) }
+        ensures { MatchResult result
+            (λ _. given_in self.new ≡ joined (given_in self.old)
+            (plain_alone (map (λ word. word.now) arguments.now)))
+            (λ wrong. wrong ≡ Wrong.Memory) }
     {
         for argument in arguments {
             self.plain.push(*argument)?;

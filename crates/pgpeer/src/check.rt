@@ -9,11 +9,13 @@ use ini_config::{Group, GroupError, IniCode, IniError, Settings, read_settings};
 use std::alloc::Global;
 use std::io::{Error, ErrorKind, Read};
 
-/// The line that names how many nodes these files make a group of. The files are judged in order, then the group, and
-/// the first fault alone is returned.
+/// The line that names how many nodes these files make a group of. The files are judged in order,
+/// then the group, and the first fault alone is returned.
 pub fn check_line<O: Opener>(alloc: Global, opener: &O, files: &[&str]) -> Result<String, Fault>
-    ensures group { IfOk result (λ line. IsGroupLine (O.text opener.now) (map (λ file. file.now) files.now) (string_bytes line)) }
-    ensures refused { IfErr result (λ fault. IsCheckFault (O.text opener.now) (map (λ file. file.now) files.now) fault) }
+    ensures group { IfOk result (λ line. IsGroupLine (O.text opener.now)
+        (map (λ file. file.now) files.now) (string_bytes line)) }
+    ensures refused { IfErr result (λ fault. IsCheckFault (O.text opener.now)
+        (map (λ file. file.now) files.now) fault) }
 {
     match Group::check(settings_of(alloc, opener, files)?) {
         Ok(group) => {
@@ -25,15 +27,19 @@ pub fn check_line<O: Opener>(alloc: Global, opener: &O, files: &[&str]) -> Resul
 }
 
 fn group_line(alloc: Global, count: usize) -> Result<String, Fault>
-    ensures { MatchResult result (λ line. string_bytes line ≡ group_text count) (λ fault. fault ≡ Fault.Memory) }
+    ensures { MatchResult result
+        (λ line. string_bytes line ≡ group_text count)
+        (λ fault. fault ≡ Fault.Memory) }
 {
     format!(in alloc; "group of {count} nodes\n").map_err(|_| Fault::Memory)
 }
 
 // The settings that the files say, in order.
 fn settings_of<O: Opener>(alloc: Global, opener: &O, files: &[&str]) -> Result<Vec<Settings>, Fault>
-    ensures said { IfOk result (λ nodes. SayInOrder (O.text opener.now) (map (λ file. file.now) files.now) nodes.items) }
-    ensures refused { IfErr result (λ fault. IsCheckFault (O.text opener.now) (map (λ file. file.now) files.now) fault) }
+    ensures said { IfOk result (λ nodes. SayInOrder (O.text opener.now)
+        (map (λ file. file.now) files.now) nodes.items) }
+    ensures refused { IfErr result (λ fault. IsCheckFault (O.text opener.now)
+        (map (λ file. file.now) files.now) fault) }
 {
     let mut nodes = Vec::new(alloc);
     for file in files {
@@ -48,7 +54,8 @@ fn settings_of<O: Opener>(alloc: Global, opener: &O, files: &[&str]) -> Result<V
 // The settings that the file says.
 fn node_of<O: Opener>(alloc: Global, opener: &O, file: &str) -> Result<Settings, Fault>
     ensures said { IfOk result (λ node. Says (O.text opener.now file.now) node) }
-    ensures refused { IfErr result (λ fault. IsFileFault (O.text opener.now file.now) file.now fault) }
+    ensures refused { IfErr result
+        (λ fault. IsFileFault (O.text opener.now file.now) file.now fault) }
 {
     let text = text_of(alloc, opener, file)?;
     match read_settings(alloc, text.as_str()) {
@@ -59,8 +66,10 @@ fn node_of<O: Opener>(alloc: Global, opener: &O, file: &str) -> Result<Settings,
 
 // What the file holds.
 fn text_of<O: Opener>(alloc: Global, opener: &O, file: &str) -> Result<String, Fault>
-    ensures held { IfOk result (λ text. IfSome (O.text opener.now file.now) (λ bytes. string_bytes text ≡ bytes)) }
-    ensures refused { IfErr result (λ fault. IsFileFault (O.text opener.now file.now) file.now fault) }
+    ensures held { IfOk result (λ text. IfSome (O.text opener.now file.now)
+        (λ bytes. string_bytes text ≡ bytes)) }
+    ensures refused { IfErr result
+        (λ fault. IsFileFault (O.text opener.now file.now) file.now fault) }
 {
     let mut text = String::new(alloc);
     let read = match opener.open(file) {
@@ -83,7 +92,8 @@ const OUT_OF_MEMORY: IniError = IniError {
 };
 
 fn in_file(alloc: Global, file: &str, error: IniError) -> Fault
-    ensures { (result ≡ Fault.Memory) ⊎ ((name : String Global) × (string_bytes name ≡ file.now) × (result ≡ Fault.InFile name error)) }
+    ensures { (result ≡ Fault.Memory) ⊎ ((name : String Global) × (string_bytes name ≡ file.now)
+        × (result ≡ Fault.InFile name error)) }
 {
     match String::from_str(alloc, file) {
         Ok(file) => Fault::InFile { file, error },
@@ -92,7 +102,8 @@ fn in_file(alloc: Global, file: &str, error: IniError) -> Fault
 }
 
 fn unread(alloc: Global, file: &str, error: &Error) -> Fault
-    ensures { (result ≡ Fault.Memory) ⊎ ((name reason : String Global) × (string_bytes name ≡ file.now) × (result ≡ Fault.Unread name reason)) }
+    ensures { (result ≡ Fault.Memory) ⊎ ((name reason : String Global)
+        × (string_bytes name ≡ file.now) × (result ≡ Fault.Unread name reason)) }
 {
     let Ok(reason) = format!(in alloc; "{error}") else {
         return Fault::Memory;

@@ -39,15 +39,6 @@ impl CommandName {
             _ => None,
         }
     }
-
-    /// The command's name.
-    pub fn name(self) -> &'static str {
-        match self {
-            CommandName::Key => "key",
-            CommandName::Decide => "decide",
-            CommandName::Check => "check",
-        }
-    }
 }
 
 impl FirstArgument {
@@ -57,15 +48,10 @@ impl FirstArgument {
         ensures { result ≡ first_of argument.now }
     {
         match argument {
-            "-h" => Some(FirstArgument::Help),
-            "--help" => Some(FirstArgument::Help),
-            "-V" => Some(FirstArgument::Version),
-            "--version" => Some(FirstArgument::Version),
+            "-h" | "--help" => Some(FirstArgument::Help),
+            "-V" | "--version" => Some(FirstArgument::Version),
             "help" => Some(FirstArgument::HelpOn),
-            _ => match CommandName::read(argument) {
-                Some(name) => Some(FirstArgument::Command(name)),
-                None => None,
-            },
+            _ => CommandName::read(argument).map(FirstArgument::Command),
         }
     }
 }

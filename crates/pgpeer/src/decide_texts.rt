@@ -21,7 +21,8 @@ pub fn read_decide<'a>(
     live: Option<&'a str>,
     packet: &'a str,
 ) -> Result<DecideRequest, Wrong<'a>>
-    ensures { Finds decision_in result (decision_of me.now (option_map (λ t. t.now) peers.entry) (option_map (λ t. t.now) live.entry) packet.now) }
+    ensures { Finds decision_in result (decision_of me.now (option_map (λ t. t.now) peers.entry)
+        (option_map (λ t. t.now) live.entry) packet.now) }
 {
     let me = own_number(me)?;
     let peers = peer_numbers(alloc, peers)?;

@@ -18,8 +18,9 @@ use pg_ids::PeerNo;
 use std::alloc::Global;
 use std::sync::Wait;
 
-/// The order that a node gives, once these clients have come: each joins with its secret, and then opens its link, if
-/// it has a server's key. There is a slot and a place for a link for each. The node's steps go through its lock.
+/// The order that a node gives, once these clients have come: each joins with its secret, and then
+/// opens its link, if it has a server's key. There is a slot and a place for a link for each. The
+/// node's steps go through its lock.
 pub fn decided<R: Wait>(
     rt: &R,
     alloc: Global,
@@ -33,8 +34,10 @@ pub fn decided<R: Wait>(
     requires numbered { All (λ number. 0 < number) peers.items }
     requires distinct { AllPairs (λ a b. a ≢ b) peers.items }
     ensures { MatchResult result
-        (λ order. IsDecided (plain_settings me peers.items (max (length clients.now) 1) (max (length clients.now) 1)) clients.now key.now order)
-        (λ fault. IsNodeFault (plain_settings me peers.items (max (length clients.now) 1) (max (length clients.now) 1)) fault) }
+        (λ order. IsDecided (plain_settings me peers.items
+        (max (length clients.now) 1) (max (length clients.now) 1)) clients.now key.now order)
+        (λ fault. IsNodeFault (plain_settings me peers.items
+        (max (length clients.now) 1) (max (length clients.now) 1)) fault) }
 {
     let journal = fresh_journal(alloc, me, peers, clients.len().max(1))?;
     let mut held = Held::with_room(alloc, clients.len())?;
@@ -54,7 +57,8 @@ fn fresh_journal(
     requires peers { length peers.items ≤ 64 }
     requires numbered { All (λ number. 0 < number) peers.items }
     requires distinct { AllPairs (λ a b. a ≢ b) peers.items }
-    ensures fresh { IfOk result (λ journal. IsFresh (plain_settings me peers.items places places) journal.view) }
+    ensures fresh { IfOk result (λ journal. IsFresh (plain_settings me peers.items places places)
+        journal.view) }
     ensures database { IfOk result (λ journal. 0 < length journal.view.pools) }
     ensures calls { IfOk result (λ journal. log_all journal.log ≡ 0) }
     ensures memory { IfErr result (λ fault. fault ≡ Fault.Memory) }
@@ -78,11 +82,14 @@ fn ordered<R: Wait>(
     requires none { (vec_len held.old.passes ≡ 0) × (vec_len held.old.leases ≡ 0) }
     requires passes { length clients.now ≤ vec_capacity held.old.passes }
     requires leases { length clients.now ≤ vec_capacity held.old.leases }
-    ensures { MatchResult result (λ order. MayOrder journal.view clients.now key.now order) (λ fault. IsReplyFault journal.view fault) }
+    ensures { MatchResult result
+        (λ order. MayOrder journal.view clients.now key.now order)
+        (λ fault. IsReplyFault journal.view fault) }
 {
     let (shared, mut caller) = Shared::new(alloc, journal)?;
     let order = order_behind(rt, &shared, &mut caller, clients, key, held);
-    // The calls of this caller led to the journal's state: that is what says which replies the node may give.
+    // The calls of this caller led to the journal's state: that is what says which replies the node
+    // may give.
     shared.into_journal(caller);
     match order {
         Ok(order) => Ok(order),
@@ -105,7 +112,9 @@ fn order_behind<R: Wait>(
     requires none { (vec_len held.old.passes ≡ 0) × (vec_len held.old.leases ≡ 0) }
     requires passes { length clients.now ≤ vec_capacity held.old.passes }
     requires leases { length clients.now ≤ vec_capacity held.old.leases }
-    ensures { MatchResult result (λ order. Orders caller.old clients.now key.now order caller.new) (λ reply. Stops caller.old reply caller.new) }
+    ensures { MatchResult result
+        (λ order. Orders caller.old clients.now key.now order caller.new)
+        (λ reply. Stops caller.old reply caller.new) }
 {
     all_come(rt, shared, caller, clients, held)?;
     let (order, ticket) = apart(shared.cancel(rt, caller, key));

@@ -7,7 +7,7 @@ ghost use Rattle.pgpeer.specs.Texts.{fault_text, group_name, ini_name, numbered,
 ghost use Rattle.pgpeer.specs.declared.fault.Fault.TheVariants.{Memory};
 
 use ini_config::{GroupError, IniCode, IniError};
-use std::alloc::{AllocError, AllocFailed, Global};
+use std::alloc::{AllocError, Global};
 
 /// Why there is no answer.
 #[derive(Debug, Drop)]
@@ -54,7 +54,8 @@ pub enum Reply {
 }
 
 impl Fault {
-    /// The status that the program ends with: 2 for its arguments and for settings, 1 for a fault in running.
+    /// The status that the program ends with: 2 for its arguments and for settings, 1 for a fault
+    /// in running.
     pub fn status(&self) -> u8
         ensures { result ≡ status_of self.now }
     {
@@ -84,7 +85,8 @@ impl Fault {
 }
 
 fn in_file_text(alloc: Global, file: &str, error: IniError) -> Result<String, AllocError>
-    ensures { IfOk result (λ text. string_bytes text ≡ file.now ++ codes ":" ++ decimal error.line ++ codes ": " ++ numbered (ini_number error.code) (ini_name error.code)) }
+    ensures { IfOk result (λ text. string_bytes text ≡ file.now ++ codes ":" ++ decimal error.line
+        ++ codes ": " ++ numbered (ini_number error.code) (ini_name error.code)) }
 {
     let line = error.line;
     let number = error.code.number();
@@ -93,7 +95,8 @@ fn in_file_text(alloc: Global, file: &str, error: IniError) -> Result<String, Al
 }
 
 fn unread_text(alloc: Global, file: &str, reason: &str) -> Result<String, AllocError>
-    ensures { IfOk result (λ text. string_bytes text ≡ file.now ++ codes ": " ++ reason.now ++ codes "\n") }
+    ensures { IfOk result (λ text. string_bytes text ≡ file.now ++ codes ": " ++ reason.now
+        ++ codes "\n") }
 {
     format!(in alloc; "{file}: {reason}\n")
 }
@@ -133,7 +136,8 @@ fn group_name(error: GroupError) -> &'static str
 
 impl Reply {
     fn text(self, alloc: Global) -> Result<String, AllocError>
-        ensures { IfOk result (λ text. string_bytes text ≡ codes "unexpected answer: " ++ reply_text self ++ codes "\n") }
+        ensures { IfOk result (λ text. string_bytes text ≡ codes "unexpected answer: "
+            ++ reply_text self ++ codes "\n") }
     {
         match self {
             Reply::Number(number) => format!(in alloc; "unexpected answer: {number}\n"),
@@ -148,14 +152,6 @@ impl From<AllocError> for Fault {
     ghost from_gives = { λ _ fault. fault ≡ Memory };
 
     fn from(_: AllocError) -> Fault {
-        Fault::Memory
-    }
-}
-
-impl<T: Drop> From<AllocFailed<T>> for Fault {
-    ghost from_gives = { λ _ fault. fault ≡ Memory };
-
-    fn from(_: AllocFailed<T>) -> Fault {
         Fault::Memory
     }
 }

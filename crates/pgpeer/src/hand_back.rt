@@ -10,8 +10,9 @@ use locked_node::{Caller, Shared};
 use node_core::StepRefusal;
 use std::sync::Wait;
 
-/// The request of a ticket is reported as failed, since nothing was carried. Then each link is closed, and then each
-/// client leaves. Each value is spent by a step of the node. The first reply that isn't expected ends it.
+/// The request of a ticket is reported as failed, since nothing was carried. Then each link is
+/// closed, and then each client leaves. Each value is spent by a step of the node. The first reply
+/// that isn't expected ends it.
 pub fn hand_back<R: Wait>(
     rt: &R,
     shared: &Shared<NoStream>,
@@ -20,8 +21,11 @@ pub fn hand_back<R: Wait>(
     held: &mut Held,
 ) -> Result<(), Reply>
     requires own { caller.old.lock ≡ shared.now }
-    requires allowance { 1 + vec_len held.old.leases + 2 * vec_len held.old.passes ≤ caller.old.allowance }
-    ensures handed { MatchResult result (λ _. Goes caller.old caller.new) (λ reply. Stops caller.old reply caller.new) }
+    requires allowance { 1 + vec_len held.old.leases + 2 * vec_len held.old.passes
+        ≤ caller.old.allowance }
+    ensures handed { MatchResult result
+        (λ _. Goes caller.old caller.new)
+        (λ reply. Stops caller.old reply caller.new) }
     ensures all { OnOk result ((vec_len held.new.leases ≡ 0) × (vec_len held.new.passes ≡ 0)) }
 {
     report(rt, shared, caller, ticket)?;
@@ -38,7 +42,9 @@ fn report<R: Wait>(
 ) -> Result<(), Reply>
     requires own { caller.old.lock ≡ shared.now }
     requires allowance { 1 ≤ caller.old.allowance }
-    ensures reported { MatchResult result (λ _. Goes caller.old caller.new) (λ reply. Stops caller.old reply caller.new) }
+    ensures reported { MatchResult result
+        (λ _. Goes caller.old caller.new)
+        (λ reply. Stops caller.old reply caller.new) }
     ensures allowance { OnOk result (caller.old.allowance ≤ caller.new.allowance + 1) }
 {
     match ticket {
@@ -56,8 +62,11 @@ fn close_all<R: Wait>(
 ) -> Result<(), Reply>
     requires own { caller.old.lock ≡ shared.now }
     requires allowance { vec_len leases.old ≤ caller.old.allowance }
-    ensures closed { MatchResult result (λ _. Goes caller.old caller.new) (λ reply. Stops caller.old reply caller.new) }
-    ensures allowance { OnOk result (caller.old.allowance ≤ caller.new.allowance + vec_len leases.old) }
+    ensures closed { MatchResult result
+        (λ _. Goes caller.old caller.new)
+        (λ reply. Stops caller.old reply caller.new) }
+    ensures allowance { OnOk result
+        (caller.old.allowance ≤ caller.new.allowance + vec_len leases.old) }
     ensures all { OnOk result (vec_len leases.new ≡ 0) }
 {
     while let Some(lease) = leases.pop() {
@@ -75,7 +84,9 @@ fn leave_all<R: Wait>(
 ) -> Result<(), Reply>
     requires own { caller.old.lock ≡ shared.now }
     requires allowance { 2 * vec_len passes.old ≤ caller.old.allowance }
-    ensures left { MatchResult result (λ _. Goes caller.old caller.new) (λ reply. Stops caller.old reply caller.new) }
+    ensures left { MatchResult result
+        (λ _. Goes caller.old caller.new)
+        (λ reply. Stops caller.old reply caller.new) }
     ensures all { OnOk result (vec_len passes.new ≡ 0) }
 {
     while let Some(pass) = passes.pop() {
@@ -84,8 +95,8 @@ fn leave_all<R: Wait>(
     Ok(())
 }
 
-// A client leaves. Where it holds something it is asked once more; nobody else has this lock, so no answer after that
-// can be another.
+// A client leaves. Where it holds something it is asked once more; nobody else has this lock, so no
+// answer after that can be another.
 fn leave_twice<R: Wait>(
     rt: &R,
     shared: &Shared<NoStream>,
@@ -94,7 +105,9 @@ fn leave_twice<R: Wait>(
 ) -> Result<(), Reply>
     requires own { caller.old.lock ≡ shared.now }
     requires allowance { 2 ≤ caller.old.allowance }
-    ensures left { MatchResult result (λ _. Goes caller.old caller.new) (λ reply. Stops caller.old reply caller.new) }
+    ensures left { MatchResult result
+        (λ _. Goes caller.old caller.new)
+        (λ reply. Stops caller.old reply caller.new) }
     ensures allowance { OnOk result (caller.old.allowance ≤ caller.new.allowance + 2) }
 {
     let Some(pass) = leave(rt, shared, caller, pass)? else {

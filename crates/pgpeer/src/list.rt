@@ -19,7 +19,8 @@ pub fn only_one<'a>(texts: &[&'a str]) -> Result<&'a str, Wrong<'a>>
 
 /// The one text of a list, or none.
 pub fn at_most_one<'a>(texts: &[&'a str]) -> Result<Option<&'a str>, Wrong<'a>>
-    ensures { Reads (option_map (λ text. text.now)) result (at_most_one (map (λ text. text.now) texts.now)) }
+    ensures { Reads (option_map (λ text. text.now)) result
+        (at_most_one (map (λ text. text.now) texts.now)) }
 {
     match texts {
         [] => Ok(None),
@@ -44,7 +45,8 @@ pub trait Item: Sized {
 
 /// The items between the commas of a text, and none where there is no text.
 pub fn items<'a, T: Item + Drop>(alloc: Global, text: Option<&'a str>) -> Result<Vec<T>, Wrong<'a>>
-    ensures value { Finds (λ found. found.items) result (each T.item_of (between_commas (option_map (λ t. t.now) text.entry))) }
+    ensures value { Finds (λ found. found.items) result
+        (each T.item_of (between_commas (option_map (λ t. t.now) text.entry))) }
     ensures holds { IfOk result (λ found. All T.holds found.items) }
 {
     let texts = between_commas(alloc, text)?;
@@ -58,7 +60,8 @@ pub fn items<'a, T: Item + Drop>(alloc: Global, text: Option<&'a str>) -> Result
 
 // The texts between the commas of a text, and none where there is no text.
 fn between_commas(alloc: Global, text: Option<&str>) -> Result<Vec<&str>, AllocError>
-    ensures { IfOk result (λ texts. map (λ t. t.now) texts.items ≡ between_commas (option_map (λ t. t.now) text.entry)) }
+    ensures { IfOk result (λ texts. map (λ t. t.now) texts.items
+        ≡ between_commas (option_map (λ t. t.now) text.entry)) }
 {
     match text {
         Some(text) => text.split(',').collect(alloc),

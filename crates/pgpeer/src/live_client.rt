@@ -21,7 +21,8 @@ pub const CLIENTS: usize = 65535;
 pub struct LiveClient {
     /// Its slot's secret.
     pub secret: Secret,
-    /// The key of the link that it holds, by which the link's server cancels; none where it holds no link.
+    /// The key of the link that it holds, by which the link's server cancels; none where it holds
+    /// no link.
     pub server_key: Option<ServerKey>,
 }
 
@@ -37,7 +38,8 @@ impl Item for LiveClient {
 
 /// The clients that a text names, at most 65535, each by `SECRET` or `SECRET:KEYHEX`.
 pub fn live_clients<'a>(alloc: Global, text: Option<&'a str>) -> Result<Vec<LiveClient>, Wrong<'a>>
-    ensures value { Finds (λ clients. clients.items) result (clients_of (option_map (λ t. t.now) text.entry)) }
+    ensures value { Finds (λ clients. clients.items) result
+        (clients_of (option_map (λ t. t.now) text.entry)) }
     ensures limit { IfOk result (λ clients. length clients.items ≤ 65535) }
 {
     let clients = items::<LiveClient>(alloc, text)?;

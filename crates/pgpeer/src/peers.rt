@@ -48,7 +48,8 @@ fn number<'a>(place: Place, least: u32, text: &'a str) -> Result<PeerNo, Wrong<'
 
 /// The peers that a text names, at most 64 and none twice.
 pub fn peer_numbers<'a>(alloc: Global, text: Option<&'a str>) -> Result<Vec<PeerNo>, Wrong<'a>>
-    ensures value { Finds (λ peers. peers.items) result (peers_of (option_map (λ t. t.now) text.entry)) }
+    ensures value { Finds (λ peers. peers.items) result
+        (peers_of (option_map (λ t. t.now) text.entry)) }
     ensures limit { IfOk result (λ peers. length peers.items ≤ 64) }
     ensures numbered { IfOk result (λ peers. All (λ number. 0 < number) peers.items) }
     ensures distinct { IfOk result (λ peers. AllPairs (λ a b. a ≢ b) peers.items) }

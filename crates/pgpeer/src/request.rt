@@ -66,7 +66,8 @@ impl<'a> Request<'a> {
         name: CommandName,
         arguments: &[&'a str],
     ) -> Result<Request<'a>, Wrong<'a>>
-        ensures { Finds asked_in result (asked_behind (Command name) (map (λ argument. argument.now) arguments.now)) }
+        ensures { Finds asked_in result (asked_behind (Command name)
+            (map (λ argument. argument.now) arguments.now)) }
     {
         if ask_help(arguments) {
             return Ok(Request::Help(Some(name)));

@@ -1,4 +1,5 @@
-//! The steps of a node behind its lock, each with the reply that is expected, or the one that came in its place.
+//! The steps of a node behind its lock, each with the reply that is expected, or the one that came
+//! in its place.
 ghost use Rattle.std.specs.Prelude.{◌≡◌, ◌<◌, ℕ, Ok, Some, List, MatchResult, length};
 ghost use Rattle.lease.specs.declared.pass.PassRecord.{PassRecord};
 ghost use Rattle.lease.specs.declared.permit.PermitRecord.{PermitRecord};

@@ -8,9 +8,9 @@ use std::test::Fail;
 
 mod files;
 mod groups;
+mod help;
 mod keys;
 mod limits;
-mod links;
 mod orders;
 mod packets;
 mod usage;
@@ -37,7 +37,8 @@ fn answered(rt: &(impl Wait + Alloc<A = Global>), words: &[&str]) -> Answer {
     Answer { status, out, err }
 }
 
-// These arguments are answered with this status, and these texts on standard output and standard error.
+// These arguments are answered with this status, and these texts on standard output and standard
+// error.
 #[track_caller]
 fn expect_answer(
     rt: &(impl Abort + Wait + Alloc<A = Global>),
@@ -50,6 +51,18 @@ fn expect_answer(
     assert_eq!(rt; answer.status, status, "{words:?}");
     assert_eq!(rt; answer.out.as_slice(), out.as_bytes(), "{words:?}");
     assert_eq!(rt; answer.err.as_slice(), err.as_bytes(), "{words:?}");
+}
+
+// Each line of arguments is answered with status 0 and its line on standard output.
+#[track_caller]
+fn expect_lines(
+    rt: &(impl Abort + Wait + Alloc<A = Global>),
+    lines: &[(&str, &str)],
+) -> Result<(), Fail> {
+    for (line, out) in lines {
+        expect_line(rt, line, 0, out, "")?;
+    }
+    Ok(())
 }
 
 // The same of a line of arguments with a space between.
@@ -66,24 +79,37 @@ fn expect_line(
     Ok(())
 }
 
-// These arguments are refused: status 2, nothing on standard output, and on standard error this line, the usage of
-// the command and where help is.
+// These arguments are refused: status 2, nothing on standard output, and on standard error this
+// fault, the usage of the command and where help is.
 #[track_caller]
 fn expect_refused(
     rt: &(impl Abort + Wait + Alloc<A = Global>),
     words: &[&str],
-    line: &str,
+    fault: &str,
     usage: &str,
 ) -> Result<(), Fail> {
     let text = format!(in rt.alloc();
-        "error: {line}\n\nUsage: pgpeer {usage}\n\nFor more information, try '--help'.\n"
+        "error: {fault}\n\nUsage: pgpeer {usage}\n\nFor more information, try '--help'.\n"
     )?;
     expect_answer(rt, words, 2, "", text.as_str());
     Ok(())
 }
 
-const DECIDE: &str = "decide --me N [--peers P,P..] [--live C,C..] HEX";
-
-fn contains(text: &[u8], part: &[u8]) -> bool {
-    text.windows(part.len().max(1)).any(|window| window == part)
+// The same of a line of arguments with a space between.
+#[track_caller]
+fn expect_refused_line(
+    rt: &(impl Abort + Wait + Alloc<A = Global>),
+    line: &str,
+    fault: &str,
+    usage: &str,
+) -> Result<(), Fail> {
+    let words: Vec<&str> = line.split(' ').collect(rt.alloc())?;
+    expect_refused(rt, &words, fault, usage)
 }
+
+// The usage of each command.
+const KEY: &str = "key <HEX16>";
+
+const DECIDE: &str = "decide --me <N> [--peers <P,P..>] [--live <C,C..>] <HEX>";
+
+const CHECK: &str = "check <FILE>...";

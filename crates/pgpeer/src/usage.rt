@@ -4,8 +4,6 @@ ghost use Rattle.pgpeer.specs.Answer.{IsUsage};
 
 use crate::command_name::CommandName;
 use crate::fault::Fault;
-use crate::live_client::CLIENTS;
-use crate::peers::PEERS;
 use crate::wrong::{Place, Wrong};
 use clap::error::ErrorKind;
 use clap::{Arg, Command};
@@ -91,37 +89,45 @@ fn value_text(alloc: Global, place: Place, value: &str) -> Result<String, AllocE
 }
 
 fn message(alloc: Global, place: Place, value: &str) -> Result<String, AllocError> {
+    let argument = argument(place);
+    let expected = expected(place);
     match place {
+        Place::PeerTooMany | Place::ClientTooMany => {
+            format!(in alloc; "too many values for '{argument}': {expected}")
+        }
         Place::Key => {
             let given = value.chars().count();
             format!(in alloc;
-                "invalid value '{value}' for '<HEX16>': expected 16 hexadecimal digits, found {given} characters"
+                "invalid value '{value}' for '{argument}': {expected}, found {given} characters"
             )
         }
-        Place::Me => format!(in alloc;
-            "invalid value '{value}' for '--me <N>': expected a number from 0 to 16383"
-        ),
-        Place::Peer => format!(in alloc;
-            "invalid value '{value}' for '--peers <P,P..>': expected numbers from 1 to 16383"
-        ),
-        Place::PeerAgain => format!(in alloc;
-            "invalid value '{value}' for '--peers <P,P..>': a number is there twice"
-        ),
-        Place::PeerTooMany => format!(in alloc;
-            "too many values for '--peers <P,P..>': expected at most {PEERS}"
-        ),
-        Place::Secret => format!(in alloc;
-            "invalid value '{value}' for '--live <C,C..>': expected secrets from 0 to 4294967295"
-        ),
-        Place::ServerKey => format!(in alloc;
-            "invalid value '{value}' for '--live <C,C..>': expected 16 hexadecimal digits behind the colon"
-        ),
-        Place::ClientTooMany => format!(in alloc;
-            "too many values for '--live <C,C..>': expected at most {CLIENTS}"
-        ),
-        Place::Packet => format!(in alloc;
-            "invalid value '{value}' for '<HEX>': expected an even number of hexadecimal digits"
-        ),
+        _ => format!(in alloc; "invalid value '{value}' for '{argument}': {expected}"),
+    }
+}
+
+// The argument that a value is of, as the usage of its command names it.
+fn argument(place: Place) -> &'static str {
+    match place {
+        Place::Key => "<HEX16>",
+        Place::Me => "--me <N>",
+        Place::Peer | Place::PeerAgain | Place::PeerTooMany => "--peers <P,P..>",
+        Place::Secret | Place::ServerKey | Place::ClientTooMany => "--live <C,C..>",
+        Place::Packet => "<HEX>",
+    }
+}
+
+// What is expected there, or what else is wrong with a value.
+fn expected(place: Place) -> &'static str {
+    match place {
+        Place::Key => "expected 16 hexadecimal digits",
+        Place::Me => "expected a number from 0 to 16383",
+        Place::Peer => "expected numbers from 1 to 16383",
+        Place::PeerAgain => "a number is there twice",
+        Place::PeerTooMany => "expected at most 64",
+        Place::Secret => "expected secrets from 0 to 4294967295",
+        Place::ServerKey => "expected 16 hexadecimal digits behind the colon",
+        Place::ClientTooMany => "expected at most 65535",
+        Place::Packet => "expected an even number of hexadecimal digits",
     }
 }
 
@@ -130,7 +136,7 @@ fn program<'a>(alloc: Global) -> Result<Command<'a>, AllocError> {
         .bin_name("pgpeer")?
         .version("0.1.0")
         .about("A peered group of PostgreSQL connection poolers")
-        .after_help(PROGRAM_EXAMPLES)
+        .after_help(AFTER_PROGRAM)
         .no_binary_name(true)
         .subcommand_required(true)
         .arg_required_else_help(true)
@@ -139,23 +145,54 @@ fn program<'a>(alloc: Global) -> Result<Command<'a>, AllocError> {
         .subcommand(check_command(alloc)?)
 }
 
-const PROGRAM_EXAMPLES: &str =
-    "Examples:\n  pgpeer key 0008000000000007\n  pgpeer decide --me 1 --peers 2 0000001004d2162e0008000000000007\n  pgpeer check node1.ini node2.ini";
+const AFTER_PROGRAM: &str = "\
+Exit status:
+  0  the answer is on standard output
+  1  a file can't be read, the packet is no cancel request, memory ran out, or writing failed
+  2  the arguments, a settings file or the group are refused
+
+Examples:
+  pgpeer key 0008000000000007
+  pgpeer decide --me 1 --peers 2 0000001004d2162e0008000000000007
+  pgpeer check node1.ini node2.ini";
+
+// A command without its arguments.
+fn command<'a>(alloc: Global, name: CommandName) -> Result<Command<'a>, AllocError> {
+    let (name, whole_name, about, after) = match name {
+        CommandName::Key => (
+            "key",
+            "pgpeer key",
+            "Print the parts of a cancel key",
+            AFTER_KEY,
+        ),
+        CommandName::Decide => (
+            "decide",
+            "pgpeer decide",
+            "Print what a pooler does with a cancel request",
+            AFTER_DECIDE,
+        ),
+        CommandName::Check => (
+            "check",
+            "pgpeer check",
+            "Check that settings files make a group",
+            AFTER_CHECK,
+        ),
+    };
+    let command = Command::new(alloc, name).bin_name(whole_name)?;
+    Ok(command.about(about).after_help(after))
+}
 
 fn key_command<'a>(alloc: Global) -> Result<Command<'a>, AllocError> {
     let key = Arg::new(alloc, "HEX16")
         .required(true)
-        .help("The key's eight bytes, as 16 hexadecimal digits");
-    Command::new(alloc, "key")
-        .bin_name("pgpeer key")?
-        .override_usage("pgpeer key HEX16")
-        .about("Print the parts of a cancel key")
-        .after_help(KEY_EXAMPLES)
-        .arg(key)
+        .help("The key's eight bytes, in 16 hexadecimal digits");
+    command(alloc, CommandName::Key)?.arg(key)
 }
 
-const KEY_EXAMPLES: &str =
-    "Example:\n  pgpeer key 0008000000000007\n  peer 2 slot 0 secret 1 hops 3";
+const AFTER_KEY: &str = "\
+Example:
+  $ pgpeer key 0008000000000007
+  peer 2 slot 0 secret 1 hops 3";
 
 fn decide_command<'a>(alloc: Global) -> Result<Command<'a>, AllocError> {
     let me = Arg::new(alloc, "me")
@@ -170,37 +207,48 @@ fn decide_command<'a>(alloc: Global) -> Result<Command<'a>, AllocError> {
     let live = Arg::new(alloc, "live")
         .long("live")
         .value_name("C,C..")
-        .help(
-            "Its clients in the order of their logins, at most 65535; each C is SECRET, or SECRET:KEYHEX for a client that holds a link, with the server's key in 16 hexadecimal digits",
-        );
+        .help(LIVE);
     let packet = Arg::new(alloc, "HEX")
         .required(true)
         .help("The first packet of a connection, in hexadecimal digits");
-    Command::new(alloc, "decide")
-        .bin_name("pgpeer decide")?
-        .override_usage("pgpeer decide --me N [--peers P,P..] [--live C,C..] HEX")
-        .about("Print what a pooler does with a cancel request")
-        .after_help(DECIDE_EXAMPLES)
+    command(alloc, CommandName::Decide)?
+        .override_usage("pgpeer decide --me <N> [--peers <P,P..>] [--live <C,C..>] <HEX>")
         .arg(me)?
         .arg(peers)?
         .arg(live)?
         .arg(packet)
 }
 
-const DECIDE_EXAMPLES: &str =
-    "Examples:\n  pgpeer decide --me 1 --peers 2 0000001004d2162e0008000000000007\n  forward 2 0000001004d2162e0008000000000006\n\n  pgpeer decide --me 2 --live 1:1112131415161718 0000001004d2162e0008000000000007\n  serve 1112131415161718";
+const LIVE: &str = "\
+Its clients in the order of their logins, at most 65535, each by its secret,
+0 to 4294967295, or as SECRET:KEYHEX if it has a server connection, with that
+connection's cancel key in 16 hexadecimal digits";
+
+const AFTER_DECIDE: &str = "\
+Output, one of:
+  serve KEYHEX     the client's server is asked to cancel, by this key
+  forward P HEX32  the request goes on to peer P, as these 16 bytes
+  refused 60       the request may pass through no more poolers
+  refused 61       no client has the key's slot and secret
+  refused 62       the key's pooler is no peer
+  refused 63       the client has no server connection
+
+Examples:
+  $ pgpeer decide --me 1 --peers 2 0000001004d2162e0008000000000007
+  forward 2 0000001004d2162e0008000000000006
+
+  $ pgpeer decide --me 2 --live 1:1112131415161718 0000001004d2162e0008000000000007
+  serve 1112131415161718";
 
 fn check_command<'a>(alloc: Global) -> Result<Command<'a>, AllocError> {
     let files = Arg::new(alloc, "FILE")
         .required(true)
         .num_args(1..)
-        .help("Settings files, one for each node of the group");
-    Command::new(alloc, "check")
-        .bin_name("pgpeer check")?
-        .override_usage("pgpeer check FILE..")
-        .about("Check that settings files make a group")
-        .after_help(CHECK_EXAMPLES)
-        .arg(files)
+        .help("Settings files, one for each pooler of the group");
+    command(alloc, CommandName::Check)?.arg(files)
 }
 
-const CHECK_EXAMPLES: &str = "Example:\n  pgpeer check node1.ini node2.ini\n  group of 2 nodes";
+const AFTER_CHECK: &str = "\
+Example:
+  $ pgpeer check node1.ini node2.ini
+  group of 2 nodes";

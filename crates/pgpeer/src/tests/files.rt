@@ -22,19 +22,25 @@ pub struct Files<'a> {
 }
 
 const SMALL: &str =
-    "[pgbouncer]\npool_mode = transaction\nauth_type = trust\nlisten_addr = 127.0.0.1\nlisten_port = 7001\npeer_id = 1\n[databases]\nshop = host=127.0.0.1 port=7100 user=app pool_size=2\n[peers]\n2 = host=127.0.0.1 port=7002\n";
+    "[pgbouncer]\npool_mode = transaction\nauth_type = trust\nlisten_addr = 127.0.0.1\n\
+     listen_port = 7001\npeer_id = 1\n[databases]\n\
+     shop = host=127.0.0.1 port=7100 user=app pool_size=2\n[peers]\n\
+     2 = host=127.0.0.1 port=7002\n";
 
 const TWO: &str =
-    "[pgbouncer]\npool_mode = transaction\nauth_type = trust\nlisten_addr = 127.0.0.1\npeer_id = 2\n[peers]\n1 = host=127.0.0.1 port=7001\n";
+    "[pgbouncer]\npool_mode = transaction\nauth_type = trust\nlisten_addr = 127.0.0.1\n\
+     peer_id = 2\n[peers]\n1 = host=127.0.0.1 port=7001\n";
 
 const TWO_ALONE: &str =
-    "[pgbouncer]\npool_mode = transaction\nauth_type = trust\nlisten_addr = 127.0.0.1\npeer_id = 2\n";
+    "[pgbouncer]\npool_mode = transaction\nauth_type = trust\nlisten_addr = 127.0.0.1\n\
+     peer_id = 2\n";
 
 const ZERO: &str =
     "[pgbouncer]\npool_mode = transaction\nauth_type = trust\nlisten_addr = 127.0.0.1\n";
 
 const LARGE_NUMBER: &str =
-    "[pgbouncer]\npool_mode = transaction\nauth_type = trust\nlisten_addr = 127.0.0.1\nlisten_port = 7001\npeer_id = 16384\n";
+    "[pgbouncer]\npool_mode = transaction\nauth_type = trust\nlisten_addr = 127.0.0.1\n\
+     listen_port = 7001\npeer_id = 16384\n";
 
 // The files of all tests.
 pub fn all_files() -> [TextFile; 8] {
@@ -89,7 +95,8 @@ impl Opener for Files<'_> {
     ghost use Rattle.std.specs.Option.{option_map};
     ghost use Rattle.std.specs.Str.{bytes_eq};
 
-    ghost text = { λ files name. option_map (λ entry. entry.text.now) (find (λ entry. bytes_eq entry.name.now name) files.entries.now) };
+    ghost text = { λ files name. option_map (λ entry. entry.text.now)
+        (find (λ entry. bytes_eq entry.name.now name) files.entries.now) };
 
     fn open(&self, name: &str) -> io::Result<Text> {
         match found(self.entries, name) {

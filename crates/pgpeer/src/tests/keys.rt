@@ -1,5 +1,5 @@
 //! The parts of a key.
-use super::expect_line;
+use super::expect_lines;
 use std::test::Fail;
 
 // A key's digits, and its line.
@@ -19,8 +19,5 @@ const KEYS: [(&str, &str); 5] = [
 
 #[test]
 fn keys(rt: HostRuntime) -> Result<(), Fail> {
-    for (words, line) in KEYS {
-        expect_line(&rt, words, 0, line, "")?;
-    }
-    Ok(())
+    expect_lines(&rt, &KEYS)
 }

@@ -12,24 +12,13 @@ fn peers(rt: HostRuntime) -> Result<(), Fail> {
     for number in 2..65 {
         peers.push_str(format!(in alloc; ",{number}")?.as_str())?;
     }
-    let forward = "forward 2 0000001004d2162e0008000000000006\n";
-    expect_among_peers(&rt, peers.as_str(), 0, forward, "");
-    peers.push_str(",65")?;
-    let many = "too many values for '--peers <P,P..>': expected at most 64";
     let words = ["decide", "--me", "1", "--peers", peers.as_str(), ONE];
+    let forward = "forward 2 0000001004d2162e0008000000000006\n";
+    expect_answer(&rt, &words, 0, forward, "");
+    peers.push_str(",65")?;
+    let words = ["decide", "--me", "1", "--peers", peers.as_str(), ONE];
+    let many = "too many values for '--peers <P,P..>': expected at most 64";
     expect_refused(&rt, &words, many, DECIDE)
-}
-
-#[track_caller]
-fn expect_among_peers(
-    rt: &(impl Abort + Wait + Alloc<A = Global>),
-    peers: &str,
-    status: u8,
-    out: &str,
-    err: &str,
-) {
-    let words = ["decide", "--me", "1", "--peers", peers, ONE];
-    expect_answer(rt, &words, status, out, err);
 }
 
 // Requests for slots 59,999 and 60,000 of pooler 2, with secret 7 and hops 3.
@@ -40,9 +29,20 @@ const PAST: &str = "0000001004d2162e000ba9800000001f";
 #[test]
 fn sixty_thousand_clients(rt: HostRuntime) -> Result<(), Fail> {
     let live = repeated(rt.alloc(), "7", 60000)?;
-    expect_among_clients(&rt, live.as_str(), LAST, 0, "refused 63\n", "");
-    expect_among_clients(&rt, live.as_str(), PAST, 0, "refused 61\n", "");
+    expect_among(&rt, live.as_str(), LAST, "refused 63\n");
+    expect_among(&rt, live.as_str(), PAST, "refused 61\n");
     Ok(())
+}
+
+#[track_caller]
+fn expect_among(
+    rt: &(impl Abort + Wait + Alloc<A = Global>),
+    live: &str,
+    packet: &str,
+    line: &str,
+) {
+    let words = ["decide", "--me", "2", "--live", live, packet];
+    expect_answer(rt, &words, 0, line, "");
 }
 
 #[test]
@@ -61,17 +61,4 @@ fn repeated(alloc: Global, word: &str, count: u32) -> Result<String, Fail> {
         text.push_str(word)?;
     }
     Ok(text)
-}
-
-#[track_caller]
-fn expect_among_clients(
-    rt: &(impl Abort + Wait + Alloc<A = Global>),
-    live: &str,
-    packet: &str,
-    status: u8,
-    out: &str,
-    err: &str,
-) {
-    let words = ["decide", "--me", "2", "--live", live, packet];
-    expect_answer(rt, &words, status, out, err);
 }

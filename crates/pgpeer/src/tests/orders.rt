@@ -1,9 +1,10 @@
-//! What a node does with a request, where none of its clients holds a link.
-use super::expect_line;
+//! What a node does with a request.
+use super::expect_lines;
 use std::test::Fail;
 
 // The arguments, and the order.
-const ORDERS: [(&str, &str); 13] = [
+const ORDERS: [(&str, &str); 33] = [
+    // None of its clients holds a link.
     (
         "decide --me 1 --peers 2 0000001004d2162e0008000000000007",
         "forward 2 0000001004d2162e0008000000000006\n",
@@ -56,18 +57,69 @@ const ORDERS: [(&str, &str); 13] = [
         "decide --me 2 --live 4294967295 0000001004d2162e00080003ffffffff",
         "refused 63\n",
     ),
-];
-
-#[test]
-fn orders(rt: HostRuntime) -> Result<(), Fail> {
-    for (words, line) in ORDERS {
-        expect_line(&rt, words, 0, line, "")?;
-    }
-    Ok(())
-}
-
-// Options in other orders and forms.
-const OTHER_ORDERS: [(&str, &str); 6] = [
+    // Clients of it hold links.
+    (
+        "decide --me 2 --live 1:1112131415161718 0000001004d2162e0008000000000004",
+        "refused 60\n",
+    ),
+    (
+        "decide --me 2 --live 1:1112131415161718 0000001004d2162e0008000000000005",
+        "serve 1112131415161718\n",
+    ),
+    (
+        "decide --me 2 --live 1:1112131415161718 0000001004d2162e0008000000000007",
+        "serve 1112131415161718\n",
+    ),
+    (
+        "decide --me 2 --live 1:1112131415161718 0000001004d2162e000800000000000b",
+        "refused 61\n",
+    ),
+    (
+        "decide --me 2 --live 1:1112131415161718 0000001004d2162e0008000400000007",
+        "refused 61\n",
+    ),
+    (
+        "decide --me 1 --peers 2 --live 1:1112131415161718 0000001004d2162e0008000000000007",
+        "forward 2 0000001004d2162e0008000000000006\n",
+    ),
+    // Either case is read, and lower case is printed.
+    (
+        "decide --me 2 --live 1:ABCDEFabcdef0099 0000001004d2162e0008000000000007",
+        "serve abcdefabcdef0099\n",
+    ),
+    (
+        "decide --me 2 --live 4294967295:ffffffffffffffff 0000001004d2162e00080003ffffffff",
+        "serve ffffffffffffffff\n",
+    ),
+    // Two links: each request gets the key of its own client's.
+    (
+        "decide --me 2 --live 1:1112131415161718,5:2122232425262728 \
+         0000001004d2162e0008000000000007",
+        "serve 1112131415161718\n",
+    ),
+    (
+        "decide --me 2 --live 1:1112131415161718,5:2122232425262728 \
+         0000001004d2162e0008000400000017",
+        "serve 2122232425262728\n",
+    ),
+    // One of two clients holds a link.
+    (
+        "decide --me 2 --live 1,5:2122232425262728 0000001004d2162e0008000000000007",
+        "refused 63\n",
+    ),
+    (
+        "decide --me 2 --live 1,5:2122232425262728 0000001004d2162e0008000400000017",
+        "serve 2122232425262728\n",
+    ),
+    (
+        "decide --me 2 --live 1:1112131415161718,5 0000001004d2162e0008000000000007",
+        "serve 1112131415161718\n",
+    ),
+    (
+        "decide --me 2 --live 1:1112131415161718,5 0000001004d2162e0008000400000017",
+        "refused 63\n",
+    ),
+    // Options in other orders and forms.
     (
         "decide 0000001004d2162e0008000000000007 --me 1 --peers 2",
         "forward 2 0000001004d2162e0008000000000006\n",
@@ -95,9 +147,6 @@ const OTHER_ORDERS: [(&str, &str); 6] = [
 ];
 
 #[test]
-fn options_in_other_orders(rt: HostRuntime) -> Result<(), Fail> {
-    for (words, line) in OTHER_ORDERS {
-        expect_line(&rt, words, 0, line, "")?;
-    }
-    Ok(())
+fn orders(rt: HostRuntime) -> Result<(), Fail> {
+    expect_lines(&rt, &ORDERS)
 }

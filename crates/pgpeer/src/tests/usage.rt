@@ -1,46 +1,79 @@
-//! What the parser of options says.
-use super::{ONE, answered, contains};
+//! Arguments that aren't those of a command: the fault, and the usage of the command.
+use super::{CHECK, DECIDE, KEY, expect_line, expect_refused_line};
+use std::test::Fail;
 
-// What it refuses: status 2, nothing on standard output, and a text that says how it is right.
+const MISSING: &str = "the following required arguments were not provided:";
+
+// The arguments, what is wrong with them, and the usage.
+const FAULTS: [(&str, &str, &str); 8] = [
+    ("unknown", "unrecognized subcommand 'unknown'", "<COMMAND>"),
+    (
+        "key 0008000000000007 0008000000000006",
+        "unexpected argument '0008000000000006' found",
+        KEY,
+    ),
+    (
+        "key --me 1",
+        "unexpected argument '--me' found\n\n  tip: to pass '--me' as a value, use '-- --me'",
+        KEY,
+    ),
+    (
+        "check --live=1 small",
+        "unexpected argument '--live' found\n\n  tip: to pass '--live' as a value, use '-- --live'",
+        CHECK,
+    ),
+    (
+        "decide --me 1 --me 2 00",
+        "the argument '--me <N>' cannot be used multiple times",
+        DECIDE,
+    ),
+    (
+        "decide --me 1 --peer 00",
+        "unexpected argument '--peer' found\n\n  tip: a similar argument exists: '--peers'",
+        DECIDE,
+    ),
+    (
+        "decide --me 1 -x 00",
+        "unexpected argument '-x' found\n\n  tip: to pass '-x' as a value, use '-- -x'",
+        DECIDE,
+    ),
+    (
+        "decide --me 1 00 01",
+        "unexpected argument '01' found",
+        DECIDE,
+    ),
+];
+
 #[test]
-fn refused(rt: HostRuntime) {
-    for words in [
-        [].as_slice(),
-        &["unknown"],
-        &["key"],
-        &["key", "0008000000000007", "0008000000000007"],
-        &["check"],
-        &["decide"],
-        &["decide", ONE],
-        &["decide", "--me", "1"],
-        &["decide", "--me", "1", "--me", "2", ONE],
-        &["decide", "--me", "1", "--peer", ONE],
-        &["decide", "--me", "1", ONE, ONE],
-    ] {
-        let answer = answered(&rt, words);
-        assert_eq!(rt; answer.status, 2, "{words:?}");
-        assert!(rt; answer.out.is_empty(), "{words:?}");
-        assert!(rt; contains(&answer.err, b"pgpeer"), "{words:?}");
+fn refused(rt: HostRuntime) -> Result<(), Fail> {
+    for (words, fault, usage) in FAULTS {
+        expect_refused_line(&rt, words, fault, usage)?;
     }
+    Ok(())
 }
 
+// The arguments, those that are missing, and the usage.
+const MISSING_ARGUMENTS: [(&str, &str, &str); 5] = [
+    ("key", "<HEX16>", KEY),
+    ("check", "<FILE>...", CHECK),
+    ("decide", "--me <N>\n  <HEX>", DECIDE),
+    ("decide 00", "--me <N>", DECIDE),
+    ("decide --me 1", "<HEX>", DECIDE),
+];
+
 #[test]
-fn help(rt: HostRuntime) {
-    let answer = answered(&rt, &["decide", "--help"]);
-    assert_eq!(rt; answer.status, 0);
-    assert!(rt; contains(&answer.out, b"--peers <P,P..>"));
-    assert!(rt; contains(&answer.out, b"--live <C,C..>"));
-    assert!(rt; contains(&answer.out, b"SECRET:KEYHEX"));
-    assert!(rt; answer.err.is_empty());
+fn missing_arguments(rt: HostRuntime) -> Result<(), Fail> {
+    for (words, missing, usage) in MISSING_ARGUMENTS {
+        let fault = format!(in rt.alloc(); "{MISSING}\n  {missing}")?;
+        expect_refused_line(&rt, words, fault.as_str(), usage)?;
+    }
+    Ok(())
 }
 
-// A word that begins with a hyphen is an option, wherever it stands.
+// Here the usage isn't named.
 #[test]
-fn help_in_place_of_a_value(rt: HostRuntime) {
-    for words in [["decide", "--me", "1", "-h"].as_slice(), &["check", "-h"]] {
-        let answer = answered(&rt, words);
-        assert_eq!(rt; answer.status, 0, "{words:?}");
-        assert!(rt; contains(&answer.out, b"Usage: pgpeer"), "{words:?}");
-        assert!(rt; answer.err.is_empty(), "{words:?}");
-    }
+fn missing_value(rt: HostRuntime) -> Result<(), Fail> {
+    let text = "error: a value is required for '--peers <P,P..>' but none was supplied\n\n\
+        For more information, try '--help'.\n";
+    expect_line(&rt, "decide --me 1 --peers", 2, "", text)
 }

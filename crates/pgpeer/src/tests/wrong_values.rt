@@ -1,5 +1,5 @@
 //! Values that there may not be: the line names the value, its place, and what is expected.
-use super::{DECIDE, ONE, expect_refused};
+use super::{DECIDE, KEY, ONE, expect_refused};
 use std::test::Fail;
 
 // The digits, and how many characters they are.
@@ -10,13 +10,15 @@ const KEYS: [(&str, &str); 4] = [
     ("", "0"),
 ];
 
+const SIXTEEN: &str = "expected 16 hexadecimal digits";
+
 #[test]
 fn keys(rt: HostRuntime) -> Result<(), Fail> {
     for (digits, count) in KEYS {
         let line = format!(in rt.alloc();
-            "invalid value '{digits}' for '<HEX16>': expected 16 hexadecimal digits, found {count} characters"
+            "invalid value '{digits}' for '<HEX16>': {SIXTEEN}, found {count} characters"
         )?;
-        expect_refused(&rt, &["key", digits], line.as_str(), "key HEX16")?;
+        expect_refused(&rt, &["key", digits], line.as_str(), KEY)?;
     }
     Ok(())
 }

@@ -11,7 +11,8 @@ loop-preserved g c =
     elim c.match-write.branch [
       | in-Ok w ↦ rw w.taken-is (
         (let bound = w.in-Ok.ensures.bound in omega (arith, bound, left)),
-        takes_more _ _ _ c.args.bytes.now c.split_at.result.1.now c.loop.taken w.in-Ok.count c.split_at.ensures.back kept.1 w.in-Ok.ensures.bytes,
+        takes_more _ _ _ c.args.bytes.now c.split_at.result.1.now c.loop.taken w.in-Ok.count
+            c.split_at.ensures.back kept.1 w.in-Ok.ensures.bytes,
       )
       | in-Err w ↦ rw w.taken-is (kept.0, Appends-kept _ _ _ _ kept.1 w.in-Err.ensures.bytes)
     ]

@@ -12,4 +12,7 @@ pub returns-then-not-is_plain-clause-none : goal.returns-then-not-is_plain-claus
 returns-then-not-is_plain-clause-none c = λ name.
     let none = sym c.is_empty.ensures ∙ c.if-is_empty.false in
     let some : 0 < length c.args.arguments.now = grind (arith, nat_tests) in
-    rw (first_text c.args.arguments.now some) (takes_no_value name (get_or c.args.arguments.now 0 no_text).now (map (λ w. w.now) (drop 1 c.args.arguments.now)) (sym c.is_plain.ensures ∙ c.if-not-is_plain.true))
+    rw (first_text c.args.arguments.now some)
+    (takes_no_value name (get_or c.args.arguments.now 0 no_text).now
+    (map (λ w. w.now) (drop 1 c.args.arguments.now))
+    (sym c.is_plain.ensures ∙ c.if-not-is_plain.true))

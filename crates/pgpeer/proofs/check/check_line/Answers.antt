@@ -21,4 +21,6 @@ returns-in-Ok-clause-group g c =
 pub returns-in-Err-clause-refused : goal.returns-in-Err-clause-refused
 returns-in-Err-clause-refused g c =
     let check = c.in-Err.ensures in
-    MakeNoGroup-of _ _ _ c.in-Err.error c.in_ok-settings_of.ensures.said (λ is. check.no_peering.0 (ap Err is)) (λ is. check.same_peer.0 (ap Err is)) (λ is. check.missing_peer.0 (ap Err is))
+    MakeNoGroup-of _ _ _ c.in-Err.error c.in_ok-settings_of.ensures.said
+    (λ is. check.no_peering.0 (ap Err is)) (λ is. check.same_peer.0 (ap Err is))
+    (λ is. check.missing_peer.0 (ap Err is))

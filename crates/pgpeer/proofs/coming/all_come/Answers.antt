@@ -6,7 +6,8 @@ use Rattle.pgpeer.proofs.coming.all_come.Goals as goal
 pub returns-in_err-come-clause-came : goal.returns-in_err-come-clause-came
 returns-in_err-come-clause-came g c =
     reply_passed c.from_residual.result c.in_err-come.field-0.0 _ _ c.from_residual.ensures.1
-    (stops_after_comes _ c.args.caller.now c.loop-client.caller c.come.new.caller c.in_err-come.field-0.0 c.loop-client.invariant.comes c.in_err-come.ensures.came)
+    (stops_after_comes _ c.args.caller.now c.loop-client.caller c.come.new.caller
+    c.in_err-come.field-0.0 c.loop-client.invariant.comes c.in_err-come.ensures.came)
 
 pub loop-client-preserved : goal.loop-client-preserved
 loop-client-preserved g c =
@@ -24,7 +25,9 @@ loop-client-preserved g c =
     let more_leases = c.in_ok-come.ensures.leases in
     record {
       lock = came.2.lock ∙ kept.lock;
-      comes = rw (take_more clients i client within, ← c.client-item.is) (comes_push (take i clients) client c.args.caller.now c.loop-client.caller c.come.new.caller came.0 kept.comes came.1 came.2);
+      comes = rw (take_more clients i client within, ← c.client-item.is)
+          (comes_push (take i clients) client c.args.caller.now c.loop-client.caller
+          c.come.new.caller came.0 kept.comes came.1 came.2);
       allowance = omega (arith, allowance, cost);
       passes = (more_passes.0 ∙ passes.0, omega (arith, passes.1, more_passes.1));
       leases = (more_leases.0 ∙ leases.0, omega (arith, leases.1, more_leases.1));

@@ -9,6 +9,8 @@ invariant-loop-client g l =
       lock : l.caller.lock ≡ l.shared;
       comes : Comes l.fn.caller (take l.client-index l.clients) l.caller;
       allowance : l.fn.caller.allowance ≤ l.caller.allowance + 3 * l.client-index;
-      passes : (vec_capacity l.held.passes ≡ vec_capacity l.fn.held.passes) × (vec_len l.held.passes ≤ vec_len l.fn.held.passes + l.client-index);
-      leases : (vec_capacity l.held.leases ≡ vec_capacity l.fn.held.leases) × (vec_len l.held.leases ≤ vec_len l.fn.held.leases + l.client-index);
+      passes : (vec_capacity l.held.passes ≡ vec_capacity l.fn.held.passes)
+          × (vec_len l.held.passes ≤ vec_len l.fn.held.passes + l.client-index);
+      leases : (vec_capacity l.held.leases ≡ vec_capacity l.fn.held.leases)
+          × (vec_len l.held.leases ≤ vec_len l.fn.held.leases + l.client-index);
     }

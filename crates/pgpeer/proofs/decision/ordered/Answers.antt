@@ -5,9 +5,13 @@ use Rattle.pgpeer.proofs.decision.ordered.Goals as goal
 pub returns-in-Ok : goal.returns-in-Ok
 returns-in-Ok g c =
     let made = c.in_ok-shared.ensures in
-    may_order (journal_view c.args.journal) c.in_ok-shared.caller c.order_behind-order.new.caller (journal_view c.into_journal.result) made.start made.allowance made.totals.all made.none c.into_journal.ensures.whole c.args.clients.now c.args.key.now c.in-Ok.order c.in-Ok.ensures
+    may_order (journal_view c.args.journal) c.in_ok-shared.caller c.order_behind-order.new.caller
+    (journal_view c.into_journal.result) made.start made.allowance made.totals.all made.none
+    c.into_journal.ensures.whole c.args.clients.now c.args.key.now c.in-Ok.order c.in-Ok.ensures
 
 pub returns-in-Err : goal.returns-in-Err
 returns-in-Err g c =
     let made = c.in_ok-shared.ensures in
-    may_reply (journal_view c.args.journal) c.in_ok-shared.caller c.order_behind-order.new.caller (journal_view c.into_journal.result) made.start made.allowance made.totals.all made.none c.into_journal.ensures.whole c.in-Err.reply c.in-Err.ensures
+    may_reply (journal_view c.args.journal) c.in_ok-shared.caller c.order_behind-order.new.caller
+    (journal_view c.into_journal.result) made.start made.allowance made.totals.all made.none
+    c.into_journal.ensures.whole c.in-Err.reply c.in-Err.ensures

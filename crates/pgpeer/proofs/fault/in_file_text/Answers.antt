@@ -6,4 +6,5 @@ pub returns : goal.returns
 returns c =
     let number = c.number-number.ensures in
     let name = c.ini_name-name.ensures in
-    IfOk-weaker c.format.result _ _ (λ line h. h ∙ rw (number, name) (simp append_assoc)) c.format.ensures.ok
+    IfOk-weaker c.format.result _ _ (λ line h. h ∙ rw (number, name) (simp append_assoc))
+    c.format.ensures.ok

@@ -8,7 +8,8 @@ invariant-loop-lease g l =
     record {
       lock : l.caller.lock ≡ l.shared;
       goes : Goes l.fn.caller l.caller;
-      allowance : l.fn.caller.allowance + vec_len l.leases ≤ l.caller.allowance + vec_len l.fn.leases;
+      allowance : l.fn.caller.allowance + vec_len l.leases
+          ≤ l.caller.allowance + vec_len l.fn.leases;
     }
 
 abbrev pub decreases-loop-lease : goal.decreases-loop-lease

@@ -18,4 +18,5 @@ loop-pass-preserved g c =
 pub returns-in_err-leave_twice-clause-left : goal.returns-in_err-leave_twice-clause-left
 returns-in_err-leave_twice-clause-left g c =
     reply_passed c.from_residual.result c.in_err-leave_twice.field-0.0 _ _ c.from_residual.ensures.1
-    (stops_after_goes c.args.caller.now c.loop-pass.caller c.leave_twice.new.caller c.in_err-leave_twice.field-0.0 c.loop-pass.invariant.goes c.in_err-leave_twice.ensures.left)
+    (stops_after_goes c.args.caller.now c.loop-pass.caller c.leave_twice.new.caller
+    c.in_err-leave_twice.field-0.0 c.loop-pass.invariant.goes c.in_err-leave_twice.ensures.left)

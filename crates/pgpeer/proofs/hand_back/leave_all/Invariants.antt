@@ -8,7 +8,8 @@ invariant-loop-pass g l =
     record {
       lock : l.caller.lock ≡ l.shared;
       goes : Goes l.fn.caller l.caller;
-      allowance : l.fn.caller.allowance + 2 * vec_len l.passes ≤ l.caller.allowance + 2 * vec_len l.fn.passes;
+      allowance : l.fn.caller.allowance + 2 * vec_len l.passes
+          ≤ l.caller.allowance + 2 * vec_len l.fn.passes;
     }
 
 abbrev pub decreases-loop-pass : goal.decreases-loop-pass

@@ -8,6 +8,7 @@ abbrev pub invariant-loop-text : goal.invariant-loop-text
 invariant-loop-text g l =
     record {
       value : each g.T.Item.item_of (map (λ t. t.now) l.text-items)
-          ≡ option_map (λ others. l.items.items ++ others) (each g.T.Item.item_of (map (λ t. t.now) (drop l.text-index l.text-items)));
+          ≡ option_map (λ others. l.items.items ++ others)
+          (each g.T.Item.item_of (map (λ t. t.now) (drop l.text-index l.text-items)));
       holds : All g.T.Item.holds l.items.items;
     }

@@ -5,4 +5,6 @@ use Rattle.pgpeer.proofs.CallLemmas.{step_by}
 use Rattle.pgpeer.proofs.steps.close.Goals as goal
 
 pub returns : goal.returns
-returns g c = step_by c.closed_in.result (λ reply. call.Close c.args.lease.details reply) (close_said c.close.result) (λ x. closing.Closed tt) c.args.caller.now c.close.new.caller (c.close.ensures.counted.made c.requires.allowance) (c.closed_in.ensures c.args.lease.details)
+returns g c = step_by c.closed_in.result (λ reply. call.Close c.args.lease.details reply)
+    (close_said c.close.result) (λ x. closing.Closed tt) c.args.caller.now c.close.new.caller
+    (c.close.ensures.counted.made c.requires.allowance) (c.closed_in.ensures c.args.lease.details)

@@ -5,4 +5,6 @@ use Rattle.pgpeer.proofs.CallLemmas.{step_by}
 use Rattle.pgpeer.proofs.steps.report_failed.Goals as goal
 
 pub returns : goal.returns
-returns g c = step_by c.condemned_in.result (λ reply. call.Failed c.args.ticket reply) (failed_said c.failed.result) (λ x. failing.Condemned) c.args.caller.now c.failed.new.caller (c.failed.ensures.counted.made c.requires.allowance) (c.condemned_in.ensures c.args.ticket)
+returns g c = step_by c.condemned_in.result (λ reply. call.Failed c.args.ticket reply)
+    (failed_said c.failed.result) (λ x. failing.Condemned) c.args.caller.now c.failed.new.caller
+    (c.failed.ensures.counted.made c.requires.allowance) (c.condemned_in.ensures c.args.ticket)

@@ -5,4 +5,6 @@ use Rattle.pgpeer.proofs.CallLemmas.{step_by}
 use Rattle.pgpeer.proofs.steps.up.Goals as goal
 
 pub returns : goal.returns
-returns g c = step_by c.lease_in.result (λ reply. call.Up c.args.permit c.args.key reply) (up_said c.up.result) (λ x. up.Up x.details) c.args.caller.now c.up.new.caller (c.up.ensures.counted.made c.requires.allowance) (c.lease_in.ensures c.args.permit c.args.key)
+returns g c = step_by c.lease_in.result (λ reply. call.Up c.args.permit c.args.key reply)
+    (up_said c.up.result) (λ x. up.Up x.details) c.args.caller.now c.up.new.caller
+    (c.up.ensures.counted.made c.requires.allowance) (c.lease_in.ensures c.args.permit c.args.key)

@@ -6,4 +6,8 @@ use Rattle.pgpeer.proofs.arguments.Given.read.Goals as goal
 pub returns : goal.returns
 returns c =
     let gives = c.loop-at.invariant.gives in
-    gives ∙ rw (drop_all c.loop-at.at c.args.arguments.now c.loop-at-test.false, gives_nothing, joined_nothing _) refl
+    gives ∙ rw (
+      drop_all c.loop-at.at c.args.arguments.now c.loop-at-test.false,
+      gives_nothing,
+      joined_nothing _,
+    ) refl
