@@ -1,4 +1,5 @@
-/* Refuses the allocation whose number, from 1, is in REFUSE, of the program that this is loaded before.
+/* Refuses the allocation whose number, from 1, is in REFUSE, of the program that this is loaded before;
+   with ONWARDS set, each later one as well.
    With COUNT set, how many allocations were asked for goes to standard error at the end. */
 #define _GNU_SOURCE
 #include <dlfcn.h>
@@ -13,11 +14,14 @@ static atomic_long asked;
 
 static int refused(void) {
     static long number = -1;
+    static int onwards;
     if (number == -1) {
         const char *word = getenv("REFUSE");
+        onwards = getenv("ONWARDS") != NULL;
         number = word ? atol(word) : 0;
     }
-    return atomic_fetch_add(&asked, 1) + 1 == number;
+    long now = atomic_fetch_add(&asked, 1) + 1;
+    return now == number || (onwards && number > 0 && now > number);
 }
 
 void *malloc(size_t size) {
