@@ -4,8 +4,8 @@ use Rattle.std.proofs.lemmas.Bool.{false≢true, cases_lt, cond_below, cond_abov
 use Rattle.std.specs.Prelude.{String, string_bytes}
 use Rattle.std.specs.declared.alloc.Global.{Global}
 use Rattle.startup.specs.Kinds.{Seen}
-use Rattle.startup.specs.Packet.{startup_code, cancel_code, ssl_code, gss_code, packet, cancel_request, Begins}
-use Rattle.startup.specs.FirstPacket.{Outcome, length_of, code_of, HasHeader, StartsWith, Decides, IsUndecided, IsOutcome, Answers, Tells, Startup, Ssl, Gss, More, Refused}
+use Rattle.startup.specs.Packet.{startup_code, cancel_code, packet, cancel_request, Begins}
+use Rattle.startup.specs.FirstPacket.{Outcome, outcome_of, length_of, code_of, HasHeader, Asks, StartsWith, Decides, IsUndecided, IsOutcome, Answers, Tells, Startup, More, Refused}
 use Rattle.startup.specs.StartupMessage.{unless_empty}
 use Rattle.startup.specs.Session.{IsSessionOf}
 use Rattle.startup.specs.declared.session.Session.{Session}
@@ -53,37 +53,22 @@ cancelled text key bytes code measured whole is =
     (eight, begins_packet text cancel_code key bytes fields)
 
 -- a header alone, whose length is 8
-begins_alone : (text : List ℕ) (code : ℕ) → AreBytes text → HasHeader text → code_of text ≡ code → length_of text ≡ 8 → Begins text (packet code [])
+pub begins_alone : (text : List ℕ) (code : ℕ) → AreBytes text → HasHeader text → code_of text ≡ code → length_of text ≡ 8 → Begins text (packet code [])
 begins_alone text code bytes header is measured =
     begins_packet text code [] bytes (record { whole = header.stands; measured = measured; coded = is; bodied = refl })
 
--- the answer to an SSLRequest's header
-fresh_ssl : (gss : Bool) (text : List ℕ) (at_end : Bool) (len : ℕ) (result : Result First StartupError) → AreBytes text → HasHeader text → code_of text ≡ ssl_code → len ≡ length_of text → result ≡ (if nat_lt 8 len then Err TooLong else Ok first.Ssl) → (8 < len) ⊎ (len ≤ 8) → Answers (record { ssl = false; gss = gss }) text at_end result
-fresh_ssl gss text at_end len result bytes header code measured is (inl long) =
-    subst (Answers _ text at_end) (sym (is ∙ sym (cond_below 8 len (Err TooLong) (Ok first.Ssl) long))) (refused _ text at_end TooLong (inr ((header, inl (code, refl)), omega arith)))
-fresh_ssl gss text at_end len result bytes header code measured is (inr short) =
-    let alone = begins_alone text ssl_code bytes header code (omega (arith, header.lower)) in
-    subst (Answers _ text at_end) (sym (is ∙ sym (cond_above 8 len (Err TooLong) (Ok first.Ssl) (Ok first.Ssl) short refl))) (record { outcome = Ssl; is = inl (refl, alone); told = refl })
-
-pub negotiated_ssl : (ssl gss : Bool) (text : List ℕ) (at_end : Bool) (len : ℕ) (result : Result First StartupError) → AreBytes text → HasHeader text → code_of text ≡ ssl_code → len ≡ length_of text → result ≡ (if ssl then Err Repeated else (if nat_lt 8 len then Err TooLong else Ok first.Ssl)) → Answers (record { ssl = ssl; gss = gss }) text at_end result
-negotiated_ssl true gss text at_end len result bytes header code measured is =
-    subst (Answers _ text at_end) (sym is) (refused _ text at_end Repeated (header, inl (code, refl)))
-negotiated_ssl false gss text at_end len result bytes header code measured is =
-    fresh_ssl gss text at_end len result bytes header code measured is (cases_lt 8 len)
-
--- the answer to a GSSENCRequest's header
-fresh_gss : (ssl : Bool) (text : List ℕ) (at_end : Bool) (len : ℕ) (result : Result First StartupError) → AreBytes text → HasHeader text → code_of text ≡ gss_code → len ≡ length_of text → result ≡ (if nat_lt 8 len then Err TooLong else Ok first.Gss) → (8 < len) ⊎ (len ≤ 8) → Answers (record { gss = false; ssl = ssl }) text at_end result
-fresh_gss ssl text at_end len result bytes header code measured is (inl long) =
-    subst (Answers _ text at_end) (sym (is ∙ sym (cond_below 8 len (Err TooLong) (Ok first.Gss) long))) (refused _ text at_end TooLong (inr ((header, inr (code, refl)), omega arith)))
-fresh_gss ssl text at_end len result bytes header code measured is (inr short) =
-    let alone = begins_alone text gss_code bytes header code (omega (arith, header.lower)) in
-    subst (Answers _ text at_end) (sym (is ∙ sym (cond_above 8 len (Err TooLong) (Ok first.Gss) (Ok first.Gss) short refl))) (record { outcome = Gss; is = inl (refl, alone); told = refl })
-
-pub negotiated_gss : (ssl gss : Bool) (text : List ℕ) (at_end : Bool) (len : ℕ) (result : Result First StartupError) → AreBytes text → HasHeader text → code_of text ≡ gss_code → len ≡ length_of text → result ≡ (if gss then Err Repeated else (if nat_lt 8 len then Err TooLong else Ok first.Gss)) → Answers (record { ssl = ssl; gss = gss }) text at_end result
-negotiated_gss ssl true text at_end len result bytes header code measured is =
-    subst (Answers _ text at_end) (sym is) (refused _ text at_end Repeated (header, inr (code, refl)))
-negotiated_gss ssl false text at_end len result bytes header code measured is =
-    fresh_gss ssl text at_end len result bytes header code measured is (cases_lt 8 len)
+-- the answer to a header that asks for a negotiation, which the connection has seen before or not
+pub negotiated : (before : Bool) (seen : Seen) (text : List ℕ) (at_end : Bool) (len : ℕ) (asked : First) (result : Result First StartupError) → Asks before seen text → len ≡ length_of text → (before ≡ false → length_of text ≡ 8 → Decides seen text (outcome_of asked)) → result ≡ (if before then Err Repeated else (if nat_lt 8 len then Err TooLong else Ok asked)) → Answers seen text at_end result
+negotiated true seen text at_end len asked result asks measured decides is =
+    subst (Answers seen text at_end) (sym is) (refused seen text at_end Repeated asks)
+negotiated false seen text at_end len asked result asks measured decides is = first_time (cases_lt 8 len)
+  where
+    first_time : (8 < len) ⊎ (len ≤ 8) → Answers seen text at_end result
+    first_time (inl long) =
+        subst (Answers seen text at_end) (sym (is ∙ sym (cond_below 8 len (Err TooLong) (Ok asked) long))) (refused seen text at_end TooLong (inr (asks, omega arith)))
+    first_time (inr short) =
+        let shortest = asks.0.lower in
+        subst (Answers seen text at_end) (sym (is ∙ sym (cond_above 8 len (Err TooLong) (Ok asked) (Ok asked) short refl))) (record { outcome = outcome_of asked; is = inl (decides refl (omega (arith, shortest))); told = refl })
 
 -- a whole StartupMessage, by its header and body
 pub starts_with_body : (text : List ℕ) (len : ℕ) → AreBytes text → HasHeader text → code_of text ≡ startup_code → len ≡ length_of text → len ≤ length text → StartsWith text (take (len - 8) (drop 8 text))

@@ -8,29 +8,25 @@ use Rattle.startup.specs.declared.error_code.Severity.TheVariants.{Error, Fatal}
 use Rattle.startup.specs.declared.startup_error.StartupError.{StartupError}
 use Rattle.startup.specs.declared.startup_error.StartupError.TheVariants.{TooShort, TooLong, BadVersion, BadText, NoUser, BadCancelLength, Repeated, Truncated, Memory}
 
--- the five characters of a code
+-- of each condition the five characters of its code, and what a person reads
+abbrev pub texts : ErrorCode → List ℕ × List ℕ
+texts ProtocolViolation = (codes "08P01", codes "protocol violation")
+texts FeatureNotSupported = (codes "0A000", codes "not in this profile")
+texts InvalidCatalogName = (codes "3D000", codes "no such database")
+texts TooManyConnections = (codes "53300", codes "too many clients")
+texts OutOfMemory = (codes "53200", codes "out of memory")
+texts ConnectionFailure = (codes "08006", codes "server connection lost")
+texts InvalidAuthorization = (codes "28000", codes "no user name")
+texts AdminShutdown = (codes "57P01", codes "node restarted")
+texts QueryCanceled = (codes "57014", codes "query canceled")
+
+-- the code
 abbrev pub code_text : ErrorCode → List ℕ
-code_text ProtocolViolation = codes "08P01"
-code_text FeatureNotSupported = codes "0A000"
-code_text InvalidCatalogName = codes "3D000"
-code_text TooManyConnections = codes "53300"
-code_text OutOfMemory = codes "53200"
-code_text ConnectionFailure = codes "08006"
-code_text InvalidAuthorization = codes "28000"
-code_text AdminShutdown = codes "57P01"
-code_text QueryCanceled = codes "57014"
+code_text error = (texts error).0
 
 -- what a person reads
 abbrev pub message_text : ErrorCode → List ℕ
-message_text ProtocolViolation = codes "protocol violation"
-message_text FeatureNotSupported = codes "not in this profile"
-message_text InvalidCatalogName = codes "no such database"
-message_text TooManyConnections = codes "too many clients"
-message_text OutOfMemory = codes "out of memory"
-message_text ConnectionFailure = codes "server connection lost"
-message_text InvalidAuthorization = codes "no user name"
-message_text AdminShutdown = codes "node restarted"
-message_text QueryCanceled = codes "query canceled"
+message_text error = (texts error).1
 
 -- how grave it is: a FATAL error ends the session
 abbrev pub severity_text : Severity → List ℕ

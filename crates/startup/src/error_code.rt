@@ -33,6 +33,22 @@ pub enum Severity {
     Fatal,
 }
 
+// What a client reads of a condition: its code, and a text for a person (own).
+#[derive(Clone, Copy)]
+struct Texts {
+    code: &'static str,
+    message: &'static str,
+}
+
+impl Texts {
+    const fn new(code: &'static str, message: &'static str) -> Texts
+        ensures code { result.code.now ≡ code.now }
+        ensures message { result.message.now ≡ message.now }
+    {
+        Texts { code, message }
+    }
+}
+
 impl ErrorCode {
     ghost use Rattle.startup.specs.ErrorCode.{code_text, message_text};
     ghost use Rattle.startup.specs.Replies.{IsFieldText};
@@ -42,17 +58,7 @@ impl ErrorCode {
         ensures text { result.now ≡ code_text self }
         ensures fits { IsFieldText result.now }
     {
-        match self {
-            ErrorCode::ProtocolViolation => "08P01",
-            ErrorCode::FeatureNotSupported => "0A000",
-            ErrorCode::InvalidCatalogName => "3D000",
-            ErrorCode::TooManyConnections => "53300",
-            ErrorCode::OutOfMemory => "53200",
-            ErrorCode::ConnectionFailure => "08006",
-            ErrorCode::InvalidAuthorization => "28000",
-            ErrorCode::AdminShutdown => "57P01",
-            ErrorCode::QueryCanceled => "57014",
-        }
+        self.texts().code
     }
 
     /// The text that a person reads (own).
@@ -60,16 +66,25 @@ impl ErrorCode {
         ensures text { result.now ≡ message_text self }
         ensures fits { IsFieldText result.now }
     {
+        self.texts().message
+    }
+
+    fn texts(self) -> Texts
+        ensures code { result.code.now ≡ code_text self }
+        ensures message { result.message.now ≡ message_text self }
+        ensures code_fits { IsFieldText result.code.now }
+        ensures message_fits { IsFieldText result.message.now }
+    {
         match self {
-            ErrorCode::ProtocolViolation => "protocol violation",
-            ErrorCode::FeatureNotSupported => "not in this profile",
-            ErrorCode::InvalidCatalogName => "no such database",
-            ErrorCode::TooManyConnections => "too many clients",
-            ErrorCode::OutOfMemory => "out of memory",
-            ErrorCode::ConnectionFailure => "server connection lost",
-            ErrorCode::InvalidAuthorization => "no user name",
-            ErrorCode::AdminShutdown => "node restarted",
-            ErrorCode::QueryCanceled => "query canceled",
+            ErrorCode::ProtocolViolation => Texts::new("08P01", "protocol violation"),
+            ErrorCode::FeatureNotSupported => Texts::new("0A000", "not in this profile"),
+            ErrorCode::InvalidCatalogName => Texts::new("3D000", "no such database"),
+            ErrorCode::TooManyConnections => Texts::new("53300", "too many clients"),
+            ErrorCode::OutOfMemory => Texts::new("53200", "out of memory"),
+            ErrorCode::ConnectionFailure => Texts::new("08006", "server connection lost"),
+            ErrorCode::InvalidAuthorization => Texts::new("28000", "no user name"),
+            ErrorCode::AdminShutdown => Texts::new("57P01", "node restarted"),
+            ErrorCode::QueryCanceled => Texts::new("57014", "query canceled"),
         }
     }
 }
