@@ -86,7 +86,8 @@ impl ClientKey {
         Some(ClientKey { hops, ..self })
     }
 
-    fn number(self) -> u64
+    /// The key as a number.
+    pub(crate) fn number(self) -> u64
         ensures number { result ≡ number_of self }
         ensures key { IsKey self }
     {
