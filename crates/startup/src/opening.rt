@@ -2,10 +2,11 @@
 ghost use Rattle.std.specs.Prelude.{◌≡◌};
 
 use crate::first::First;
-use crate::header::{CANCEL_CODE, GSS_CODE, Header, SSL_CODE, STARTUP_CODE};
+use crate::header::{CANCEL_CODE, GSS_CODE, Header, LONG_STARTUP_CODE, SSL_CODE, STARTUP_CODE};
 use crate::packets::{read_cancel, read_negotiation, unfinished};
 use crate::session::read_startup;
 use crate::startup_error::StartupError;
+use pg_ids::Kind;
 use std::alloc::Global;
 use std::marker::Model;
 
@@ -70,7 +71,8 @@ impl Opening {
             return unfinished(at_end);
         };
         match header.code {
-            STARTUP_CODE => read_startup(self.alloc, so_far, header, at_end),
+            STARTUP_CODE => read_startup(self.alloc, Kind::Short, so_far, header, at_end),
+            LONG_STARTUP_CODE => read_startup(self.alloc, Kind::Long, so_far, header, at_end),
             CANCEL_CODE => read_cancel(so_far, header, at_end),
             SSL_CODE => read_negotiation(self.ssl, header, First::Ssl),
             GSS_CODE => read_negotiation(self.gss, header, First::Gss),

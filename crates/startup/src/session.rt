@@ -12,21 +12,23 @@ use crate::names::are_distinct;
 use crate::packets::unfinished;
 use crate::parameter::Parameter;
 use crate::startup_error::StartupError;
+use pg_ids::Kind;
 use std::alloc::Global;
 
 // How many parameters the longest packet can hold: three bytes each, between the header and a zero byte.
 const MOST_PARAMETERS: usize = 3330;
 
-/// The answer to a StartupMessage's header and what stands behind it.
+/// The answer to the header of a StartupMessage of this kind and what stands behind it.
 pub fn read_startup(
     alloc: Global,
+    kind: Kind,
     so_far: &[u8],
     header: Header,
     at_end: bool,
 ) -> Result<First, StartupError>
     requires stands { HasHeader so_far.now }
     requires length { header.length ≡ length_of so_far.now }
-    requires code { code_of so_far.now ≡ startup_code }
+    requires code { code_of so_far.now ≡ startup_code kind }
     ensures { (seen : Seen) → Answers seen so_far.now at_end result }
 {
     let used = header.length as usize;
@@ -42,6 +44,7 @@ pub fn read_startup(
     let user = String::from_str(alloc, session.user)?;
     let database = String::from_str(alloc, session.database_or_user())?;
     Ok(First::Startup {
+        kind,
         user,
         database,
         used,

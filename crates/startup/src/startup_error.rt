@@ -24,8 +24,8 @@ pub enum StartupError {
     /// No user is named.
     #[error("no user is named")]
     NoUser,
-    /// A CancelRequest's length isn't 16.
-    #[error("a cancel request's length is not 16")]
+    /// A CancelRequest's length is neither 16 nor 32.
+    #[error("a cancel request's length is neither 16 nor 32")]
     BadCancelLength,
     /// The connection has seen this kind of negotiation.
     #[error("this negotiation was asked for before")]

@@ -1,11 +1,15 @@
 //! Bytes worked out by hand from the PostgreSQL manual's message formats.
 use super::*;
-use pg_ids::ClientKey;
+use pg_ids::{AnyKey, Kind};
 use std::alloc::{AllocError, Global};
 use std::process::Abort;
 use std::test::Fail;
 
 const CANCEL: &[u8; 16] = b"\0\0\0\x10\x04\xd2\x16\x2e\0\x08\0\0\0\0\0\x07";
+
+// That of a long key whose boot and serial are 0.
+const LONG_CANCEL: &[u8; 32] = b"\0\0\0\x20\x04\xd2\x16\x2e\0\x08\0\0\0\0\0\x07\
+    \0\0\0\0\0\0\0\0\0\0\0\0\0\0\0\0";
 
 const SSL: &[u8; 8] = b"\0\0\0\x08\x04\xd2\x16\x2f";
 
@@ -22,6 +26,7 @@ const REFUSED: &[(u8, usize, &[u8])] = &[
     (2, 8, b"\0\0\0\x09\x04\xd2\x16\x2f\0"),
     (2, 8, b"\0\0\0\x09\x04\xd2\x16\x30\0"),
     (3, 8, b"\0\0\0\x09\0\x03\0\x01\0"),
+    (3, 8, b"\0\0\0\x09\0\x03\0\x03\0"),
     (3, 8, b"\0\0\0\x08\0\0\0\0"),
     (4, 8, b"\0\0\0\x08\0\x03\0\0"),
     // The zero byte that ends the parameters isn't the last.
@@ -44,6 +49,12 @@ const REFUSED: &[(u8, usize, &[u8])] = &[
     (5, 23, b"\0\0\0\x17\0\x03\0\0database\0shop\0\0"),
     (6, 8, b"\0\0\0\x0f\x04\xd2\x16\x2e\0\x08\0\0\0\0\0"),
     (6, 8, b"\0\0\0\x11\x04\xd2\x16\x2e\0\x08\0\0\0\0\0\x07\0"),
+    (6, 8, b"\0\0\0\x18\x04\xd2\x16\x2e"),
+    (6, 8, b"\0\0\0\x1f\x04\xd2\x16\x2e"),
+    (6, 8, b"\0\0\0\x21\x04\xd2\x16\x2e"),
+    // The same faults where a long key is asked for.
+    (4, 10, b"\0\0\0\x0a\0\x03\0\x02\0\0"),
+    (5, 9, b"\0\0\0\x09\0\x03\0\x02\0"),
 ];
 
 // The number of a refusal, 0 where there is none.
@@ -99,20 +110,34 @@ fn negotiations(rt: HostRuntime) {
     }
 }
 
+// The request is written for the key, and read as the key once it is whole, whatever follows.
+fn is_cancel(rt: &impl Abort, opening: &mut Opening, key: AnyKey, request: &[u8]) {
+    assert_eq!(rt; write_cancel(key).as_slice(), request);
+    for end in 0..request.len() {
+        assert!(rt; matches!(opening.read(&request[..end], false), Ok(First::More)));
+        assert_eq!(rt; refusal_of(&opening.read(&request[..end], true)), 8);
+    }
+    for at_end in [false, true] {
+        assert!(rt; opening.read(request, at_end) == Ok(First::Cancel { key }));
+    }
+}
+
 #[test]
 fn cancel_requests(rt: HostRuntime) {
-    let key = [0, 8, 0, 0, 0, 0, 0, 7];
-    assert_eq!(rt; write_cancel(key), *CANCEL);
     let mut opening = Opening::new(rt.alloc());
-    for end in 0..16 {
-        assert!(rt; matches!(opening.read(&CANCEL[..end], false), Ok(First::More)));
-        assert_eq!(rt; refusal_of(&opening.read(&CANCEL[..end], true)), 8);
-    }
+    let bytes = [0, 8, 0, 0, 0, 0, 0, 7];
+    let short = AnyKey::from_short_bytes(bytes);
+    is_cancel(&rt, &mut opening, short, CANCEL);
+    let mut longer = [0; 24];
+    longer[..8].copy_from_slice(&bytes);
+    is_cancel(
+        &rt,
+        &mut opening,
+        AnyKey::from_long_bytes(longer),
+        LONG_CANCEL,
+    );
     let followed = b"\0\0\0\x10\x04\xd2\x16\x2e\0\x08\0\0\0\0\0\x07more";
-    for text in [CANCEL.as_slice(), followed] {
-        assert!(rt; opening.read(text, false) == Ok(First::Cancel { key }));
-        assert!(rt; opening.read(text, true) == Ok(First::Cancel { key }));
-    }
+    assert!(rt; opening.read(followed, false) == Ok(First::Cancel { key: short }));
 }
 
 // Texts that begin a session: user, database, used, the bytes.
@@ -129,6 +154,13 @@ const SESSIONS: &[(&str, &str, usize, &[u8])] = &[
         "shop",
         32,
         b"\0\0\0\x20\0\x03\0\0database\0shop\0user\0ann\0\0",
+    ),
+    // Protocol 3.2, with a long key.
+    (
+        "ann",
+        "shop",
+        32,
+        b"\0\0\0\x20\0\x03\0\x02user\0ann\0database\0shop\0\0",
     ),
     ("a", "a", 16, b"\0\0\0\x10\0\x03\0\0user\0a\0\0"),
     ("a", "a", 26, b"\0\0\0\x1a\0\x03\0\0user\0a\0database\0\0\0"),
@@ -158,6 +190,11 @@ fn sessions(rt: HostRuntime) -> Result<(), Fail> {
         }
         for at_end in [false, true] {
             let expected = First::Startup {
+                kind: if text[7] == 2 {
+                    Kind::Long
+                } else {
+                    Kind::Short
+                },
                 user: String::from_str(rt.alloc(), user)?,
                 database: String::from_str(rt.alloc(), database)?,
                 used: *used,
@@ -210,6 +247,11 @@ fn longest_list_of_names(rt: HostRuntime) -> Result<(), Fail> {
     Ok(())
 }
 
+// The key of the worked logins with boot 1 and serial 515.
+const LONG_KEY: [u8; 24] = [
+    0, 8, 0, 0, 0, 0, 0, 7, 0, 0, 0, 0, 0, 0, 0, 1, 0, 0, 0, 0, 0, 0, 2, 3,
+];
+
 #[test]
 fn replies(rt: HostRuntime) -> Result<(), Fail> {
     let login = b"R\0\0\0\x08\0\0\0\0S\0\0\0\x16server_version\016\0\
@@ -217,9 +259,10 @@ fn replies(rt: HostRuntime) -> Result<(), Fail> {
         K\0\0\0\x0c\0\x08\0\0\0\0\0\x07Z\0\0\0\x05I";
     let console = b"R\0\0\0\x08\0\0\0\0S\0\0\0\x16server_version\016\0\
         S\0\0\0\x19server_encoding\0UTF8\0S\0\0\0\x19client_encoding\0UTF8\0Z\0\0\0\x05I";
+    let long = b"K\0\0\0\x1c\0\x08\0\0\0\0\0\x07\0\0\0\0\0\0\0\x01\0\0\0\0\0\0\x02\x03Z\0\0\0\x05I";
     let error = b"E\0\0\0\x2cSFATAL\0VFATAL\0C3D000\0Mno such database\0\0";
     assert_eq!(rt; login.len(), 103);
-    let key = ClientKey::from_bytes([0, 8, 0, 0, 0, 0, 0, 7]);
+    let key = AnyKey::from_short_bytes([0, 8, 0, 0, 0, 0, 0, 7]);
     let code = ErrorCode::InvalidCatalogName;
 
     let mut out = Vec::new(rt.alloc());
@@ -227,6 +270,10 @@ fn replies(rt: HostRuntime) -> Result<(), Fail> {
     assert_eq!(rt; out.as_slice(), login.as_slice());
     write_login(None, &mut out)?;
     assert_eq!(rt; &out[103..], console.as_slice());
+    out.clear();
+    write_login(Some(AnyKey::from_long_bytes(LONG_KEY)), &mut out)?;
+    assert_eq!(rt; out.len(), 119);
+    assert_eq!(rt; &out[84..], long.as_slice());
     out.clear();
     write_error(Severity::Fatal, code.code(), code.message(), &mut out)?;
     assert_eq!(rt; out.as_slice(), error.as_slice());
@@ -263,7 +310,7 @@ fn refusal_texts(rt: HostRuntime) -> Result<(), Fail> {
         (StartupError::TooShort, "the packet's length is below 8"),
         (
             StartupError::BadCancelLength,
-            "a cancel request's length is not 16",
+            "a cancel request's length is neither 16 nor 32",
         ),
         (StartupError::Memory, "out of memory"),
     ];
