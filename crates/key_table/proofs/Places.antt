@@ -17,6 +17,7 @@ slice_get-set_other xs i j x apart = by_place (cases_lt j (length xs))
   where
     same : length (set xs i x) ≡ length xs
     same = length-set xs i x
+
     by_place : (j < length xs) ⊎ (length xs ≤ j) → slice_get (set xs i x) j ≡ slice_get xs j
     by_place (inl within) =
         slice_get-get_or (set xs i x) j x (subst (λ n. j < n) (sym same) within) ∙ ap Some (get_or-set_other xs i j x x apart) ∙ sym (slice_get-get_or xs j x within)
