@@ -94,7 +94,7 @@ fn long_keys(rt: HostRuntime) -> Result<(), Fail> {
     assert_eq!(rt; table.find(&short), None);
 
     // A slot with a short key, and a long one.
-    table.retire(SlotNo(0));
+    table.retire(key.short().slot);
     assert_eq!(rt; table.issue(Secret(1), None)?, short);
     assert_eq!(rt; table.find(&short), Some(SlotNo(0)));
     assert_eq!(rt; table.find(&key), None);
