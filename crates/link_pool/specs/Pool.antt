@@ -84,6 +84,16 @@ lend v at slot link =
 abbrev pub give_back : PoolView → LinkPlace → ℕ → Place → PoolView
 give_back v at slot place = with_claim (with_place v at place) slot claim.Nothing
 
+-- the client of the slot has given the link of a place back, which is quarantined
+abbrev pub quarantine : PoolView → LinkPlace → ℕ → Link → PoolView
+quarantine v at slot link =
+    with_claim (with_place v at (place.Link (in_state (state.Quarantined (Some slot)) link))) slot (claim.Gave at)
+
+-- the client of this slot, if there is one, has nothing
+abbrev pub nothing_for : Option ℕ → PoolView → PoolView
+nothing_for None v = v
+nothing_for (Some slot) v = with_claim v slot claim.Nothing
+
 -- the others that wait, in order
 abbrev pub others : ℕ → List ℕ → List ℕ
 others slot [] = []
@@ -97,14 +107,54 @@ behind slot waiting = waiting ++ slot ∷ []
 abbrev pub out_of_queue : Option Claim → PoolView → ℕ → PoolView
 out_of_queue None v slot = v
 out_of_queue (Some claim.Nothing) v slot = v
+out_of_queue (Some claim.Cancelled) v slot = v
 out_of_queue (Some (claim.Waiting database)) v slot =
     with_claim (with_queue v database (others slot)) slot claim.Nothing
 out_of_queue (Some (claim.Open at)) v slot = v
 out_of_queue (Some (claim.Link at)) v slot = v
+out_of_queue (Some (claim.Gave at)) v slot = v
 
 -- the view with the slot out of the queue
 abbrev pub unqueued : PoolView → ℕ → PoolView
 unqueued v slot = out_of_queue (slice_get v.claims slot) v slot
+
+-- the view with the link of a place given back by no client that is still there, by what is at the place
+abbrev pub without_giver : Option Place → PoolView → LinkPlace → PoolView
+without_giver None v at = v
+without_giver (Some place.Free) v at = v
+without_giver (Some (place.Open permit slot)) v at = v
+without_giver (Some (place.Link link)) v at =
+    with_place v at (place.Link (in_state (state.Quarantined None) link))
+
+-- the view once a client with neither a link nor a permit has left, by what it has
+abbrev pub departed_by : Option Claim → PoolView → ℕ → PoolView
+departed_by None v slot = v
+departed_by (Some claim.Nothing) v slot = v
+departed_by (Some claim.Cancelled) v slot = with_claim v slot claim.Nothing
+departed_by (Some (claim.Waiting database)) v slot = out_of_queue (Some (claim.Waiting database)) v slot
+departed_by (Some (claim.Open at)) v slot = v
+departed_by (Some (claim.Link at)) v slot = v
+departed_by (Some (claim.Gave at)) v slot =
+    with_claim (without_giver (place_at v at) v at) slot claim.Nothing
+
+-- the view once the client of the slot has left
+abbrev pub departed : PoolView → ℕ → PoolView
+departed v slot = departed_by (slice_get v.claims slot) v slot
+
+-- the view once the wait of the slot's client was cancelled, by what it has
+abbrev pub unwaited_by : Option Claim → PoolView → ℕ → PoolView
+unwaited_by None v slot = v
+unwaited_by (Some claim.Nothing) v slot = v
+unwaited_by (Some claim.Cancelled) v slot = v
+unwaited_by (Some (claim.Waiting database)) v slot =
+    with_claim (with_queue v database (others slot)) slot claim.Cancelled
+unwaited_by (Some (claim.Open at)) v slot = v
+unwaited_by (Some (claim.Link at)) v slot = v
+unwaited_by (Some (claim.Gave at)) v slot = v
+
+-- the view once the wait of the slot's client was cancelled, if it waits
+abbrev pub unwaited : PoolView → ℕ → PoolView
+unwaited v slot = unwaited_by (slice_get v.claims slot) v slot
 
 -- the view with the slot in the queue: last, or left in its place, by what its client has
 abbrev pub in_queue : Option Claim → PoolView → ℕ → ℕ → PoolView
@@ -112,8 +162,10 @@ in_queue (Some (claim.Waiting already)) v slot database = v
 in_queue None v slot database = v
 in_queue (Some claim.Nothing) v slot database =
     with_claim (with_queue v database (behind slot)) slot (claim.Waiting database)
+in_queue (Some claim.Cancelled) v slot database = v
 in_queue (Some (claim.Open at)) v slot database = v
 in_queue (Some (claim.Link at)) v slot database = v
+in_queue (Some (claim.Gave at)) v slot database = v
 
 -- the view with the slot in the queue of the database
 abbrev pub queued : PoolView → ℕ → ℕ → PoolView

@@ -6,7 +6,7 @@ ghost use Rattle.link_pool.specs.declared.place.Place.TheVariants as place;
 ghost use Rattle.link_pool.specs.PoolStep.{is_first, is_idle};
 ghost use Rattle.link_pool.specs.Pool.{others, behind};
 ghost use Rattle.link_pool.specs.Stacks.{put_on, place_of as place_in_queue};
-ghost use Rattle.link_pool.specs.Entries.{place_of, idle_entry, settled, leaving, with_entry, freed, new_links, TakesIdle, IsLowest};
+ghost use Rattle.link_pool.specs.Entries.{place_of, idle_entry, settled, leaving, stored_link, lent, ungiven, with_entry, freed, new_links, TakesIdle, IsLowest, IsQuarantined};
 
 use crate::entry::Entry;
 use crate::place::{LinkState, Place};
@@ -132,6 +132,26 @@ impl<S: Drop> DatabaseLinks<S> {
         };
         let entry = &mut self.entries[index as usize];
         entry.lend(slot)
+    }
+
+    // The client of a slot gets the quarantined link of a place. Its tickets stay open.
+    pub(crate) fn take_back(&mut self, index: u16, slot: SlotNo) -> Option<Lease<S>>
+        requires quarantined { IsQuarantined (slice_get self.old.entries index) }
+        ensures { (was : EntryOf S) → slice_get self.old.entries index ≡ Some was
+            → (result ≡ stored_link was) × (self.new ≡ with_entry index (lent slot was) self.old) }
+    {
+        let entry = &mut self.entries[index as usize];
+        entry.lend(slot)
+    }
+
+    // The client has left that gave the quarantined link of a place back.
+    pub(crate) fn forget_giver(&mut self, index: u16)
+        requires quarantined { IsQuarantined (slice_get self.old.entries index) }
+        ensures { (was : EntryOf S) → slice_get self.old.entries index ≡ Some was
+            → self.new ≡ with_entry index (ungiven was) self.old }
+    {
+        let entry = &mut self.entries[index as usize];
+        entry.forget_giver();
     }
 
     // This is at a place from now on, at which no idle link was.

@@ -1,10 +1,11 @@
 //! Clients that ask for a link, wait for one, and leave.
-ghost use Rattle.std.specs.Prelude.{◌≡◌, ◌≢◌, ◌<◌, ℕ, false, Some, None, IfSome, IfNone, length, slice_get};
+ghost use Rattle.std.specs.Prelude.{◌≡◌, ◌≢◌, ◌<◌, ℕ, true, false, Some, None, IfSome, IfNone, length, slice_get};
+ghost use Rattle.lease.specs.declared.link_place.LinkPlace.{LinkPlace as LinkPlaceOf};
 ghost use Rattle.link_pool.specs.declared.place.Claim.TheVariants as claim;
 ghost use Rattle.link_pool.specs.declared.place.Place.TheVariants as place;
-ghost use Rattle.link_pool.specs.Pool.{place_at, queue_at, with_queue, with_claim, unqueued, queued, behind};
+ghost use Rattle.link_pool.specs.Pool.{place_at, queue_at, with_queue, with_claim, unqueued, departed, queued, behind};
 ghost use Rattle.link_pool.specs.OnePlace.{IsPool};
-ghost use Rattle.link_pool.specs.PoolStep.{is_holding, is_first, nth_of, NoIdle, NoneFree, IsLowestFree, Gets, AcquireStep, LeaveStep};
+ghost use Rattle.link_pool.specs.PoolStep.{is_holding, may_ask, is_first, nth_of, NoIdle, NoneFree, IsLowestFree, Gets, GetsBack, AcquireStep, LeaveStep, UnwaitStep};
 ghost use Rattle.link_pool.specs.Streams.{Takes, AcquireStreams};
 ghost use Rattle.link_pool.specs.Said.{acquire_said};
 
@@ -59,7 +60,92 @@ impl<S: Drop> Pool<S> {
         self.claims[slot.get() as usize] = Claim::Waiting(database);
     }
 
-    /// The client of a slot leaves, if it has no link and no permit: it no longer waits.
+    // The client of a slot has this from now on: it had nothing of the kind that a place or a queue knows of, and
+    // has nothing of that kind.
+    fn set_claim(&mut self, slot: SlotNo, claim: Claim)
+        requires slot { slot < length self.old.view.claims }
+        requires whole { IsPool (with_claim self.old.view slot claim) }
+        ensures view { self.new.view ≡ with_claim self.old.view slot claim }
+        ensures streams { self.new.stored ≡ self.old.stored }
+        ensures whole { IsPool self.new.view }
+    {
+        self.claims[slot.get() as usize] = claim;
+    }
+
+    // Whether the wait of a slot's client was cancelled. It was told so from now on.
+    fn tell_cancelled(&mut self, slot: SlotNo) -> bool
+        ensures cancelled { result ≡ true → (slice_get self.old.view.claims slot ≡ Some claim.Cancelled)
+            × (self.new.view ≡ with_claim self.old.view slot claim.Nothing) }
+        ensures streams { self.new.stored ≡ self.old.stored }
+        ensures not_cancelled { result ≡ false → (slice_get self.old.view.claims slot ≢ Some claim.Cancelled)
+            × (self.new.view ≡ self.old.view) }
+        ensures whole { IsPool self.new.view }
+    {
+        let Some(Claim::Cancelled) = self.claim(slot) else {
+            return false;
+        };
+        self.set_claim(slot, Claim::Nothing);
+        true
+    }
+
+    /// The wait of a slot's client is cancelled, if it waits: it leaves the queue, and its next `acquire` answers so.
+    pub fn unwait(&mut self, slot: SlotNo)
+        ensures step { UnwaitStep slot self.old.view self.new.view }
+        ensures streams { self.new.stored ≡ self.old.stored }
+        ensures whole { IsPool self.new.view }
+    {
+        let Some(Claim::Waiting(_)) = self.claim(slot) else {
+            return;
+        };
+        self.leave_queue(slot);
+        self.set_claim(slot, Claim::Cancelled);
+    }
+
+    // The place of the link that a slot's client gave back, if that is still quarantined.
+    fn gave(&self, slot: SlotNo) -> Option<LinkPlace>
+        ensures gave { IfSome result (λ at. slice_get self.now.view.claims slot ≡ Some (claim.Gave at)) }
+        ensures none { IfNone result ((at : LinkPlaceOf) → slice_get self.now.view.claims slot ≢ Some (claim.Gave at)) }
+        ensures whole { IsPool self.now.view }
+    {
+        let Some(claim) = self.claim(slot) else {
+            return None;
+        };
+        claim.gave()
+    }
+
+    // The client of a slot, which gave back the link of this place, leaves it there: the link stays quarantined.
+    fn leave_link(&mut self, slot: SlotNo, at: &LinkPlace)
+        requires gave { slice_get self.old.view.claims slot ≡ Some (claim.Gave at.now) }
+        ensures view { self.new.view ≡ departed self.old.view slot }
+        ensures streams { self.new.stored ≡ self.old.stored }
+        ensures whole { IsPool self.new.view }
+    {
+        let pool = &mut self.pools[at.database.get() as usize];
+        pool.forget_giver(at.index);
+        self.claims[slot.get() as usize] = Claim::Nothing;
+    }
+
+    // The client of a slot gets back the link that it gave back, if that is still quarantined.
+    fn take_back(&mut self, slot: SlotNo) -> Option<Lease<S>>
+        ensures got { IfSome result (λ lease. GetsBack slot lease.details self.old.view self.new.view) }
+        ensures stream { IfSome result (λ lease. Takes lease.details.at lease.stream self.old.stored self.new.stored) }
+        ensures none { IfNone result ((at : LinkPlaceOf) → slice_get self.old.view.claims slot ≢ Some (claim.Gave at)) }
+        ensures same { IfNone result (self.new ≡ self.old) }
+        ensures whole { IsPool self.new.view }
+    {
+        let Some(at) = self.gave(slot) else {
+            return None;
+        };
+        let pool = &mut self.pools[at.database.get() as usize];
+        let Some(lease) = pool.take_back(at.index, slot) else {
+            return None;
+        };
+        self.claims[slot.get() as usize] = Claim::Link(at);
+        Some(lease)
+    }
+
+    /// The client of a slot leaves, if it has no link and no permit: it no longer waits, is told of no cancelled wait,
+    /// and takes no link again.
     pub fn leave(&mut self, slot: SlotNo) -> LeaveReply
         ensures step { LeaveStep slot result self.old.view self.new.view }
         ensures streams { self.new.stored ≡ self.old.stored }
@@ -68,7 +154,13 @@ impl<S: Drop> Pool<S> {
         if self.is_holding(slot) {
             return LeaveReply::Holding;
         }
-        self.leave_queue(slot);
+        if self.tell_cancelled(slot) {
+            return LeaveReply::Left;
+        }
+        match self.gave(slot) {
+            Some(at) => self.leave_link(slot, &at),
+            None => self.leave_queue(slot),
+        }
         LeaveReply::Left
     }
 
@@ -77,7 +169,7 @@ impl<S: Drop> Pool<S> {
         requires slot { slot < length self.old.view.claims }
         requires database { database < length self.old.view.pools }
         requires waits { (other : ℕ) → slice_get self.old.view.claims slot ≡ Some (claim.Waiting other) → other ≡ database }
-        requires free { is_holding (slice_get self.old.view.claims slot) ≡ false }
+        requires free { may_ask (slice_get self.old.view.claims slot) ≡ true }
         ensures got { IfSome result (λ lease. Gets slot database lease.details self.old.view self.new.view) }
         ensures stream { IfSome result (λ lease. Takes lease.details.at lease.stream self.old.stored self.new.stored) }
         ensures none { IfNone result (NoIdle database self.old.view) }
@@ -121,7 +213,7 @@ impl<S: Drop> Pool<S> {
     fn wait(&mut self, slot: SlotNo, database: DatabaseNo)
         requires slot { slot < length self.old.view.claims }
         requires database { database < length self.old.view.pools }
-        requires not_holding { is_holding (slice_get self.old.view.claims slot) ≡ false }
+        requires asks { may_ask (slice_get self.old.view.claims slot) ≡ true }
         ensures view { self.new.view ≡ queued self.old.view slot database }
         ensures streams { self.new.stored ≡ self.old.stored }
         ensures whole { IsPool self.new.view }
@@ -131,8 +223,10 @@ impl<S: Drop> Pool<S> {
         }
     }
 
-    /// The client of a slot, which waits for no other database, asks for a link of this one. It gets an idle one,
-    /// if nobody waits before it; else the leave to open one, if a place is free; else it waits.
+    /// The client of a slot, which waits for no other database, asks for a link of this one. It is told once if its
+    /// wait was cancelled. It gets the link that it gave back, if that is still quarantined, also where others wait.
+    /// Else it gets an idle one, if nobody waits before it; else the leave to open one, if a place is free; else it
+    /// waits.
     pub fn acquire(&mut self, slot: SlotNo, database: DatabaseNo) -> AcquireReply<Lease<S>, Permit>
         requires slot { slot < length self.old.view.claims }
         requires database { database < length self.old.view.pools }
@@ -143,6 +237,12 @@ impl<S: Drop> Pool<S> {
     {
         if self.is_holding(slot) {
             return AcquireReply::Holding;
+        }
+        if self.tell_cancelled(slot) {
+            return AcquireReply::Cancelled;
+        }
+        if let Some(lease) = self.take_back(slot) {
+            return AcquireReply::Got(lease);
         }
         if !self.is_first(slot, database) {
             self.wait(slot, database);

@@ -5,33 +5,37 @@ ghost use Rattle.link_pool.specs.declared.place.Place.TheVariants as place;
 ghost use Rattle.link_pool.specs.declared.place.LinkState.TheVariants as state;
 ghost use Rattle.link_pool.specs.declared.place.Claim.TheVariants as claim;
 ghost use Rattle.link_pool.specs.declared.place.Link.{Link as LinkOf};
-ghost use Rattle.link_pool.specs.Pool.{place_at, with_place};
+ghost use Rattle.link_pool.specs.Pool.{place_at, with_place, nothing_for};
 ghost use Rattle.link_pool.specs.OnePlace.{IsPool, LinkFits};
 ghost use Rattle.link_pool.specs.PoolStep.{IsTicket, StaleTicket, EndedStep, FailedStep, ServeStep};
-ghost use Rattle.link_pool.specs.Parts.{IsLent, Leaves, settled_place, is_leaving};
+ghost use Rattle.link_pool.specs.Parts.{IsLent, Leaves, settled_place, settled_giver, is_leaving};
 ghost use Rattle.link_pool.specs.Streams.{FailedStreams};
 ghost use Rattle.link_pool.specs.Said.{failed_said};
 
 use super::Pool;
-use crate::place::{Link, Place};
+use crate::place::{Claim, Link, Place};
 use crate::replies::{EndedReply, FailedReply, ServeReply};
 use lease::{LinkPlace, LinkRecord, Ticket, TicketRecord};
 use pg_ids::SlotNo;
-use quarantine::Hold;
+use quarantine::{Hold, HoldState};
 
 impl<S: Drop> Pool<S> {
     // A link that isn't idle has these tickets. If it is quarantined, then it is idle once none is open, and it
-    // leaves the pool once it is condemned: its stream is returned.
+    // leaves the pool once it is condemned: its stream is returned. Then its giver can't take it again.
     fn settle(&mut self, link: &Link, hold: Hold) -> Option<S>
         requires was { place_at self.old.view link.now.details.at ≡ Some (place.Link link.now) }
         requires not_idle { link.now.state ≢ state.Idle }
         requires few { hold.tickets ≤ 65535 }
         ensures view { self.new.view
-            ≡ with_place self.old.view link.now.details.at (settled_place hold (place.Link link.now)) }
+            ≡ nothing_for (settled_giver link.now.state hold)
+                (with_place self.old.view link.now.details.at (settled_place hold (place.Link link.now))) }
         ensures streams { Leaves link.now.details.at result self.old.stored self.new.stored }
         ensures leaves { is_some result ≡ is_leaving hold (place.Link link.now) }
         ensures whole { IsPool self.new.view }
     {
+        if let Some(slot) = freed_giver(link, hold) {
+            self.claims[slot.get() as usize] = Claim::Nothing;
+        }
         let pool = &mut self.pools[link.details.at.database.get() as usize];
         pool.settle(link.details.at.index, hold)
     }
@@ -160,5 +164,15 @@ impl<S: Drop> Pool<S> {
         let _none = self.settle(&link, hold);
         let ticket = Ticket::new(self.ticket(number, &link));
         ServeReply::Serve(ticket, link.at().database, link.key)
+    }
+}
+
+// The client that may no longer take a link again that has these tickets from now on.
+fn freed_giver(link: &Link, hold: Hold) -> Option<SlotNo>
+    ensures { result ≡ settled_giver link.now.state hold }
+{
+    match hold.state() {
+        HoldState::Waiting(_) => None,
+        HoldState::Clear | HoldState::Condemned => link.giver(),
     }
 }
