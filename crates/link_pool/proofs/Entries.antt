@@ -8,12 +8,14 @@ use Rattle.std.proofs.lemmas.List.{map-set, length-map}
 use Rattle.lease.specs.declared.link_place.LinkPlace.{LinkPlace}
 use Rattle.link_pool.specs.Pool.{DatabasePool, at_place, place_in, changed, others}
 use Rattle.link_pool.specs.Streams.{stream_there, stored_in, stored_at, has_stream, Moves}
-use Rattle.link_pool.proofs.Places.{slice_get-set_same, slice_get-set_other, set_same}
+use Rattle.link_pool.proofs.Places.{slice_get-set_same, slice_get-set_other, set_same, eq_yes}
 use Rattle.link_pool.proofs.Changes.{changed_here, changed_there, changed_is_set, changed_id, wrote, was_read, one_place}
 use Rattle.link_pool.specs.declared.entry.Entry.{Entry}
 use Rattle.link_pool.specs.declared.entry.Entry.TheVariants as entry
 use Rattle.link_pool.specs.declared.place.Place.{Place}
 use Rattle.link_pool.specs.declared.place.Place.TheVariants as place
+use Rattle.quarantine.specs.OpenTickets.{OpenTickets}
+use Rattle.link_pool.specs.OnePlace.{given_by}
 use Rattle.link_pool.specs.Entries.{Entries, place_of, stream_of, idle_entry, pool_in, streams_in, with_entry}
 use Rattle.link_pool.specs.PoolStep.{is_idle}
 use Rattle.link_pool.specs.Parts.{is_bare, Stores}
@@ -27,7 +29,7 @@ is_free (Some entry.Free) h = refl
 is_free (Some (entry.Open permit slot)) h = absurd (cc)
 is_free (Some (entry.Held details key hold slot)) h = absurd (cc)
 is_free (Some (entry.Idle link key)) h = absurd (cc)
-is_free (Some (entry.Quarantined link key hold)) h = absurd (cc)
+is_free (Some (entry.Quarantined link key hold giver)) h = absurd (cc)
 
 -- a place without a stream
 pub record IsBareEntry {S : Type 0} (o : Option (Entry S)) : Type 0 where
@@ -42,7 +44,7 @@ bare_entry (Some entry.Free) h = record { was = entry.Free; is = refl; not_idle 
 bare_entry (Some (entry.Open permit slot)) h = record { was = entry.Open permit slot; is = refl; not_idle = refl; no_stream = refl }
 bare_entry (Some (entry.Held details key hold slot)) h = record { was = entry.Held details key hold slot; is = refl; not_idle = refl; no_stream = refl }
 bare_entry (Some (entry.Idle link key)) h = absurd (cc)
-bare_entry (Some (entry.Quarantined link key hold)) h = absurd (cc)
+bare_entry (Some (entry.Quarantined link key hold giver)) h = absurd (cc)
 
 -- an idle link
 pub record IsIdleEntry {S : Type 0} (o : Option (Entry S)) : Type 0 where
@@ -56,7 +58,18 @@ idle_one (Some entry.Free) h = absurd (cc)
 idle_one (Some (entry.Open permit slot)) h = absurd (cc)
 idle_one (Some (entry.Held details key hold slot)) h = absurd (cc)
 idle_one (Some (entry.Idle link key)) h = record { link = link; key = key; is = refl }
-idle_one (Some (entry.Quarantined link key hold)) h = absurd (cc)
+idle_one (Some (entry.Quarantined link key hold giver)) h = absurd (cc)
+
+-- a quarantined link that the client of the slot gave back
+pub record IsGivenEntry {S : Type 0} (o : Option (Entry S)) (slot : ℕ) : Type 0 where
+  pub link : LinkValue S
+  pub key : List ℕ
+  pub hold : OpenTickets
+  pub is : o ≡ Some (entry.Quarantined link key hold (Some slot))
+
+given_entry : {S : Type 0} (o : Option (Entry S)) (slot : ℕ) → given_by slot (option_map place_of o) ≡ true → IsGivenEntry o slot
+given_entry (Some (entry.Quarantined link key hold (Some other))) slot h = record { link = link; key = key; hold = hold; is = ap (λ (s : ℕ). Some (entry.Quarantined link key hold (Some s))) (eq_yes other slot h) }
+given_entry o slot h = absurd (cc)
 
 -- what is at a place of the pools
 abbrev pub entry_in : {S : Type 0} → Option (Entries S) → ℕ → Option (Entry S)
@@ -87,7 +100,7 @@ has_its_stream (Some entry.Free) = refl
 has_its_stream (Some (entry.Open permit slot)) = refl
 has_its_stream (Some (entry.Held details key hold slot)) = refl
 has_its_stream (Some (entry.Idle link key)) = refl
-has_its_stream (Some (entry.Quarantined link key hold)) = refl
+has_its_stream (Some (entry.Quarantined link key hold giver)) = refl
 
 -- a stream lies exactly where a link is idle or quarantined
 pub are_stored : {S : Type 0} (pools : List (Entries S)) (at : LinkPlace) → is_some (stored_at (map streams_in pools) at) ≡ has_stream (place_in (slice_get (map pool_in pools) at.database) at.index)
@@ -164,6 +177,9 @@ entry_of (Some e) p h = record { was = e; is = refl; same = same_Some (place_of 
 pub entry_seen : {S : Type 0} (pools : List (Entries S)) (at : LinkPlace) (p : Place) → place_in (slice_get (map pool_in pools) at.database) at.index ≡ Some p → IsEntry (entry_at pools at) p
 entry_seen pools at p h = entry_of (entry_at pools at) p (sym (seen_at pools at) ∙ h)
 
+pub given_seen : {S : Type 0} (pools : List (Entries S)) (at : LinkPlace) (slot : ℕ) → given_by slot (place_in (slice_get (map pool_in pools) at.database) at.index) ≡ true → IsGivenEntry (entry_at pools at) slot
+given_seen pools at slot h = given_entry (entry_at pools at) slot (ap (given_by slot) (sym (seen_at pools at)) ∙ h)
+
 pub bare_seen : {S : Type 0} (pools : List (Entries S)) (at : LinkPlace) → is_bare (place_in (slice_get (map pool_in pools) at.database) at.index) ≡ true → IsBareEntry (entry_at pools at)
 bare_seen pools at h = bare_entry (entry_at pools at) (ap is_bare (sym (seen_at pools at)) ∙ h)
 
@@ -172,7 +188,7 @@ pool_inside : {S : Type 0} (o : Option (Entries S)) (i : ℕ) (was : Entry S) �
 pool_inside None i was h = absurd (cc)
 pool_inside (Some pool) i was h = (pool, refl)
 
-pool_within : {S : Type 0} (pools : List (Entries S)) (at : LinkPlace) (was : Entry S) → entry_at pools at ≡ Some was → at.database < length pools
+pub pool_within : {S : Type 0} (pools : List (Entries S)) (at : LinkPlace) (was : Entry S) → entry_at pools at ≡ Some was → at.database < length pools
 pool_within pools at was h = let pool = pool_inside (slice_get pools at.database) at.index was h in slice_get_within pools at.database pool.0 pool.1
 
 -- the entry in the pool that was read

@@ -11,7 +11,7 @@ use Rattle.link_pool.specs.declared.place.Claim.TheVariants as claim
 use Rattle.link_pool.specs.declared.place.Place.{Place}
 use Rattle.link_pool.specs.declared.place.Place.TheVariants as place
 use Rattle.link_pool.specs.Pool.{DatabasePool, PoolView, place_in, place_at, queue_in}
-use Rattle.link_pool.specs.OnePlace.{Fits, has_link, has_permit, held_by, open_for, waits, times, waiting_claims, link_number, permit_number, HasRoom, IsPool}
+use Rattle.link_pool.specs.OnePlace.{Fits, has_link, has_permit, has_given, held_by, open_for, given_by, waits, times, waiting_claims, link_number, permit_number, HasRoom, IsPool}
 use Rattle.link_pool.specs.PoolStep.{empty_pool, empty_pools, emptied, fresh}
 use Rattle.link_pool.specs.Entries.{Entries, place_of, stream_of, idle_entry, freed, new_links, pool_in, streams_in}
 use Rattle.link_pool.specs.Streams.{stream_there, stored_in, NothingStored}
@@ -73,6 +73,7 @@ whole_empty peer incarnation link permit ticket slots size room xs rooms numbers
       fits = λ at. ⊎_elim (λ n. subst (Fits v at) (sym n) tt) (λ s. subst (Fits v at) (sym s) tt) (free at);
       links = λ s at. alike (has_link at) claim.Nothing (slice_get v.claims s) refl (none s) ∙ sym (alike (held_by s) place.Free (place_at v at) refl (free at));
       permits = λ s at. alike (has_permit at) claim.Nothing (slice_get v.claims s) refl (none s) ∙ sym (alike (open_for s) place.Free (place_at v at) refl (free at));
+      given = λ s at. alike (has_given at) claim.Nothing (slice_get v.claims s) refl (none s) ∙ sym (alike (given_by s) place.Free (place_at v at) refl (free at));
       queues = λ s d. alike (waits d) claim.Nothing (slice_get v.claims s) refl (none s) ∙ sym (ap (times s) (ap queue_in (pool d) ∙ none_waits size room (slice_get xs d)));
       link_once = λ at other n h k. let e : None ≡ Some n = sym (alike link_number place.Free (place_at v at) refl (free at)) ∙ h in absurd (cc);
       permit_once = λ at other n h k. let e : None ≡ Some n = sym (alike permit_number place.Free (place_at v at) refl (free at)) ∙ h in absurd (cc);

@@ -8,11 +8,11 @@ use Rattle.lease.specs.declared.link_place.LinkPlace.{LinkPlace}
 use Rattle.link_pool.specs.declared.place.Claim.{Claim}
 use Rattle.link_pool.specs.declared.place.Claim.TheVariants as claim
 use Rattle.link_pool.specs.Pool.{DatabasePool, PoolView, at_place, place_at, queue_in, queue_at, changed, with_queue, with_claim, others, behind}
-use Rattle.link_pool.specs.OnePlace.{has_link, has_permit, held_by, open_for, waits, times, waiting_claims, link_number, permit_number, HasRoom, IsPool}
+use Rattle.link_pool.specs.OnePlace.{waits, times, waiting_claims, link_number, permit_number, HasRoom, IsPool}
 use Rattle.link_pool.specs.Stacks.{place_of}
 use Rattle.link_pool.proofs.Places.{slice_get-set_same, slice_get-set_other, eq_self, eq_yes, eq_no, times_joined}
 use Rattle.link_pool.proofs.Changes.{changed_here, changed_there, place_with_queue, queue_here, queue_there}
-use Rattle.link_pool.proofs.Whole.{agree_changed, waiting_claims-set, fits_more}
+use Rattle.link_pool.proofs.Whole.{says, tells, ties, agree_changed, waiting_claims-set, fits_more}
 
 -- by the place in the queue
 others_at : (slot x : ℕ) (rest : List ℕ) (b : Bool) → (x == slot) ≡ b → others slot rest ≡ remove rest (place_of slot rest) → others slot (x ∷ rest) ≡ remove (x ∷ rest) (place_of slot (x ∷ rest))
@@ -60,8 +60,7 @@ length_left slot (x ∷ rest) some = length_left_at slot x rest (x == slot) refl
 pub record Requeues (v : PoolView) (d : ℕ) (pool : DatabasePool) (change : List ℕ → List ℕ) (slot : ℕ) (was claim : Claim) : Type 0 where
   pub there : slice_get v.pools d ≡ Some pool
   pub had : slice_get v.claims slot ≡ Some was
-  pub links : (k : LinkPlace) → has_link k (Some claim) ≡ has_link k (Some was)
-  pub permits : (k : LinkPlace) → has_permit k (Some claim) ≡ has_permit k (Some was)
+  pub same : (k : LinkPlace) → says k (Some claim) ≡ says k (Some was)
   pub others_wait : (s : ℕ) → s ≢ slot → times s (change pool.waiting) ≡ times s pool.waiting
   pub here : waits d (Some claim) ≡ times slot (change pool.waiting)
   pub elsewhere : (e : ℕ) → e ≢ d → waits e (Some claim) ≡ waits e (Some was)
@@ -83,16 +82,15 @@ requeued v d pool change slot was claim whole m =
     let queue : queue_at v d ≡ pool.waiting = ap queue_in m.there in
     let made : queue_at (with_queue v d change) d ≡ change pool.waiting = queue_here v d pool change m.there ∙ ap change queue in
     let slots : (s : ℕ) → (s ≡ slot) ⊎ ((s ≢ slot) × (slice_get (set v.claims slot claim) s ≡ slice_get v.claims s)) = λ s. ⊎_elim (λ e. inl e) (λ n. inr (n, slice_get-set_other v.claims slot s claim n)) (cases_eq s slot) in
+    let tie : (s : ℕ) (k : LinkPlace) → says k (slice_get (set v.claims slot claim) s) ≡ tells s (place_at (with_queue v d change) k) = λ s k. ⊎_elim
+    (λ e. subst (λ (t : ℕ). says k (slice_get (set v.claims slot claim) t) ≡ tells t (place_at (with_queue v d change) k)) (sym e) (ap (says k) now ∙ m.same k ∙ ap (says k) (sym m.had) ∙ ties v whole slot k ∙ ap (tells slot) (sym (place_with_queue v d change k))))
+    (λ n. ap (says k) n.1 ∙ ties v whole s k ∙ ap (tells s) (sym (place_with_queue v d change k)))
+    (slots s) in
     record {
       fits = λ k. fits_more v (with_claim (with_queue v d change) slot claim) k (place_at (with_queue v d change) k) refl refl (omega arith) (omega arith) (rw (place_with_queue v d change k) (whole.fits k));
-      links = λ s k. ⊎_elim
-          (λ e. subst (λ (t : ℕ). has_link k (slice_get (set v.claims slot claim) t) ≡ held_by t (place_at (with_queue v d change) k)) (sym e) (ap (has_link k) now ∙ m.links k ∙ ap (has_link k) (sym m.had) ∙ whole.links slot k ∙ ap (held_by slot) (sym (place_with_queue v d change k))))
-          (λ n. ap (has_link k) n.1 ∙ whole.links s k ∙ ap (held_by s) (sym (place_with_queue v d change k)))
-          (slots s);
-      permits = λ s k. ⊎_elim
-          (λ e. subst (λ (t : ℕ). has_permit k (slice_get (set v.claims slot claim) t) ≡ open_for t (place_at (with_queue v d change) k)) (sym e) (ap (has_permit k) now ∙ m.permits k ∙ ap (has_permit k) (sym m.had) ∙ whole.permits slot k ∙ ap (open_for slot) (sym (place_with_queue v d change k))))
-          (λ n. ap (has_permit k) n.1 ∙ whole.permits s k ∙ ap (open_for s) (sym (place_with_queue v d change k)))
-          (slots s);
+      links = λ s k. ap (λ (t : Bool × Bool × Bool). t.0) (tie s k);
+      permits = λ s k. ap (λ (t : Bool × Bool × Bool). t.1) (tie s k);
+      given = λ s k. ap (λ (t : Bool × Bool × Bool). t.2) (tie s k);
       queues = agree_changed waits times (queue_at v) (queue_at (with_queue v d change)) (slice_get v.claims) (slice_get (set v.claims slot claim)) d slot whole.queues
           (λ e. ⊎_elim (λ same. inl same) (λ n. inr (n, queue_there v d e change n)) (cases_eq e d))
           slots
@@ -134,8 +132,7 @@ left v d slot whole h =
     requeued v d pool.0 (others slot) slot (claim.Waiting d) claim.Nothing whole record {
       there = pool.1;
       had = h;
-      links = λ k. refl;
-      permits = λ k. refl;
+      same = λ k. refl;
       others_wait = λ s n. times_other slot s pool.0.waiting n;
       here = omega (arith, less, once);
       elsewhere = λ e n. sym (waits_not d e n);
@@ -150,8 +147,7 @@ joined v d slot pool whole there h =
     requeued v d pool (behind slot) slot claim.Nothing (claim.Waiting d) whole record {
       there = there;
       had = h;
-      links = λ k. refl;
-      permits = λ k. refl;
+      same = λ k. refl;
       others_wait = λ s n. times_joined s slot pool.waiting ∙ rw (eq_no slot s (λ t. n (sym t))) (omega arith);
       here = waits_self d ∙ sym (times_joined slot slot pool.waiting ∙ rw (eq_self slot, never) refl);
       elsewhere = λ e n. waits_not d e n;
@@ -166,9 +162,11 @@ at_most false m n h = omega arith
 waiting_few : (d : ℕ) (claims : List Claim) → waiting_claims d claims ≤ length claims
 waiting_few d [] = omega arith
 waiting_few d (claim.Nothing ∷ claims) = let e = waiting_few d claims in omega (arith, e)
+waiting_few d (claim.Cancelled ∷ claims) = let e = waiting_few d claims in omega (arith, e)
 waiting_few d (claim.Waiting e ∷ claims) = at_most (e == d) (waiting_claims d claims) (length claims) (waiting_few d claims)
 waiting_few d (claim.Open at ∷ claims) = let e = waiting_few d claims in omega (arith, e)
 waiting_few d (claim.Link at ∷ claims) = let e = waiting_few d claims in omega (arith, e)
+waiting_few d (claim.Gave at ∷ claims) = let e = waiting_few d claims in omega (arith, e)
 
 pub room_to_wait : (v : PoolView) (d slot : ℕ) (pool : DatabasePool) → IsPool v → slice_get v.pools d ≡ Some pool → slice_get v.claims slot ≡ Some claim.Nothing → length pool.waiting < pool.room
 room_to_wait v d slot pool whole there h =

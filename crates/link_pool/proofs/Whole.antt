@@ -1,5 +1,5 @@
 -- What is true of every node's pools stays true.
-use Rattle.std.proofs.Common.{◌≡◌, ◌≢◌, ℕ, zero, suc, ◌≤◌, ◌+◌, List, [], ◌∷◌, option_map, unwrap_or, get_or, Option, Some, None, length, length-set, refl, ap, sym, subst, ◌∙◌, arith, ⊎_elim, ◌⊎◌, inl, inr}
+use Rattle.std.proofs.Common.{◌≡◌, ◌≢◌, ℕ, zero, suc, ◌≤◌, ◌<◌, ◌+◌, Bool, false, List, [], ◌∷◌, option_map, unwrap_or, get_or, Option, Some, None, length, length-set, refl, ap, sym, subst, ◌∙◌, arith, ⊎_elim, ◌⊎◌, inl, inr}
 use Rattle.std.proofs.Math.ListN.{set}
 use Rattle.std.specs.List.{slice_get}
 use Rattle.std.proofs.lemmas.Option.{slice_get_within, slice_get-map, unwrap_or-slice_get}
@@ -9,7 +9,7 @@ use Rattle.link_pool.specs.declared.place.Place.{Place}
 use Rattle.link_pool.specs.declared.place.Place.TheVariants as place
 use Rattle.link_pool.specs.declared.place.Claim.{Claim}
 use Rattle.link_pool.specs.Pool.{DatabasePool, PoolView, at_place, place_at, queue_at, with_place, with_claim}
-use Rattle.link_pool.specs.OnePlace.{Fits, has_link, has_permit, held_by, open_for, waits, times, used, used_in, sizes, WithinSizes, waiting_claims, link_number, permit_number, HasRoom, IsPool}
+use Rattle.link_pool.specs.OnePlace.{Fits, has_link, has_permit, has_given, held_by, open_for, given_by, waits, times, used, used_in, sizes, WithinSizes, waiting_claims, link_number, permit_number, HasRoom, IsPool}
 use Rattle.link_pool.proofs.Places.{slice_get-set_same, slice_get-set_other}
 use Rattle.link_pool.proofs.Changes.{one_place, changed_here, changed_there, place_here, place_there, queue_with_place}
 
@@ -65,20 +65,41 @@ agree_changed {K} {V} {R} f g look new_look claim new_claim key slot agree keys 
     (slots s))
     (keys k)
 
--- what a change at one place and for one client has to keep
-pub record Moves (v : PoolView) (at : LinkPlace) (old p : Place) (slot : ℕ) (was claim : Claim) : Type 0 where
-  pub there : place_at v at ≡ Some old
-  pub had : slice_get v.claims slot ≡ Some was
-  pub fits : Fits v at (Some p)
-  pub link_others : (s : ℕ) → s ≢ slot → held_by s (Some p) ≡ held_by s (Some old)
-  pub permit_others : (s : ℕ) → s ≢ slot → open_for s (Some p) ≡ open_for s (Some old)
-  pub link_elsewhere : (k : LinkPlace) → k ≢ at → has_link k (Some claim) ≡ has_link k (Some was)
-  pub permit_elsewhere : (k : LinkPlace) → k ≢ at → has_permit k (Some claim) ≡ has_permit k (Some was)
-  pub link_here : has_link at (Some claim) ≡ held_by slot (Some p)
-  pub permit_here : has_permit at (Some claim) ≡ open_for slot (Some p)
-  pub same_wait : (d : ℕ) → waits d (Some claim) ≡ waits d (Some was)
-  pub new_link : (n : ℕ) → link_number (Some p) ≡ Some n → (link_number (Some old) ≡ Some n) ⊎ ((k : LinkPlace) → link_number (place_at v k) ≢ Some n)
-  pub new_permit : (n : ℕ) → permit_number (Some p) ≡ Some n → (permit_number (Some old) ≡ Some n) ⊎ ((k : LinkPlace) → permit_number (place_at v k) ≢ Some n)
+-- what a claim says of a place: that the client has the link, that it has the permit, that it gave the link back
+abbrev pub says : LinkPlace → Option Claim → Bool × Bool × Bool
+says at o = (has_link at o, has_permit at o, has_given at o)
+
+-- what a place says of a client, likewise
+abbrev pub tells : ℕ → Option Place → Bool × Bool × Bool
+tells slot o = (held_by slot o, open_for slot o, given_by slot o)
+
+abbrev pub silent : Bool × Bool × Bool
+silent = (false, false, false)
+
+pub three : {a b c d e f : Bool} → a ≡ d → b ≡ e → c ≡ f → ◌≡◌ {A = Bool × Bool × Bool} (a, b, c) (d, e, f)
+three p q r = rw (p, q, r) refl
+
+-- claims and places say the same
+pub ties : (v : PoolView) → IsPool v → (s : ℕ) (k : LinkPlace) → says k (slice_get v.claims s) ≡ tells s (place_at v k)
+ties v whole s k = three (whole.links s k) (whole.permits s k) (whole.given s k)
+
+-- a place and a claim that speak of each other, and of nothing else
+pub record Alone (at : LinkPlace) (slot : ℕ) (p : Place) (claim : Claim) : Type 0 where
+  pub others : (s : ℕ) → s ≢ slot → tells s (Some p) ≡ silent
+  pub elsewhere : (k : LinkPlace) → k ≢ at → says k (Some claim) ≡ silent
+  pub here : says at (Some claim) ≡ tells slot (Some p)
+  pub no_wait : (d : ℕ) → waits d (Some claim) ≡ 0
+
+-- what is at a place, and what the client has of it, or may take again
+pub record IsOf (v : PoolView) (at : LinkPlace) (slot : ℕ) (what : Place) (claimed : Claim) : Type 0 where
+  pub there : place_at v at ≡ Some what
+  pub had : slice_get v.claims slot ≡ Some claimed
+  pub within : slot < length v.claims
+  pub alone : Alone at slot what claimed
+
+-- a number is as it was, or no other's
+abbrev pub IsNew : (Option Place → Option ℕ) → PoolView → Place → Place → Type 0
+IsNew number v old p = (n : ℕ) → number (Some p) ≡ Some n → (number (Some old) ≡ Some n) ⊎ ((k : LinkPlace) → number (place_at v k) ≢ Some n)
 
 -- a slot is the one that changed, or has what it had
 slot_cases : (claims : List Claim) (slot s : ℕ) (claim : Claim) → (s ≡ slot) ⊎ ((s ≢ slot) × (slice_get (set claims slot claim) s ≡ slice_get claims s))
@@ -128,30 +149,74 @@ rooms_with_place v at p new w l h d = ⊎_elim
     (cases_eq d at.database)
 
 -- after a change at one place and for one client
-pub moved : (v : PoolView) (at : LinkPlace) (old p : Place) (slot : ℕ) (was claim : Claim) → IsPool v → Moves v at old p slot was claim → IsPool (with_claim (with_place v at p) slot claim)
-moved v at old p slot was claim whole m =
-    let here = place_here v at old p m.there in
-    let within = slice_get_within v.claims slot was m.had in
-    let now = slice_get-set_same v.claims slot claim within in
+pub moved : {old : Place} {was : Claim} (v : PoolView) (at : LinkPlace) (slot : ℕ) (p : Place) (claim : Claim) → IsPool v → IsOf v at slot old was → Alone at slot p claim → Fits v at (Some p)
+    → IsNew link_number v old p → IsNew permit_number v old p → IsPool (with_claim (with_place v at p) slot claim)
+moved {old} {was} v at slot p claim whole of alone fits link permit =
+    let here = place_here v at old p of.there in
+    let now = slice_get-set_same v.claims slot claim of.within in
+    let wait : (d : ℕ) → waits d (Some claim) ≡ waits d (Some was) = λ d. alone.no_wait d ∙ sym (of.alone.no_wait d) in
+    let tie = agree_changed says tells (place_at v) (place_at (with_place v at p)) (slice_get v.claims) (slice_get (set v.claims slot claim)) at slot (ties v whole)
+    (λ k. key_cases v at k p) (λ s. slot_cases v.claims slot s claim)
+    (λ s n. ap (tells s) here ∙ alone.others s n ∙ sym (of.alone.others s n) ∙ ap (tells s) (sym of.there))
+    (λ k n. ap (says k) now ∙ alone.elsewhere k n ∙ sym (of.alone.elsewhere k n) ∙ ap (says k) (sym of.had))
+    (ap (says at) now ∙ alone.here ∙ ap (tells slot) (sym here)) in
     record {
       fits = λ k. fits_more v (with_claim (with_place v at p) slot claim) k (place_at (with_place v at p) k) refl refl (omega arith) (omega arith)
-          (⊎_elim (λ e. subst (λ (x : LinkPlace). Fits v x (place_at (with_place v at p) x)) (sym e) (subst (Fits v at) (sym here) m.fits)) (λ n. subst (Fits v k) (sym (place_there v at k p n)) (whole.fits k)) (place_cases k at));
-      links = agree_changed has_link held_by (place_at v) (place_at (with_place v at p)) (slice_get v.claims) (slice_get (set v.claims slot claim)) at slot whole.links
-          (λ k. key_cases v at k p) (λ s. slot_cases v.claims slot s claim)
-          (λ s n. ap (held_by s) here ∙ m.link_others s n ∙ ap (held_by s) (sym m.there))
-          (λ k n. ap (has_link k) now ∙ m.link_elsewhere k n ∙ ap (has_link k) (sym m.had))
-          (ap (has_link at) now ∙ m.link_here ∙ ap (held_by slot) (sym here));
-      permits = agree_changed has_permit open_for (place_at v) (place_at (with_place v at p)) (slice_get v.claims) (slice_get (set v.claims slot claim)) at slot whole.permits
-          (λ k. key_cases v at k p) (λ s. slot_cases v.claims slot s claim)
-          (λ s n. ap (open_for s) here ∙ m.permit_others s n ∙ ap (open_for s) (sym m.there))
-          (λ k n. ap (has_permit k) now ∙ m.permit_elsewhere k n ∙ ap (has_permit k) (sym m.had))
-          (ap (has_permit at) now ∙ m.permit_here ∙ ap (open_for slot) (sym here));
+          (⊎_elim (λ e. subst (λ (x : LinkPlace). Fits v x (place_at (with_place v at p) x)) (sym e) (subst (Fits v at) (sym here) fits)) (λ n. subst (Fits v k) (sym (place_there v at k p n)) (whole.fits k)) (place_cases k at));
+      links = λ s k. ap (λ (t : Bool × Bool × Bool). t.0) (tie s k);
+      permits = λ s k. ap (λ (t : Bool × Bool × Bool). t.1) (tie s k);
+      given = λ s k. ap (λ (t : Bool × Bool × Bool). t.2) (tie s k);
       queues = λ s d. ⊎_elim
-          (λ e. subst (λ (t : ℕ). waits d (slice_get (set v.claims slot claim) t) ≡ times t (queue_at (with_place v at p) d)) (sym e) (ap (waits d) now ∙ m.same_wait d ∙ ap (waits d) (sym m.had) ∙ whole.queues slot d ∙ ap (times slot) (sym (queue_with_place v at p d))))
+          (λ e. subst (λ (t : ℕ). waits d (slice_get (set v.claims slot claim) t) ≡ times t (queue_at (with_place v at p) d)) (sym e) (ap (waits d) now ∙ wait d ∙ ap (waits d) (sym of.had) ∙ whole.queues slot d ∙ ap (times slot) (sym (queue_with_place v at p d))))
           (λ n. ap (waits d) n.1 ∙ whole.queues s d ∙ ap (times s) (sym (queue_with_place v at p d)))
           (slot_cases v.claims slot s claim);
-      link_once = apart_changed link_number v at old p m.there whole.link_once m.new_link;
-      permit_once = apart_changed permit_number v at old p m.there whole.permit_once m.new_permit;
+      link_once = apart_changed link_number v at old p of.there whole.link_once link;
+      permit_once = apart_changed permit_number v at old p of.there whole.permit_once permit;
       numbers = whole.numbers;
-      rooms = rooms_with_place v at p (set v.claims slot claim) (λ d. let e = waiting_claims-set v.claims slot d was claim m.had in let w = m.same_wait d in omega (arith, e, w)) (length-set v.claims slot claim) whole.rooms;
+      rooms = rooms_with_place v at p (set v.claims slot claim) (λ d. let e = waiting_claims-set v.claims slot d was claim of.had in let w = wait d in omega (arith, e, w)) (length-set v.claims slot claim) whole.rooms;
+    }
+
+-- after a change at one place, by which nobody has more or less
+pub stayed : (v : PoolView) (at : LinkPlace) (old p : Place) → IsPool v → place_at v at ≡ Some old → Fits v at (Some p) → ((s : ℕ) → tells s (Some p) ≡ tells s (Some old))
+    → IsNew link_number v old p → IsNew permit_number v old p → IsPool (with_place v at p)
+stayed v at old p whole there fits same link permit =
+    let here = place_here v at old p there in
+    let tie : (s : ℕ) (k : LinkPlace) → says k (slice_get v.claims s) ≡ tells s (place_at (with_place v at p) k) = λ s k. ⊎_elim
+    (λ e. subst (λ (x : LinkPlace). says x (slice_get v.claims s) ≡ tells s (place_at (with_place v at p) x)) (sym e) (ties v whole s at ∙ ap (tells s) there ∙ sym (same s) ∙ ap (tells s) (sym here)))
+    (λ n. ties v whole s k ∙ ap (tells s) (sym (place_there v at k p n)))
+    (place_cases k at) in
+    record {
+      fits = λ k. fits_more v (with_place v at p) k (place_at (with_place v at p) k) refl refl (omega arith) (omega arith)
+          (⊎_elim (λ e. subst (λ (x : LinkPlace). Fits v x (place_at (with_place v at p) x)) (sym e) (subst (Fits v at) (sym here) fits)) (λ n. subst (Fits v k) (sym (place_there v at k p n)) (whole.fits k)) (place_cases k at));
+      links = λ s k. ap (λ (t : Bool × Bool × Bool). t.0) (tie s k);
+      permits = λ s k. ap (λ (t : Bool × Bool × Bool). t.1) (tie s k);
+      given = λ s k. ap (λ (t : Bool × Bool × Bool). t.2) (tie s k);
+      queues = λ s d. whole.queues s d ∙ ap (times s) (sym (queue_with_place v at p d));
+      link_once = apart_changed link_number v at old p there whole.link_once link;
+      permit_once = apart_changed permit_number v at old p there whole.permit_once permit;
+      numbers = whole.numbers;
+      rooms = rooms_with_place v at p v.claims (λ d. refl) refl whole.rooms;
+    }
+
+-- after a change of one claim, of which places and queues know nothing
+pub reclaimed : (v : PoolView) (slot : ℕ) (was claim : Claim) → IsPool v → slice_get v.claims slot ≡ Some was → ((k : LinkPlace) → says k (Some claim) ≡ says k (Some was)) → ((d : ℕ) → waits d (Some claim) ≡ waits d (Some was)) → IsPool (with_claim v slot claim)
+reclaimed v slot was claim whole had same wait =
+    let now = slice_get-set_same v.claims slot claim (slice_get_within v.claims slot was had) in
+    let tie : (s : ℕ) (k : LinkPlace) → says k (slice_get (set v.claims slot claim) s) ≡ tells s (place_at v k) = λ s k. ⊎_elim
+    (λ e. subst (λ (t : ℕ). says k (slice_get (set v.claims slot claim) t) ≡ tells t (place_at v k)) (sym e) (ap (says k) now ∙ same k ∙ ap (says k) (sym had) ∙ ties v whole slot k))
+    (λ n. ap (says k) n.1 ∙ ties v whole s k)
+    (slot_cases v.claims slot s claim) in
+    record {
+      fits = λ k. fits_more v (with_claim v slot claim) k (place_at v k) refl refl (omega arith) (omega arith) (whole.fits k);
+      links = λ s k. ap (λ (t : Bool × Bool × Bool). t.0) (tie s k);
+      permits = λ s k. ap (λ (t : Bool × Bool × Bool). t.1) (tie s k);
+      given = λ s k. ap (λ (t : Bool × Bool × Bool). t.2) (tie s k);
+      queues = λ s d. ⊎_elim
+          (λ e. subst (λ (t : ℕ). waits d (slice_get (set v.claims slot claim) t) ≡ times t (queue_at v d)) (sym e) (ap (waits d) now ∙ wait d ∙ ap (waits d) (sym had) ∙ whole.queues slot d))
+          (λ n. ap (waits d) n.1 ∙ whole.queues s d)
+          (slot_cases v.claims slot s claim);
+      link_once = whole.link_once;
+      permit_once = whole.permit_once;
+      numbers = whole.numbers;
+      rooms = λ d. room_same v.claims (set v.claims slot claim) d (slice_get v.pools d) (let e = waiting_claims-set v.claims slot d was claim had in let w = wait d in omega (arith, e, w)) (length-set v.claims slot claim) (whole.rooms d);
     }

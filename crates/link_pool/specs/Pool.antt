@@ -89,10 +89,14 @@ abbrev pub quarantine : PoolView → LinkPlace → ℕ → Link → PoolView
 quarantine v at slot link =
     with_claim (with_place v at (place.Link (in_state (state.Quarantined (Some slot)) link))) slot (claim.Gave at)
 
--- the client of this slot, if there is one, has nothing
+-- the claims, with nothing for the client of this slot, if there is one
+abbrev pub claims_without : Option ℕ → List Claim → List Claim
+claims_without None claims = claims
+claims_without (Some slot) claims = slice_set claims slot claim.Nothing
+
+-- the view with nothing for the client of this slot, if there is one
 abbrev pub nothing_for : Option ℕ → PoolView → PoolView
-nothing_for None v = v
-nothing_for (Some slot) v = with_claim v slot claim.Nothing
+nothing_for slot v = record v { claims = claims_without slot v.claims }
 
 -- the others that wait, in order
 abbrev pub others : ℕ → List ℕ → List ℕ

@@ -76,9 +76,9 @@ impl<S: Drop> Pool<S> {
     fn tell_cancelled(&mut self, slot: SlotNo) -> bool
         ensures cancelled { result ≡ true → (slice_get self.old.view.claims slot ≡ Some claim.Cancelled)
             × (self.new.view ≡ with_claim self.old.view slot claim.Nothing) }
-        ensures streams { self.new.stored ≡ self.old.stored }
         ensures not_cancelled { result ≡ false → (slice_get self.old.view.claims slot ≢ Some claim.Cancelled)
-            × (self.new.view ≡ self.old.view) }
+            × (self.new ≡ self.old) }
+        ensures streams { self.new.stored ≡ self.old.stored }
         ensures whole { IsPool self.new.view }
     {
         let Some(Claim::Cancelled) = self.claim(slot) else {
@@ -94,7 +94,10 @@ impl<S: Drop> Pool<S> {
         ensures streams { self.new.stored ≡ self.old.stored }
         ensures whole { IsPool self.new.view }
     {
-        let Some(Claim::Waiting(_)) = self.claim(slot) else {
+        let Some(claim) = self.claim(slot) else {
+            return;
+        };
+        let Some(_waited) = claim.waiting() else {
             return;
         };
         self.leave_queue(slot);
@@ -137,11 +140,9 @@ impl<S: Drop> Pool<S> {
             return None;
         };
         let pool = &mut self.pools[at.database.get() as usize];
-        let Some(lease) = pool.take_back(at.index, slot) else {
-            return None;
-        };
+        let lease = pool.take_back(at.index, slot);
         self.claims[slot.get() as usize] = Claim::Link(at);
-        Some(lease)
+        lease
     }
 
     /// The client of a slot leaves, if it has no link and no permit: it no longer waits, is told of no cancelled wait,
@@ -223,27 +224,17 @@ impl<S: Drop> Pool<S> {
         }
     }
 
-    /// The client of a slot, which waits for no other database, asks for a link of this one. It is told once if its
-    /// wait was cancelled. It gets the link that it gave back, if that is still quarantined, also where others wait.
-    /// Else it gets an idle one, if nobody waits before it; else the leave to open one, if a place is free; else it
-    /// waits.
-    pub fn acquire(&mut self, slot: SlotNo, database: DatabaseNo) -> AcquireReply<Lease<S>, Permit>
+    // The client of a slot, which has nothing or waits for this database, gets an idle link of it, if nobody waits
+    // before it; else the leave to open one, if a place is free; else it waits.
+    fn ask(&mut self, slot: SlotNo, database: DatabaseNo) -> AcquireReply<Lease<S>, Permit>
         requires slot { slot < length self.old.view.claims }
         requires database { database < length self.old.view.pools }
         requires waits { (other : ℕ) → slice_get self.old.view.claims slot ≡ Some (claim.Waiting other) → other ≡ database }
+        requires asks { may_ask (slice_get self.old.view.claims slot) ≡ true }
         ensures step { AcquireStep slot database (acquire_said result) self.old.view self.new.view }
         ensures streams { AcquireStreams result self.old.stored self.new.stored }
         ensures whole { IsPool self.new.view }
     {
-        if self.is_holding(slot) {
-            return AcquireReply::Holding;
-        }
-        if self.tell_cancelled(slot) {
-            return AcquireReply::Cancelled;
-        }
-        if let Some(lease) = self.take_back(slot) {
-            return AcquireReply::Got(lease);
-        }
         if !self.is_first(slot, database) {
             self.wait(slot, database);
             return AcquireReply::Waiting;
@@ -271,5 +262,29 @@ impl<S: Drop> Pool<S> {
         };
         self.change(&permit.details().at, slot, kept);
         AcquireReply::Open(permit)
+    }
+
+    /// The client of a slot, which waits for no other database, asks for a link of this one. If its wait was cancelled,
+    /// then that is answered, once. Else it gets the link that it gave back, if that is still quarantined, also where
+    /// others wait. Else it gets an idle one, if nobody waits before it; else the leave to open one, if a place is
+    /// free; else it waits.
+    pub fn acquire(&mut self, slot: SlotNo, database: DatabaseNo) -> AcquireReply<Lease<S>, Permit>
+        requires slot { slot < length self.old.view.claims }
+        requires database { database < length self.old.view.pools }
+        requires waits { (other : ℕ) → slice_get self.old.view.claims slot ≡ Some (claim.Waiting other) → other ≡ database }
+        ensures step { AcquireStep slot database (acquire_said result) self.old.view self.new.view }
+        ensures streams { AcquireStreams result self.old.stored self.new.stored }
+        ensures whole { IsPool self.new.view }
+    {
+        if self.is_holding(slot) {
+            return AcquireReply::Holding;
+        }
+        if self.tell_cancelled(slot) {
+            return AcquireReply::Cancelled;
+        }
+        match self.take_back(slot) {
+            Some(lease) => AcquireReply::Got(lease),
+            None => self.ask(slot, database),
+        }
     }
 }

@@ -1,11 +1,11 @@
 //! Cancel requests that are on their way, and how they end.
-ghost use Rattle.std.specs.Prelude.{◌≡◌, ◌≢◌, ◌≤◌, Some, is_some, IfSome, IfNone, slice_get};
+ghost use Rattle.std.specs.Prelude.{◌≡◌, ◌≢◌, ◌≤◌, ◌<◌, Some, is_some, IfSome, IfNone, length, slice_get};
 ghost use Rattle.lease.specs.declared.link_place.LinkPlace.{LinkPlace as LinkPlaceOf};
 ghost use Rattle.link_pool.specs.declared.place.Place.TheVariants as place;
 ghost use Rattle.link_pool.specs.declared.place.LinkState.TheVariants as state;
 ghost use Rattle.link_pool.specs.declared.place.Claim.TheVariants as claim;
 ghost use Rattle.link_pool.specs.declared.place.Link.{Link as LinkOf};
-ghost use Rattle.link_pool.specs.Pool.{place_at, with_place, nothing_for};
+ghost use Rattle.link_pool.specs.Pool.{place_at, with_place, claims_without, nothing_for};
 ghost use Rattle.link_pool.specs.OnePlace.{IsPool, LinkFits};
 ghost use Rattle.link_pool.specs.PoolStep.{IsTicket, StaleTicket, EndedStep, FailedStep, ServeStep};
 ghost use Rattle.link_pool.specs.Parts.{IsLent, Leaves, settled_place, settled_giver, is_leaving};
@@ -33,9 +33,7 @@ impl<S: Drop> Pool<S> {
         ensures leaves { is_some result ≡ is_leaving hold (place.Link link.now) }
         ensures whole { IsPool self.new.view }
     {
-        if let Some(slot) = freed_giver(link, hold) {
-            self.claims[slot.get() as usize] = Claim::Nothing;
-        }
+        clear_claim(&mut self.claims, freed_giver(link, hold));
         let pool = &mut self.pools[link.details.at.database.get() as usize];
         pool.settle(link.details.at.index, hold)
     }
@@ -174,5 +172,15 @@ fn freed_giver(link: &Link, hold: Hold) -> Option<SlotNo>
     match hold.state() {
         HoldState::Waiting(_) => None,
         HoldState::Clear | HoldState::Condemned => link.giver(),
+    }
+}
+
+// The client of the slot has nothing, if there is a slot.
+fn clear_claim(claims: &mut Vec<Claim>, slot: Option<SlotNo>)
+    requires { IfSome slot (λ slot. slot < length claims.old.items) }
+    ensures { claims.new.items ≡ claims_without slot claims.old.items }
+{
+    if let Some(slot) = slot {
+        claims[slot.get() as usize] = Claim::Nothing;
     }
 }

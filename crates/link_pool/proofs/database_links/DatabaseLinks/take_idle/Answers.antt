@@ -2,7 +2,7 @@ use Rattle.std.proofs.Common.{rules, ◌≡◌, ◌≢◌, ◌<◌, ℕ, true, f
 use Rattle.std.proofs.lemmas.Option.{slice_get_within, same_Some}
 use Rattle.link_pool.specs.declared.entry.Entry.TheVariants as entry
 use Rattle.link_pool.specs.PoolStep.{new_hold}
-use Rattle.link_pool.specs.Entries.{Entries, idle_entry, idle_link, lent}
+use Rattle.link_pool.specs.Entries.{Entries, idle_entry, stored_link, lent}
 use Rattle.link_pool.proofs.Stacking.{last_of, none_listed, popped, below}
 use Rattle.link_pool.proofs.Changes.{was_read}
 use Rattle.link_pool.proofs.Entries.{idle_one}

@@ -1,4 +1,4 @@
-use Rattle.std.proofs.Common.{rules, ◌≡◌, ◌<◌, ℕ, false, None, Some, length, map, slice_get, slice_set, sym, ap, subst, ◌∙◌, refl}
+use Rattle.std.proofs.Common.{rules, ◌≡◌, ◌<◌, ℕ, true, None, Some, length, map, slice_get, slice_set, sym, ap, subst, ◌∙◌, refl}
 use Rattle.lease.specs.declared.link_place.LinkPlace.{LinkPlace}
 use Rattle.lease.specs.declared.link_record.LinkRecord.{LinkRecord}
 use Rattle.link_pool.specs.declared.entry.Entry.TheVariants as entry
@@ -9,7 +9,7 @@ use Rattle.link_pool.specs.declared.place.Claim.TheVariants as claim
 use Rattle.link_pool.specs.Entries.{pool_in}
 use Rattle.link_pool.specs.Pool.{PoolView, place_at, unqueued, in_state, lend}
 use Rattle.link_pool.specs.PoolOf.{pool_of}
-use Rattle.link_pool.specs.PoolStep.{new_hold, nth_of, is_holding, NoIdle, Gets}
+use Rattle.link_pool.specs.PoolStep.{new_hold, nth_of, may_ask, NoIdle, Gets}
 use Rattle.link_pool.specs.OnePlace.{IsPool}
 use Rattle.link_pool.specs.Streams.{Takes}
 use Rattle.link_pool.proofs.Asking.{place_unqueued, nothing_unqueued, whole_unqueued, served}
@@ -37,7 +37,7 @@ invariant_of-self-2 g c =
     let link : Link = record { details = lease.details; key = taken.key; state = state.Idle; hold = new_hold } in
     let was = seen pools at c.index_mut-pool.result.now (entry.Idle lease taken.key) there taken.was in
     let said : c.details.result.at ≡ at = ap (λ (r : LinkRecord). r.at) c.details.ensures ∙ its_place v at link c.self.invariant was in
-    let free : is_holding (slice_get v.claims slot) ≡ false = subst (λ w. is_holding (slice_get w.view.claims slot) ≡ false) (sym c.self.view_is) c.requires.free in
+    let free : may_ask (slice_get v.claims slot) ≡ true = subst (λ w. may_ask (slice_get w.view.claims slot) ≡ true) (sym c.self.view_is) c.requires.free in
     let some : slot < length v.claims = subst (λ w. slot < length w.view.claims) (sym c.self.view_is) c.requires.slot in
     let own = subst (λ w. (other : ℕ) → slice_get w.view.claims slot ≡ Some (claim.Waiting other) → other ≡ d) (sym c.self.view_is) c.requires.waits in
     let both = wrote_both pools at c.get.result c.index_mut-pool.result.now c.leave_queue.new.self (entry.Held lease.details taken.key new_hold slot) slot c.get.ensures there (c.leave_queue.ensures ∙ rw taken.after refl) in
@@ -58,7 +58,7 @@ returns g c =
     let was = seen pools at c.index_mut-pool.result.now (entry.Idle lease taken.key) there taken.was in
     let place_is = its_place v at link c.self.invariant was in
     let said : c.details.result.at ≡ at = ap (λ (r : LinkRecord). r.at) c.details.ensures ∙ place_is in
-    let free : is_holding (slice_get v.claims slot) ≡ false = subst (λ w. is_holding (slice_get w.view.claims slot) ≡ false) (sym c.self.view_is) c.requires.free in
+    let free : may_ask (slice_get v.claims slot) ≡ true = subst (λ w. may_ask (slice_get w.view.claims slot) ≡ true) (sym c.self.view_is) c.requires.free in
     let some : slot < length v.claims = subst (λ w. slot < length w.view.claims) (sym c.self.view_is) c.requires.slot in
     let own = subst (λ w. (other : ℕ) → slice_get w.view.claims slot ≡ Some (claim.Waiting other) → other ≡ d) (sym c.self.view_is) c.requires.waits in
     let both = wrote_both pools at c.get.result c.index_mut-pool.result.now c.leave_queue.new.self (entry.Held lease.details taken.key new_hold slot) slot c.get.ensures there (c.leave_queue.ensures ∙ rw taken.after refl) in

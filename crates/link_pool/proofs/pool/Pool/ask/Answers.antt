@@ -6,10 +6,10 @@ use Rattle.link_pool.specs.declared.place.Claim.TheVariants as claim
 use Rattle.link_pool.specs.Pool.{PoolView, place_at, with_place, with_claim, unqueued}
 use Rattle.link_pool.specs.PoolOf.{pool_of}
 use Rattle.link_pool.specs.OnePlace.{IsPool}
-use Rattle.link_pool.specs.PoolStep.{is_holding}
+use Rattle.link_pool.specs.PoolStep.{may_ask}
 use Rattle.link_pool.specs.Parts.{is_bare}
 use Rattle.link_pool.proofs.Asking.{place_unqueued, kept_unqueued, opened}
-use Rattle.link_pool.proofs.pool.Pool.acquire.Goals as goal
+use Rattle.link_pool.proofs.pool.Pool.ask.Goals as goal
 
 pub change-requires-clause-bare : goal.change-requires-clause-bare
 change-requires-clause-bare g c =
@@ -31,7 +31,7 @@ change-requires-clause-whole g c =
     let is = c.self.view_is ∙ c.lowest_free.ensures.same in
     let was = is ∙ c.in_default.ensures.same in
     let free : place_at v at ≡ Some place.Free = subst (λ p. place_at p.view at ≡ Some place.Free) (sym is) c.in-Some-lowest_free.ensures.free.0.free in
-    let idle : is_holding (slice_get v.claims slot) ≡ false = subst (λ p. is_holding (slice_get p.view.claims slot) ≡ false) (sym was) (sym c.is_holding.ensures.value ∙ c.if-is_holding.false) in
+    let idle : may_ask (slice_get v.claims slot) ≡ true = subst (λ p. may_ask (slice_get p.view.claims slot) ≡ true) (sym was) c.requires.asks in
     let some : slot < length v.claims = subst (λ p. slot < length p.view.claims) (sym was) c.requires.slot in
     let given = c.in-Some-give.ensures.given in
     let below = given.1 in
