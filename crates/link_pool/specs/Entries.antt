@@ -25,7 +25,12 @@ place_of (entry.Held details key hold slot) =
 place_of (entry.Idle link key) =
     place.Link record { details = link.details; key = key; state = state.Idle; hold = new_hold }
 place_of (entry.Quarantined link key hold giver) =
-    place.Link record { details = link.details; key = key; state = state.Quarantined giver; hold = hold }
+    place.Link record {
+      details = link.details;
+      key = key;
+      state = state.Quarantined giver;
+      hold = hold;
+    }
 
 -- the stream that lies there
 abbrev pub stream_of : {S : Type 0} → Entry S → Option S
@@ -35,7 +40,7 @@ stream_of (entry.Held details key hold slot) = None
 stream_of (entry.Idle link key) = Some link.stream
 stream_of (entry.Quarantined link key hold giver) = Some link.stream
 
--- what the client has that has the place, or that may take its link again, and nothing where there is none
+-- what the client claims that has the place, or gave its link back, and nothing where there is none
 abbrev pub claim_of : {S : Type 0} → LinkPlace → Entry S → Claim
 claim_of at entry.Free = claim.Nothing
 claim_of at (entry.Open permit slot) = claim.Open at
@@ -49,7 +54,8 @@ abbrev pub idle_entry : {S : Type 0} → Option (Entry S) → Bool
 idle_entry o = is_idle (option_map place_of o)
 
 -- a quarantined link, by how it stands by its tickets
-abbrev pub settled_by : {S : Type 0} → HoldState → LinkValue S → List ℕ → OpenTickets → Option ℕ → Entry S
+abbrev pub settled_by : {S : Type 0}
+    → HoldState → LinkValue S → List ℕ → OpenTickets → Option ℕ → Entry S
 settled_by Clear link key hold giver = entry.Idle link key
 settled_by (Waiting tickets) link key hold giver = entry.Quarantined link key hold giver
 settled_by Condemned link key hold giver = entry.Free

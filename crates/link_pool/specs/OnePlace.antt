@@ -171,7 +171,8 @@ pub record IsPool (v : PoolView) : Type 0 where
   -- a client has a permit exactly where its place is kept for it
   pub permits : (slot : ℕ) (at : LinkPlace)
       → has_permit at (slice_get v.claims slot) ≡ open_for slot (place_at v at)
-  -- a client gave a link back exactly where that link is quarantined, and it is the one that gave it back
+  -- a client claims to have given a link back exactly where that link is quarantined and was given back
+  -- by it
   pub given : (slot : ℕ) (at : LinkPlace)
       → has_given at (slice_get v.claims slot) ≡ given_by slot (place_at v at)
   -- a client waits exactly where it stands in that queue, and it stands there once

@@ -55,20 +55,22 @@ quarantined_place Condemned link = place.Free
 abbrev pub settled_link : LinkState → OpenTickets → Link → Place
 settled_link state.Idle hold link = place.Link link
 settled_link (state.Held slot) hold link = place.Link (with_hold link hold)
-settled_link (state.Quarantined giver) hold link = quarantined_place (state_of hold) (with_hold link hold)
+settled_link (state.Quarantined giver) hold link =
+    quarantined_place (state_of hold) (with_hold link hold)
 
 abbrev pub settled_place : OpenTickets → Place → Place
 settled_place hold place.Free = place.Free
 settled_place hold (place.Open permit slot) = place.Open permit slot
 settled_place hold (place.Link link) = settled_link link.state hold link
 
--- the client that may no longer take a quarantined link again, by how that stands by its tickets
+-- the client that gave a quarantined link back, if it can't get it back, by how that stands by its
+-- tickets
 abbrev pub freed_giver : HoldState → Option ℕ → Option ℕ
 freed_giver Clear giver = giver
 freed_giver (Waiting tickets) giver = None
 freed_giver Condemned giver = giver
 
--- the client that may no longer take a link again that has these tickets from now on
+-- the client that gave a link back, if it can't get it back once the link has these tickets
 abbrev pub settled_giver : LinkState → OpenTickets → Option ℕ
 settled_giver state.Idle hold = None
 settled_giver (state.Held slot) hold = None

@@ -87,7 +87,10 @@ give_back v at slot place = with_claim (with_place v at place) slot claim.Nothin
 -- the client of the slot has given the link of a place back, which is quarantined
 abbrev pub quarantine : PoolView → LinkPlace → ℕ → Link → PoolView
 quarantine v at slot link =
-    with_claim (with_place v at (place.Link (in_state (state.Quarantined (Some slot)) link))) slot (claim.Gave at)
+    with_claim
+    (with_place v at (place.Link (in_state (state.Quarantined (Some slot)) link)))
+    slot
+    (claim.Gave at)
 
 -- the claims, with nothing for the client of this slot, if there is one
 abbrev pub claims_without : Option ℕ → List Claim → List Claim
@@ -122,7 +125,8 @@ out_of_queue (Some (claim.Gave at)) v slot = v
 abbrev pub unqueued : PoolView → ℕ → PoolView
 unqueued v slot = out_of_queue (slice_get v.claims slot) v slot
 
--- the view with the link of a place given back by no client that is still there, by what is at the place
+-- the view with the link of a place quarantined, given back by no client that is still there; by
+-- what is at the place
 abbrev pub without_giver : Option Place → PoolView → LinkPlace → PoolView
 without_giver None v at = v
 without_giver (Some place.Free) v at = v
@@ -135,7 +139,8 @@ abbrev pub departed_by : Option Claim → PoolView → ℕ → PoolView
 departed_by None v slot = v
 departed_by (Some claim.Nothing) v slot = v
 departed_by (Some claim.Cancelled) v slot = with_claim v slot claim.Nothing
-departed_by (Some (claim.Waiting database)) v slot = out_of_queue (Some (claim.Waiting database)) v slot
+departed_by (Some (claim.Waiting database)) v slot =
+    out_of_queue (Some (claim.Waiting database)) v slot
 departed_by (Some (claim.Open at)) v slot = v
 departed_by (Some (claim.Link at)) v slot = v
 departed_by (Some (claim.Gave at)) v slot =

@@ -120,7 +120,8 @@ pub record Gets (slot database : ℕ) (lease : LinkRecord) (old new : PoolView) 
   pub of : lease.at.database ≡ database
   pub after : new ≡ lend (unqueued old slot) lease.at slot link
 
--- the client of the slot gets back the very link that it gave back, which is quarantined: its tickets stay open
+-- the client of the slot gets back the very link that it gave back, which is quarantined; its
+-- tickets stay open
 pub record GetsBack (slot : ℕ) (lease : LinkRecord) (old new : PoolView) : Type 0 where
   pub link : Link
   pub gave : slice_get old.claims slot ≡ Some (claim.Gave lease.at)
@@ -146,9 +147,11 @@ pub record MayOpen (slot database : ℕ) (permit : PermitRecord) (old new : Pool
 
 -- asking for a link
 abbrev pub AcquireStep : ℕ → ℕ → AcquireReply LinkRecord PermitRecord → PoolView → PoolView → Type 0
--- the link that it gave back, if that is still quarantined, also where others wait; or an idle one, in its turn
+-- the link that it gave back, if that is still quarantined, also where others wait; or an idle one
+-- in its turn
 AcquireStep slot database (acquire.Got lease) old new =
-    GetsBack slot lease old new ⊎ (MayTake slot database true old × Gets slot database lease old new)
+    GetsBack slot lease old new
+    ⊎ (MayTake slot database true old × Gets slot database lease old new)
 AcquireStep slot database (acquire.Open permit) old new =
     MayTake slot database true old × NoIdle database old × MayOpen slot database permit old new
 -- none is idle and none can be opened, or somebody waits before it
@@ -156,7 +159,7 @@ AcquireStep slot database acquire.Waiting old new =
     (may_ask (slice_get old.claims slot) ≡ true)
     × ((is_first slot (queue_at old database) ≡ false) ⊎ (NoIdle database old × NoneFree database old))
     × (new ≡ queued old slot database)
--- its wait was cancelled, and this answer is the only one that says so
+-- its wait was cancelled, which is answered once
 AcquireStep slot database acquire.Cancelled old new =
     (slice_get old.claims slot ≡ Some claim.Cancelled) × (new ≡ with_claim old slot claim.Nothing)
 AcquireStep slot database acquire.Holding old new =
@@ -249,14 +252,14 @@ CloseStep lease (close.Stale stream) old new = StaleLease lease old × (new ≡ 
 -- no number is needed
 CloseStep lease (close.Exhausted stream) old new = ⊥
 
--- the client of a slot leaves: a link that it gave back stays quarantined, and nobody may take it again
+-- the client of a slot leaves: a link that it gave back stays quarantined, and nobody gets it back
 abbrev pub LeaveStep : ℕ → LeaveReply → PoolView → PoolView → Type 0
 LeaveStep slot leave.Left old new =
     (is_holding (slice_get old.claims slot) ≡ false) × (new ≡ departed old slot)
 LeaveStep slot leave.Holding old new =
     (is_holding (slice_get old.claims slot) ≡ true) × (new ≡ old)
 
--- the wait of a slot's client is cancelled, if it waits: it leaves the queue, and is told so when it asks next
+-- the wait of a slot's client is cancelled, if it waits: it leaves the queue, and is owed `Cancelled`
 abbrev pub UnwaitStep : ℕ → PoolView → PoolView → Type 0
 UnwaitStep slot old new = new ≡ unwaited old slot
 
@@ -332,11 +335,13 @@ one_failed hold = record { tickets = hold.tickets - 1; condemned = true }
 -- a cancel request has ended cleanly
 abbrev pub EndedStep : TicketRecord → EndedReply → PoolView → PoolView → Type 0
 EndedStep ticket ended.Freed old new =
-    (link : Link) × IsTicket ticket link old × (is_quarantined link.state ≡ true) × (link.hold.tickets ≡ 1)
+    (link : Link) × IsTicket ticket link old × (is_quarantined link.state ≡ true)
+    × (link.hold.tickets ≡ 1)
     × (new ≡ nothing_for (giver_of link.state)
-        (with_place old ticket.at (place.Link (in_state state.Idle (with_hold link (one_less link.hold))))))
+    (with_place old ticket.at (place.Link (in_state state.Idle (with_hold link (one_less link.hold))))))
 EndedStep ticket ended.Counted old new =
-    (link : Link) × IsTicket ticket link old × ((is_quarantined link.state ≡ false) ⊎ (1 < link.hold.tickets))
+    (link : Link) × IsTicket ticket link old
+    × ((is_quarantined link.state ≡ false) ⊎ (1 < link.hold.tickets))
     × (new ≡ with_place old ticket.at (place.Link (with_hold link (one_less link.hold))))
 EndedStep ticket ended.Stale old new = StaleTicket ticket old × (new ≡ old)
 -- no number is needed

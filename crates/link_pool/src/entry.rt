@@ -30,7 +30,8 @@ pub(crate) enum Entry<S> {
         link: IdleLink<S>,
         key: ServerKey,
     },
-    /// The link waits for cancel requests to end. The client of this slot gave it back, and hasn't left.
+    /// The link waits for cancel requests to end. The client of this slot gave it back, and hasn't
+    /// left.
     Quarantined {
         link: QuarantinedLink<S>,
         key: ServerKey,
@@ -91,7 +92,7 @@ impl<S: Drop> Entry<S> {
         }
     }
 
-    // What the client has, by what is at this place, if a client has something here, or may take it again.
+    // What the client claims that has something here, or gave the link back.
     pub(crate) fn claim(&self, at: &LinkPlace) -> Claim
         ensures { result ≡ claim_of at.now self.now }
     {
@@ -105,7 +106,8 @@ impl<S: Drop> Entry<S> {
         }
     }
 
-    // The client of a slot gets the link, if no client has it. The tickets of a quarantined one stay open.
+    // The client of a slot gets the link, if no client has it. The tickets of a quarantined one stay
+    // open.
     pub(crate) fn lend(&mut self, slot: SlotNo) -> Option<Lease<S>>
         ensures lease { result ≡ stored_link self.old }
         ensures entry { self.new ≡ lent slot self.old }

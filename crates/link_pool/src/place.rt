@@ -16,7 +16,8 @@ pub enum LinkState {
     Idle,
     /// With the client of this slot.
     Held(SlotNo),
-    /// Given back while a cancel request for it was on its way, by the client of this slot, until that leaves.
+    /// Given back while a cancel request for it was on its way; by the client of this slot, until that
+    /// leaves.
     Quarantined(Option<SlotNo>),
 }
 
@@ -69,7 +70,8 @@ impl Link {
         }
     }
 
-    // The slot of the client that gave the link back, if it is quarantined and the client is still there.
+    // The slot of the client that gave the link back, if that is quarantined and the client hasn't
+    // left.
     pub(crate) fn giver(&self) -> Option<SlotNo>
         ensures { result ≡ giver_of self.now.state }
     {
@@ -96,7 +98,7 @@ pub enum Place {
 pub enum Claim {
     /// Nothing.
     Nothing,
-    /// Nothing: its wait was cancelled, as it is told when it asks next.
+    /// Nothing. Its wait was cancelled, which its next `acquire` answers.
     Cancelled,
     /// A place in the queue of this database.
     Waiting(DatabaseNo),
@@ -104,7 +106,7 @@ pub enum Claim {
     Open(LinkPlace),
     /// The link of this place.
     Link(LinkPlace),
-    /// Nothing in hand: it gave back the link of this place, which is still quarantined.
+    /// Nothing in hand. It gave back the link of this place, which is still quarantined.
     Gave(LinkPlace),
 }
 
@@ -116,11 +118,8 @@ impl Claim {
     {
         match self {
             Claim::Waiting(database) => Some(*database),
-            Claim::Nothing
-            | Claim::Cancelled
-            | Claim::Open(_)
-            | Claim::Link(_)
-            | Claim::Gave(_) => None,
+            Claim::Nothing | Claim::Cancelled | Claim::Open(_) | Claim::Link(_) | Claim::Gave(_) =>
+                None,
         }
     }
 

@@ -6,7 +6,8 @@ use pg_ids::{DatabaseNo, ServerKey};
 /// What asking for a link answers.
 #[derive(Clone, Copy, Debug, PartialEq, Eq)]
 pub enum AcquireReply<L, P> {
-    /// The client has this link: an idle one, or that which it gave back, if that is still quarantined.
+    /// The client has this link: an idle one, or that which it gave back and which is still
+    /// quarantined.
     Got(L),
     /// No link is idle, and the client may open one.
     Open(P),

@@ -60,8 +60,7 @@ impl<S: Drop> Pool<S> {
         self.claims[slot.get() as usize] = Claim::Waiting(database);
     }
 
-    // The client of a slot has this from now on: it had nothing of the kind that a place or a queue knows of, and
-    // has nothing of that kind.
+    // What the client of a slot has is this from now on. No place and no queue changes.
     fn set_claim(&mut self, slot: SlotNo, claim: Claim)
         requires slot { slot < length self.old.view.claims }
         requires whole { IsPool (with_claim self.old.view slot claim) }
@@ -72,12 +71,13 @@ impl<S: Drop> Pool<S> {
         self.claims[slot.get() as usize] = claim;
     }
 
-    // Whether the wait of a slot's client was cancelled. It was told so from now on.
-    fn tell_cancelled(&mut self, slot: SlotNo) -> bool
-        ensures cancelled { result ≡ true → (slice_get self.old.view.claims slot ≡ Some claim.Cancelled)
+    // Whether the wait of a slot's client was cancelled. If it was, then that is forgotten.
+    fn take_cancelled(&mut self, slot: SlotNo) -> bool
+        ensures cancelled { result ≡ true
+            → (slice_get self.old.view.claims slot ≡ Some claim.Cancelled)
             × (self.new.view ≡ with_claim self.old.view slot claim.Nothing) }
-        ensures not_cancelled { result ≡ false → (slice_get self.old.view.claims slot ≢ Some claim.Cancelled)
-            × (self.new ≡ self.old) }
+        ensures not_cancelled { result ≡ false
+            → (slice_get self.old.view.claims slot ≢ Some claim.Cancelled) × (self.new ≡ self.old) }
         ensures streams { self.new.stored ≡ self.old.stored }
         ensures whole { IsPool self.new.view }
     {
@@ -88,7 +88,8 @@ impl<S: Drop> Pool<S> {
         true
     }
 
-    /// The wait of a slot's client is cancelled, if it waits: it leaves the queue, and its next `acquire` answers so.
+    /// The wait of a slot's client is cancelled, if it waits: it leaves the queue, and its next
+    /// `acquire` answers `Cancelled`.
     pub fn unwait(&mut self, slot: SlotNo)
         ensures step { UnwaitStep slot self.old.view self.new.view }
         ensures streams { self.new.stored ≡ self.old.stored }
@@ -106,8 +107,10 @@ impl<S: Drop> Pool<S> {
 
     // The place of the link that a slot's client gave back, if that is still quarantined.
     fn gave(&self, slot: SlotNo) -> Option<LinkPlace>
-        ensures gave { IfSome result (λ at. slice_get self.now.view.claims slot ≡ Some (claim.Gave at)) }
-        ensures none { IfNone result ((at : LinkPlaceOf) → slice_get self.now.view.claims slot ≢ Some (claim.Gave at)) }
+        ensures gave { IfSome result
+            (λ at. slice_get self.now.view.claims slot ≡ Some (claim.Gave at)) }
+        ensures none { IfNone result
+            ((at : LinkPlaceOf) → slice_get self.now.view.claims slot ≢ Some (claim.Gave at)) }
         ensures whole { IsPool self.now.view }
     {
         let Some(claim) = self.claim(slot) else {
@@ -116,7 +119,8 @@ impl<S: Drop> Pool<S> {
         claim.gave()
     }
 
-    // The client of a slot, which gave back the link of this place, leaves it there: the link stays quarantined.
+    // The client of a slot, which gave back the link of this place, leaves: the link stays
+    // quarantined.
     fn leave_link(&mut self, slot: SlotNo, at: &LinkPlace)
         requires gave { slice_get self.old.view.claims slot ≡ Some (claim.Gave at.now) }
         ensures view { self.new.view ≡ departed self.old.view slot }
@@ -130,9 +134,12 @@ impl<S: Drop> Pool<S> {
 
     // The client of a slot gets back the link that it gave back, if that is still quarantined.
     fn take_back(&mut self, slot: SlotNo) -> Option<Lease<S>>
-        ensures got { IfSome result (λ lease. GetsBack slot lease.details self.old.view self.new.view) }
-        ensures stream { IfSome result (λ lease. Takes lease.details.at lease.stream self.old.stored self.new.stored) }
-        ensures none { IfNone result ((at : LinkPlaceOf) → slice_get self.old.view.claims slot ≢ Some (claim.Gave at)) }
+        ensures got { IfSome result
+            (λ lease. GetsBack slot lease.details self.old.view self.new.view) }
+        ensures stream { IfSome result
+            (λ lease. Takes lease.details.at lease.stream self.old.stored self.new.stored) }
+        ensures none { IfNone result
+            ((at : LinkPlaceOf) → slice_get self.old.view.claims slot ≢ Some (claim.Gave at)) }
         ensures same { IfNone result (self.new ≡ self.old) }
         ensures whole { IsPool self.new.view }
     {
@@ -145,8 +152,9 @@ impl<S: Drop> Pool<S> {
         lease
     }
 
-    /// The client of a slot leaves, if it has no link and no permit: it no longer waits, is told of no cancelled wait,
-    /// and takes no link again.
+    /// The client of a slot leaves, if it has no link and no permit: it no longer waits, and a
+    /// cancelled wait is forgotten. A link that it gave back, if it is still quarantined, stays so until
+    /// its last cancel request ends.
     pub fn leave(&mut self, slot: SlotNo) -> LeaveReply
         ensures step { LeaveStep slot result self.old.view self.new.view }
         ensures streams { self.new.stored ≡ self.old.stored }
@@ -155,7 +163,7 @@ impl<S: Drop> Pool<S> {
         if self.is_holding(slot) {
             return LeaveReply::Holding;
         }
-        if self.tell_cancelled(slot) {
+        if self.take_cancelled(slot) {
             return LeaveReply::Left;
         }
         match self.gave(slot) {
@@ -224,8 +232,8 @@ impl<S: Drop> Pool<S> {
         }
     }
 
-    // The client of a slot, which has nothing or waits for this database, gets an idle link of it, if nobody waits
-    // before it; else the leave to open one, if a place is free; else it waits.
+    // The client of a slot, which has nothing or waits for this database, gets an idle link of it, if
+    // nobody waits before it; else the leave to open one, if a place is free; else it waits.
     fn ask(&mut self, slot: SlotNo, database: DatabaseNo) -> AcquireReply<Lease<S>, Permit>
         requires slot { slot < length self.old.view.claims }
         requires database { database < length self.old.view.pools }
@@ -264,10 +272,10 @@ impl<S: Drop> Pool<S> {
         AcquireReply::Open(permit)
     }
 
-    /// The client of a slot, which waits for no other database, asks for a link of this one. If its wait was cancelled,
-    /// then that is answered, once. Else it gets the link that it gave back, if that is still quarantined, also where
-    /// others wait. Else it gets an idle one, if nobody waits before it; else the leave to open one, if a place is
-    /// free; else it waits.
+    /// The client of a slot, which waits for no other database, asks for a link of this one. If its
+    /// wait was cancelled, then that is answered, once. Else it gets the link that it gave back, if
+    /// that is still quarantined, also where others wait. Else it gets an idle one, if nobody waits
+    /// before it; else the leave to open one, if a place is free; else it waits.
     pub fn acquire(&mut self, slot: SlotNo, database: DatabaseNo) -> AcquireReply<Lease<S>, Permit>
         requires slot { slot < length self.old.view.claims }
         requires database { database < length self.old.view.pools }
@@ -279,7 +287,7 @@ impl<S: Drop> Pool<S> {
         if self.is_holding(slot) {
             return AcquireReply::Holding;
         }
-        if self.tell_cancelled(slot) {
+        if self.take_cancelled(slot) {
             return AcquireReply::Cancelled;
         }
         match self.take_back(slot) {

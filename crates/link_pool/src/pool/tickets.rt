@@ -21,14 +21,14 @@ use quarantine::{Hold, HoldState};
 
 impl<S: Drop> Pool<S> {
     // A link that isn't idle has these tickets. If it is quarantined, then it is idle once none is open, and it
-    // leaves the pool once it is condemned: its stream is returned. Then its giver can't take it again.
+    // leaves the pool once it is condemned: its stream is returned. Then its giver can't get it back.
     fn settle(&mut self, link: &Link, hold: Hold) -> Option<S>
         requires was { place_at self.old.view link.now.details.at ≡ Some (place.Link link.now) }
         requires not_idle { link.now.state ≢ state.Idle }
         requires few { hold.tickets ≤ 65535 }
         ensures view { self.new.view
             ≡ nothing_for (settled_giver link.now.state hold)
-                (with_place self.old.view link.now.details.at (settled_place hold (place.Link link.now))) }
+            (with_place self.old.view link.now.details.at (settled_place hold (place.Link link.now))) }
         ensures streams { Leaves link.now.details.at result self.old.stored self.new.stored }
         ensures leaves { is_some result ≡ is_leaving hold (place.Link link.now) }
         ensures whole { IsPool self.new.view }
@@ -165,7 +165,7 @@ impl<S: Drop> Pool<S> {
     }
 }
 
-// The client that may no longer take a link again that has these tickets from now on.
+// The client that gave a link back, if it can't get it back once the link has these tickets.
 fn freed_giver(link: &Link, hold: Hold) -> Option<SlotNo>
     ensures { result ≡ settled_giver link.now.state hold }
 {

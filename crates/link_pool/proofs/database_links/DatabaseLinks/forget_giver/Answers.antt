@@ -1,4 +1,4 @@
-use Rattle.std.proofs.Common.{◌≡◌, None, Some, slice_get, sym, ap, subst, arith, ◌∙◌, refl}
+use Rattle.std.proofs.Common.{◌≡◌, false, None, Some, slice_get, sym, ap, subst, arith, ◌∙◌, refl}
 use Rattle.std.proofs.lemmas.Option.{slice_get_within, same_Some}
 use Rattle.link_pool.specs.declared.entry.Entry.TheVariants as entry
 use Rattle.link_pool.specs.Entries.{idle_entry, IsQuarantined}
@@ -17,7 +17,7 @@ invariant_of-self g c =
     rw (c.forget_giver.ensures, is) (
       c.self.invariant.0,
       c.self.invariant.1,
-      relisted idle_entry entries c.self.inside.idle.items c.args.index was now q.is refl c.self.invariant.2,
+      relisted idle_entry entries c.self.inside.idle.items c.args.index was now q.is (refl {a = false}) c.self.invariant.2,
       below entries c.args.index c.self.inside.lowest c.self.inside.lowest now within (omega arith) (λ e. absurd (cc)) c.self.invariant.3,
     )
 

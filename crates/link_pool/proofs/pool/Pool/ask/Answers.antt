@@ -1,11 +1,9 @@
-use Rattle.std.proofs.Common.{◌≡◌, ◌<◌, ◌+◌, ◌^◌, true, false, Some, length, slice_get, ap, subst, sym, ◌∙◌, arith, refl}
+use Rattle.std.proofs.Common.{◌≡◌, ◌<◌, true, Some, length, slice_get, ap, subst, sym, ◌∙◌, arith, refl}
 use Rattle.lease.specs.declared.link_place.LinkPlace.{LinkPlace}
 use Rattle.lease.specs.declared.permit.PermitRecord.{PermitRecord}
 use Rattle.link_pool.specs.declared.place.Place.TheVariants as place
-use Rattle.link_pool.specs.declared.place.Claim.TheVariants as claim
-use Rattle.link_pool.specs.Pool.{PoolView, place_at, with_place, with_claim, unqueued}
+use Rattle.link_pool.specs.Pool.{PoolView, place_at}
 use Rattle.link_pool.specs.PoolOf.{pool_of}
-use Rattle.link_pool.specs.OnePlace.{IsPool}
 use Rattle.link_pool.specs.PoolStep.{may_ask}
 use Rattle.link_pool.specs.Parts.{is_bare}
 use Rattle.link_pool.proofs.Asking.{place_unqueued, kept_unqueued, opened}

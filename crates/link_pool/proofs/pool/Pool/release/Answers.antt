@@ -1,8 +1,5 @@
 use Rattle.std.proofs.Common.{◌≡◌, sym, subst, ap, ◌∙◌}
-use Rattle.lease.specs.declared.link_record.LinkRecord.{LinkRecord}
 use Rattle.link_pool.specs.declared.place.Place.TheVariants as place
-use Rattle.link_pool.specs.declared.place.Link.{Link}
-use Rattle.link_pool.specs.declared.place.LinkState.TheVariants as state
 use Rattle.link_pool.specs.Pool.{give_back, quarantine}
 use Rattle.link_pool.specs.OnePlace.{IsPool}
 use Rattle.link_pool.proofs.Handing.{of_held, vacated, rested, quarantined, idle_of}

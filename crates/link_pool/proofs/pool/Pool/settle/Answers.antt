@@ -1,9 +1,8 @@
-use Rattle.std.proofs.Common.{rules, ◌≡◌, ◌<◌, Some, length, map, sym, ap, subst, ◌∙◌, refl}
+use Rattle.std.proofs.Common.{◌≡◌, Some, sym, subst, refl}
 use Rattle.link_pool.specs.declared.place.Place.TheVariants as place
-use Rattle.link_pool.specs.Pool.{PoolView, place_at}
+use Rattle.link_pool.specs.Pool.{place_at}
 use Rattle.link_pool.specs.PoolOf.{pool_of}
-use Rattle.link_pool.specs.Entries.{settled, stream_of, leaving}
-use Rattle.link_pool.specs.Parts.{settled_place, is_leaving}
+use Rattle.link_pool.specs.Entries.{settled}
 use Rattle.link_pool.proofs.Entries.{entry_seen, read_at, read_entry, wrote_place, wrote_stream}
 use Rattle.link_pool.proofs.Settling.{settled_at, settled_whole, settled_slot, leaves, returned}
 use Rattle.link_pool.proofs.pool.Pool.settle.Goals as goal

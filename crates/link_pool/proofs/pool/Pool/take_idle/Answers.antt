@@ -1,4 +1,4 @@
-use Rattle.std.proofs.Common.{rules, ◌≡◌, ◌<◌, ℕ, true, None, Some, length, map, slice_get, slice_set, sym, ap, subst, ◌∙◌, refl}
+use Rattle.std.proofs.Common.{◌≡◌, ◌<◌, ℕ, true, None, Some, length, slice_get, sym, ap, subst, ◌∙◌, refl}
 use Rattle.lease.specs.declared.link_place.LinkPlace.{LinkPlace}
 use Rattle.lease.specs.declared.link_record.LinkRecord.{LinkRecord}
 use Rattle.link_pool.specs.declared.entry.Entry.TheVariants as entry
@@ -9,11 +9,10 @@ use Rattle.link_pool.specs.declared.place.Claim.TheVariants as claim
 use Rattle.link_pool.specs.Entries.{pool_in}
 use Rattle.link_pool.specs.Pool.{PoolView, place_at, unqueued, in_state, lend}
 use Rattle.link_pool.specs.PoolOf.{pool_of}
-use Rattle.link_pool.specs.PoolStep.{new_hold, nth_of, may_ask, NoIdle, Gets}
+use Rattle.link_pool.specs.PoolStep.{new_hold, nth_of, may_ask, NoIdle}
 use Rattle.link_pool.specs.OnePlace.{IsPool}
-use Rattle.link_pool.specs.Streams.{Takes}
 use Rattle.link_pool.proofs.Asking.{place_unqueued, nothing_unqueued, whole_unqueued, served}
-use Rattle.link_pool.proofs.Entries.{read_pool, seen, not_idle_at, pool_seen, entry_at, entry_in, wrote_both, wrote_both_streams, moves}
+use Rattle.link_pool.proofs.Entries.{read_pool, seen, not_idle_at, pool_seen, entry_in, wrote_both, wrote_both_streams, moves}
 use Rattle.link_pool.proofs.Handing.{its_place, got}
 use Rattle.link_pool.proofs.pool.Pool.take_idle.Goals as goal
 

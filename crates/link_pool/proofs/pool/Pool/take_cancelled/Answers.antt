@@ -1,7 +1,7 @@
 use Rattle.std.proofs.Common.{rules, ◌≡◌, Some, slice_get, refl}
 use Rattle.link_pool.specs.declared.place.Claim.TheVariants as claim
 use Rattle.link_pool.proofs.Whole.{reclaimed}
-use Rattle.link_pool.proofs.pool.Pool.tell_cancelled.Goals as goal
+use Rattle.link_pool.proofs.pool.Pool.take_cancelled.Goals as goal
 
 pub set_claim-requires-clause-whole : goal.set_claim-requires-clause-whole
 set_claim-requires-clause-whole g c =
