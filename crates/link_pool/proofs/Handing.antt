@@ -1,6 +1,5 @@
 -- A client gets a place, or gives it back.
-use Rattle.std.proofs.Common.{◌≡◌, ◌≢◌, ℕ, ◌+◌, ◌^◌, ◌<◌, ◌≤◌, Bool, List, true, false, Option, Some, None, length, get_or, refl, ap, sym, subst, ◌∙◌, arith, ⊎_elim, inl, inr, ◌==◌, ◌||◌, ◌&&◌}
-use Rattle.std.proofs.Math.ListN.{set}
+use Rattle.std.proofs.Common.{◌≡◌, ◌≢◌, ℕ, ◌+◌, ◌^◌, ◌<◌, ◌≤◌, Bool, List, true, false, Option, Some, None, refl, ap, sym, subst, ◌∙◌, arith, inl, inr}
 use Rattle.std.specs.List.{slice_get}
 use Rattle.std.proofs.lemmas.Option.{slice_get_within, same_Some}
 use Rattle.lease.specs.declared.link_place.LinkPlace.{LinkPlace}

@@ -1,5 +1,5 @@
 -- A link that has other tickets from now on.
-use Rattle.std.proofs.Common.{◌≡◌, ◌≢◌, ℕ, zero, suc, ◌<◌, ◌≤◌, Bool, true, false, List, Option, Some, None, is_some, IfSome, length, map, option_map, refl, ap, sym, subst, ◌∙◌, arith}
+use Rattle.std.proofs.Common.{◌≡◌, ◌≢◌, ℕ, zero, suc, ◌<◌, ◌≤◌, Bool, true, false, List, Option, Some, None, is_some, IfSome, length, map, refl, sym, subst, arith}
 use Rattle.lease.specs.LinkValue.{LinkValue}
 use Rattle.lease.specs.declared.link_place.LinkPlace.{LinkPlace}
 use Rattle.quarantine.specs.OpenTickets.{OpenTickets}
@@ -8,7 +8,6 @@ use Rattle.quarantine.specs.declared.hold.HoldState.{HoldState}
 use Rattle.quarantine.specs.declared.hold.HoldState.TheVariants.{Clear, Waiting, Condemned}
 use Rattle.link_pool.specs.declared.entry.Entry.{Entry}
 use Rattle.link_pool.specs.declared.entry.Entry.TheVariants as entry
-use Rattle.link_pool.specs.declared.place.Place.{Place}
 use Rattle.link_pool.specs.declared.place.Place.TheVariants as place
 use Rattle.link_pool.specs.declared.place.Link.{Link}
 use Rattle.link_pool.specs.declared.place.LinkState.{LinkState}

@@ -1,5 +1,5 @@
 -- What the parts of a step need.
-use Rattle.std.specs.Prelude.{ℕ, ◌≡◌, ◌≢◌, Bool, true, false, List, Option, None, Some, slice_get}
+use Rattle.std.specs.Prelude.{ℕ, ◌≡◌, Bool, true, false, List, Option, None, Some, slice_get}
 use Rattle.lease.specs.declared.link_place.LinkPlace.{LinkPlace}
 use Rattle.quarantine.specs.OpenTickets.{OpenTickets}
 use Rattle.quarantine.specs.HoldStates.{state_of}

@@ -1,4 +1,4 @@
-use Rattle.std.proofs.Common.{rules, ◌≡◌, option_map, None, Some, length, slice_get, map, vec_len, sym, ap, subst, ◌∙◌, arith, refl}
+use Rattle.std.proofs.Common.{rules, ◌≡◌, option_map, None, Some, length, slice_get, vec_len, sym, ap, subst, ◌∙◌, arith, refl}
 use Rattle.std.proofs.lemmas.Option.{slice_get_within}
 use Rattle.lease.specs.declared.link_place.LinkPlace.{LinkPlace}
 use Rattle.link_pool.specs.declared.entry.Entry.TheVariants as entry
@@ -6,11 +6,11 @@ use Rattle.link_pool.specs.declared.place.Place.TheVariants as place
 use Rattle.link_pool.specs.declared.place.Link.{Link}
 use Rattle.link_pool.specs.declared.place.LinkState.TheVariants as state
 use Rattle.link_pool.specs.declared.place.Claim.TheVariants as claim
-use Rattle.link_pool.specs.Pool.{PoolView, place_at, lend}
+use Rattle.link_pool.specs.Pool.{PoolView, place_at}
 use Rattle.link_pool.specs.PoolOf.{pool_of}
-use Rattle.link_pool.specs.Entries.{place_of, stream_of, IsQuarantined}
-use Rattle.link_pool.proofs.Entries.{seen_at, given_seen, pool_within, read_at, read_entry, wrote_place, wrote_stream, moves, stays}
-use Rattle.link_pool.proofs.Handing.{its_place, gave_there, got_back, left_there}
+use Rattle.link_pool.specs.Entries.{place_of}
+use Rattle.link_pool.proofs.Entries.{seen_at, given_seen, pool_within, read_at, read_entry, wrote_place, wrote_stream, stays}
+use Rattle.link_pool.proofs.Handing.{gave_there, left_there}
 use Rattle.link_pool.proofs.pool.Pool.leave_link.Goals as goal
 
 pub index_mut-pool-requires : goal.index_mut-pool-requires
