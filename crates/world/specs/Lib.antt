@@ -1,0 +1,5 @@
+pub mod World
+pub mod Admissible
+pub mod WorldRun
+pub mod SafeCancellation
+pub mod Settled
