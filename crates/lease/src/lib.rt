@@ -1,24 +1,22 @@
-//! What a node gives out: passes, permits, leases of links, tickets. None can be copied, and each is spent
-//! once, by type: a path that drops one doesn't compile.
+//! What a node gives out: passes, permits, leases of links, tickets. None can be copied, and each
+//! is spent once, by type: a path that drops one doesn't compile.
 #![tactic(auto)]
 
-mod idle_link;
-mod link_lease;
+mod link;
 mod link_place;
 mod link_record;
 mod pass;
 mod permit;
-mod quarantined_link;
 mod ticket;
+mod token;
 
-pub use idle_link::IdleLink;
-pub use link_lease::Lease;
+pub use link::{Held, Idle, IdleLink, Lease, Link, Quarantined, QuarantinedLink};
 pub use link_place::LinkPlace;
 pub use link_record::LinkRecord;
 pub use pass::{Pass, PassRecord};
 pub use permit::{Permit, PermitRecord};
-pub use quarantined_link::QuarantinedLink;
 pub use ticket::{Ticket, TicketRecord};
+pub use token::Token;
 
 #[cfg(test)]
 mod tests;

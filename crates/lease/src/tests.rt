@@ -2,10 +2,12 @@
 ghost use Rattle.std.specs.Prelude.{◌≡◌, IfOk};
 
 use crate::{
-    IdleLink, Lease, LinkPlace, LinkRecord, Pass, PassRecord, Permit, PermitRecord, Ticket,
-    TicketRecord,
+    IdleLink, Lease, LinkPlace, LinkRecord, Pass, PassRecord, Permit, PermitRecord, TicketRecord,
+    Token,
 };
 use pg_ids::{ClientKey, DatabaseNo, LinkNo, PeerNo};
+use std::fmt::Debug;
+use std::process::Abort;
 use std::test::Fail;
 
 const AT: LinkPlace = LinkPlace {
@@ -17,58 +19,67 @@ fn node() -> Result<PeerNo, Fail> {
     Ok(PeerNo::new(2).ok_or("no peer 2")?)
 }
 
-fn permit() -> Result<Permit, Fail> {
-    Ok(Permit::new(PermitRecord {
+fn permit_record() -> Result<PermitRecord, Fail> {
+    Ok(PermitRecord {
         peer: node()?,
         incarnation: 3,
         number: 4,
         at: AT,
-    }))
+    })
 }
 
-#[test]
-fn a_pass(rt: HostRuntime) -> Result<(), Fail> {
-    let said = PassRecord {
+fn permit() -> Result<Permit, Fail> {
+    Ok(Permit::new(permit_record()?))
+}
+
+// A token with this record says it, and returns it, spent either way.
+fn expect_record<R: Copy + Debug + Drop + PartialEq>(rt: &impl Abort, said: R) {
+    let token = Token::new(said);
+    assert_eq!(rt; token.details(), said);
+    assert_eq!(rt; token.spend(), said);
+    assert_eq!(rt; Token::new(said).forfeit(), said);
+}
+
+fn pass_record() -> PassRecord {
+    PassRecord {
         key: ClientKey::from_bytes([0, 8, 0, 0, 0, 0, 0, 7]),
         incarnation: 3,
         number: 5,
-    };
-    let pass = Pass::new(said);
-    assert_eq!(rt; pass.details(), said);
+    }
+}
+
+#[test]
+fn a_pass(rt: HostRuntime) {
+    expect_record(&rt, pass_record());
+}
+
+#[test]
+fn the_key_of_a_pass(rt: HostRuntime) -> Result<(), Fail> {
+    let pass = Pass::new(pass_record());
     assert_eq!(rt; pass.key().to_bytes(), [0, 8, 0, 0, 0, 0, 0, 7]);
-    assert_eq!(rt; pass.spend(), said);
-    assert_eq!(rt; Pass::new(said).forfeit(), said);
+    assert_eq!(rt; pass.spend(), pass_record());
     Ok(())
 }
 
 #[test]
 fn a_permit(rt: HostRuntime) -> Result<(), Fail> {
-    let said = PermitRecord {
-        peer: node()?,
-        incarnation: 3,
-        number: 4,
-        at: AT,
-    };
-    let permit = Permit::new(said);
-    assert_eq!(rt; permit.details(), said);
-    assert_eq!(rt; permit.spend(), said);
-    assert_eq!(rt; Permit::new(said).forfeit(), said);
+    expect_record(&rt, permit_record()?);
     Ok(())
 }
 
-#[test]
-fn a_ticket(rt: HostRuntime) -> Result<(), Fail> {
-    let said = TicketRecord {
+fn ticket_record() -> Result<TicketRecord, Fail> {
+    Ok(TicketRecord {
         peer: node()?,
         incarnation: 3,
         number: 6,
         link: LinkNo(7),
         at: AT,
-    };
-    let ticket = Ticket::new(said);
-    assert_eq!(rt; ticket.details(), said);
-    assert_eq!(rt; ticket.spend(), said);
-    assert_eq!(rt; Ticket::new(said).forfeit(), said);
+    })
+}
+
+#[test]
+fn a_ticket(rt: HostRuntime) -> Result<(), Fail> {
+    expect_record(&rt, ticket_record()?);
     Ok(())
 }
 
@@ -113,8 +124,8 @@ impl Stream {
 #[derive(Clone, Copy, Debug, PartialEq, Eq)]
 struct Broken;
 
-// A `?` after `send` would drop a lease, and doesn't compile: the error waits until the lease is spent.
-// Whoever wrote to the stream has the same lease.
+// A `?` after `send` would drop a lease, and doesn't compile: the error waits until the lease is
+// spent. Whoever wrote to the stream has the same lease.
 fn send_once(mut lease: Lease<Stream>) -> Result<IdleLink<Stream>, (Stream, Broken)>
     ensures { IfOk result (λ idle. idle.details ≡ lease.details) }
 {
