@@ -1,7 +1,6 @@
 -- The entries of [databases] and [peers]: words NAME=VALUE (own grammar).
 use Rattle.std.specs.Prelude.{ℕ, Bool, ◌==◌, if◌then◌else◌, List, [], ◌∷◌, codes, Option, None, Result, Ok, Err, slice_index, unwrap_or}
 use Rattle.std.specs.List.{list_any}
-use Rattle.std.specs.Str.{bytes_eq}
 use Rattle.ini_config.specs.declared.fault.IniCode.{IniCode}
 use Rattle.ini_config.specs.declared.fault.IniCode.TheVariants.{UnknownKey, NotInProfile}
 use Rattle.ini_config.specs.declared.words.EntryKind.{EntryKind}
@@ -9,7 +8,7 @@ use Rattle.ini_config.specs.declared.words.EntryKind.TheVariants as kind
 use Rattle.ini_config.specs.declared.words.WordName.{WordName}
 use Rattle.ini_config.specs.declared.words.WordName.TheVariants as word
 use Rattle.ini_config.specs.Node.{DatabaseSettings, PeerSettings}
-use Rattle.ini_config.specs.Reads.{◌>>=◌, once, needed}
+use Rattle.ini_config.specs.Reads.{◌>>=◌, once, named, needed}
 use Rattle.ini_config.specs.Text.{words, cut_at_equals, pair_of, number_in}
 
 -- what the words of an entry gave so far
@@ -24,28 +23,25 @@ pub record Words : Type 0 where
 abbrev pub no_words : Words
 no_words = record { host = None; port = None; user = None; dbname = None; pool_size = None }
 
--- the names of a database's words
-unfoldable pub database_word : List ℕ → Result WordName IniCode
-database_word text =
-    if bytes_eq text (codes "host") then Ok word.Host
-    else (if bytes_eq text (codes "port") then Ok word.Port
-    else (if bytes_eq text (codes "user") then Ok word.User
-    else (if bytes_eq text (codes "dbname") then Ok word.Dbname
-    else (if bytes_eq text (codes "pool_size") then Ok word.PoolSize
-    else Err UnknownKey))))
+-- the names of words
+unfoldable pub word_named : List ℕ → Result WordName IniCode
+word_named = named UnknownKey (
+    (codes "host", word.Host)
+    ∷ (codes "port", word.Port)
+    ∷ (codes "user", word.User)
+    ∷ (codes "dbname", word.Dbname)
+    ∷ (codes "pool_size", word.PoolSize)
+    ∷ [])
 
--- the names of a peer's words
-unfoldable pub peer_word : List ℕ → Result WordName IniCode
-peer_word text =
-    if bytes_eq text (codes "host") then Ok word.Host
-    else (if bytes_eq text (codes "port") then Ok word.Port
-    else (if bytes_eq text (codes "pool_size") then Ok word.PoolSize
-    else Err UnknownKey))
+-- a word that an entry may have: a peer has no user and no database
+abbrev pub word_of : EntryKind → WordName → Result WordName IniCode
+word_of kind.Peer word.User = Err UnknownKey
+word_of kind.Peer word.Dbname = Err UnknownKey
+word_of k name = Ok name
 
 -- the names of an entry's words
 abbrev pub word_name : EntryKind → List ℕ → Result WordName IniCode
-word_name kind.Database text = database_word text
-word_name kind.Peer text = peer_word text
+word_name k text = word_named text >>= word_of k
 
 -- a host, which is no path of a Unix socket
 unfoldable pub host_value : List ℕ → Result (List ℕ) IniCode

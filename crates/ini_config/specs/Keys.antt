@@ -1,6 +1,6 @@
 -- The keys of [pgbouncer] (PgBouncer configuration manual; the ranges and which are required are
 -- own).
-use Rattle.std.specs.Prelude.{ℕ, if◌then◌else◌, List, codes, Option, None, Result, Ok, Err}
+use Rattle.std.specs.Prelude.{ℕ, if◌then◌else◌, List, [], ◌∷◌, codes, Option, None, Result, Ok, Err}
 use Rattle.std.specs.Str.{bytes_eq}
 use Rattle.ini_config.specs.declared.fault.IniCode.{IniCode}
 use Rattle.ini_config.specs.declared.fault.IniCode.TheVariants.{UnknownKey, NotInProfile}
@@ -10,7 +10,7 @@ use Rattle.ini_config.specs.declared.keys.PoolMode.{PoolMode}
 use Rattle.ini_config.specs.declared.keys.PoolMode.TheVariants.{Transaction}
 use Rattle.ini_config.specs.declared.keys.AuthType.{AuthType}
 use Rattle.ini_config.specs.declared.keys.AuthType.TheVariants.{Trust}
-use Rattle.ini_config.specs.Reads.{◌>>=◌, once}
+use Rattle.ini_config.specs.Reads.{◌>>=◌, once, named}
 use Rattle.ini_config.specs.Text.{number_in}
 
 -- what the lines of the section gave so far
@@ -37,25 +37,19 @@ no_keys = record {
 
 -- the names of the keys
 unfoldable pub key_name : List ℕ → Result KeyName IniCode
-key_name text =
-    if bytes_eq text (codes "pool_mode") then Ok key.PoolMode
-    else (if bytes_eq text (codes "auth_type") then Ok key.AuthType
-    else (if bytes_eq text (codes "listen_addr") then Ok key.ListenAddr
-    else (if bytes_eq text (codes "listen_port") then Ok key.ListenPort
-    else (if bytes_eq text (codes "peer_id") then Ok key.PeerId
-    else (if bytes_eq text (codes "default_pool_size") then Ok key.DefaultPoolSize
-    else (if bytes_eq text (codes "max_client_conn") then Ok key.MaxClientConn
-    else Err UnknownKey))))))
+key_name = named UnknownKey (
+    (codes "pool_mode", key.PoolMode)
+    ∷ (codes "auth_type", key.AuthType)
+    ∷ (codes "listen_addr", key.ListenAddr)
+    ∷ (codes "listen_port", key.ListenPort)
+    ∷ (codes "peer_id", key.PeerId)
+    ∷ (codes "default_pool_size", key.DefaultPoolSize)
+    ∷ (codes "max_client_conn", key.MaxClientConn)
+    ∷ [])
 
--- transaction pooling alone
-unfoldable pub pool_mode_value : List ℕ → Result PoolMode IniCode
-pool_mode_value text = if bytes_eq text (codes "transaction")
-    then Ok Transaction
-    else Err NotInProfile
-
--- trust alone
-unfoldable pub auth_type_value : List ℕ → Result AuthType IniCode
-auth_type_value text = if bytes_eq text (codes "trust") then Ok Trust else Err NotInProfile
+-- a value of which the profile has one alone: transaction pooling, and trust
+abbrev pub only : {A : Type 0} → List ℕ → A → List ℕ → Result A IniCode
+only name value = named NotInProfile ((name, value) ∷ [])
 
 -- one host, and not all of them
 unfoldable pub address_value : List ℕ → Result (List ℕ) IniCode
@@ -63,9 +57,9 @@ address_value text = if bytes_eq text (codes "*") then Err NotInProfile else Ok 
 
 -- one more key's value: first that the key is new, then the value
 unfoldable pub key_given : Keys → KeyName → List ℕ → Result Keys IniCode
-key_given k key.PoolMode text = once k.pool_mode (pool_mode_value text)
+key_given k key.PoolMode text = once k.pool_mode (only (codes "transaction") Transaction text)
     >>= λ given. Ok (record k { pool_mode = given })
-key_given k key.AuthType text = once k.auth_type (auth_type_value text)
+key_given k key.AuthType text = once k.auth_type (only (codes "trust") Trust text)
     >>= λ given. Ok (record k { auth_type = given })
 key_given k key.ListenAddr text = once k.listen_addr (address_value text)
     >>= λ given. Ok (record k { listen_addr = given })

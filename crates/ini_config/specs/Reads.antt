@@ -1,5 +1,6 @@
 -- What a reader returns, beside what the grammar says: the same, unless memory ran out.
-use Rattle.std.specs.Prelude.{◌≡◌, ◌⊎◌, Result, Ok, Err, Option, Some, None}
+use Rattle.std.specs.Prelude.{ℕ, ◌≡◌, ◌⊎◌, if◌then◌else◌, List, [], ◌∷◌, Result, Ok, Err, Option, Some, None}
+use Rattle.std.specs.Str.{bytes_eq}
 use Rattle.ini_config.specs.declared.fault.IniCode.{IniCode}
 use Rattle.ini_config.specs.declared.fault.IniCode.TheVariants.{Repeated, Missing, Memory}
 
@@ -14,6 +15,11 @@ abbrev pub once : {A : Type 0} → Option A → Result A IniCode → Result (Opt
 once (Some x) value = Err Repeated
 once None (Ok x) = Ok (Some x)
 once None (Err e) = Err e
+
+-- the first of some values, each with its name, that has this name; else this fault
+abbrev pub named : {A : Type 0} → IniCode → List (List ℕ × A) → List ℕ → Result A IniCode
+named fault [] text = Err fault
+named fault (row ∷ rows) text = if bytes_eq text row.0 then Ok row.1 else named fault rows text
 
 -- a value that has to be given
 abbrev pub needed : {A : Type 0} → Option A → Result A IniCode

@@ -12,7 +12,7 @@ use Rattle.ini_config.specs.declared.section.Section.{Section}
 use Rattle.ini_config.specs.declared.section.Section.TheVariants.{Pgbouncer, Databases, Peers}
 use Rattle.ini_config.specs.Codes.{fault_at}
 use Rattle.ini_config.specs.Text.{trimmed, is_empty, cut_at_equals, pair_of, is_key_byte, number_in}
-use Rattle.ini_config.specs.Reads.{◌>>=◌, needed}
+use Rattle.ini_config.specs.Reads.{◌>>=◌, named, needed}
 use Rattle.ini_config.specs.Node.{PeerSettings, NodeSettings, pool_total}
 use Rattle.ini_config.specs.Keys.{Keys, no_keys, key_name, key_given}
 use Rattle.ini_config.specs.Entry.{DatabaseGiven, with_defaults, database_entry, peer_entry}
@@ -33,11 +33,11 @@ nothing = record { opened = []; keys = no_keys; databases = []; peers = [] }
 
 -- the names of the sections
 unfoldable pub section_named : List ℕ → Result Section IniCode
-section_named text =
-    if bytes_eq text (codes "pgbouncer") then Ok Pgbouncer
-    else (if bytes_eq text (codes "databases") then Ok Databases
-    else (if bytes_eq text (codes "peers") then Ok Peers
-    else Err UnknownSection))
+section_named = named UnknownSection (
+    (codes "pgbouncer", Pgbouncer)
+    ∷ (codes "databases", Databases)
+    ∷ (codes "peers", Peers)
+    ∷ [])
 
 -- whether two sections are one
 abbrev pub same_section : Section → Section → Bool

@@ -11,31 +11,31 @@ use thiserror::Error;
 pub enum IniCode {
     /// The line has no form of the grammar, holds a zero byte or is longer than 8,000 bytes.
     #[error("20 BadLine")]
-    BadLine,
+    BadLine = 20,
     /// The section is none of `pgbouncer`, `databases` and `peers`.
     #[error("21 UnknownSection")]
-    UnknownSection,
+    UnknownSection = 21,
     /// The section has no such key, or its entries no such name.
     #[error("22 UnknownKey")]
-    UnknownKey,
+    UnknownKey = 22,
     /// No decimal number without leading zeros.
     #[error("23 BadNumber")]
-    BadNumber,
+    BadNumber = 23,
     /// A number outside its range, or one entry too many.
     #[error("24 OutOfRange")]
-    OutOfRange,
+    OutOfRange = 24,
     /// A section, key or name for the second time.
     #[error("25 Repeated")]
-    Repeated,
+    Repeated = 25,
     /// A required key or name isn't there.
     #[error("26 Missing")]
-    Missing,
+    Missing = 26,
     /// A feature of PgBouncer that pgpeer doesn't have.
     #[error("27 NotInProfile")]
-    NotInProfile,
+    NotInProfile = 27,
     /// Memory ran out.
     #[error("28 Memory")]
-    Memory,
+    Memory = 28,
 }
 
 impl IniCode {
@@ -45,17 +45,7 @@ impl IniCode {
     pub const fn number(self) -> u8
         ensures { result ≡ ini_number self }
     {
-        match self {
-            IniCode::BadLine => 20,
-            IniCode::UnknownSection => 21,
-            IniCode::UnknownKey => 22,
-            IniCode::BadNumber => 23,
-            IniCode::OutOfRange => 24,
-            IniCode::Repeated => 25,
-            IniCode::Missing => 26,
-            IniCode::NotInProfile => 27,
-            IniCode::Memory => 28,
-        }
+        self as u8
     }
 }
 
@@ -104,16 +94,16 @@ impl IniError {
 pub enum GroupError {
     /// Two nodes have one peer number.
     #[error("40 SamePeer")]
-    SamePeer,
+    SamePeer = 40,
     /// A node doesn't list another node of the group.
     #[error("41 MissingPeer")]
-    MissingPeer,
+    MissingPeer = 41,
     /// One of two nodes or more has the peer number 0.
     #[error("42 NoPeering")]
-    NoPeering,
+    NoPeering = 42,
     /// Memory ran out.
     #[error("43 Memory")]
-    Memory,
+    Memory = 43,
 }
 
 impl GroupError {
@@ -123,11 +113,6 @@ impl GroupError {
     pub const fn number(self) -> u8
         ensures { result ≡ group_number self }
     {
-        match self {
-            GroupError::SamePeer => 40,
-            GroupError::MissingPeer => 41,
-            GroupError::NoPeering => 42,
-            GroupError::Memory => 43,
-        }
+        self as u8
     }
 }

@@ -4,7 +4,7 @@ ghost use Rattle.std.specs.Option.{ForSome};
 
 use crate::fault::IniCode;
 use crate::text::number_in;
-use crate::values::{address_value, once, peer_value, size_value};
+use crate::values::{address_value, once, only, peer_value, size_value};
 use pg_ids::PeerNo;
 use std::alloc::Global;
 
@@ -52,34 +52,6 @@ impl KeyName {
     }
 }
 
-impl PoolMode {
-    ghost use Rattle.ini_config.specs.Keys.{pool_mode_value};
-
-    #[tactic(auto, unfolding(crate::specs::Keys::pool_mode_value))]
-    fn of(text: &str) -> Result<PoolMode, IniCode>
-        ensures { result ≡ pool_mode_value text.now }
-    {
-        match text {
-            "transaction" => Ok(PoolMode::Transaction),
-            _ => Err(IniCode::NotInProfile),
-        }
-    }
-}
-
-impl AuthType {
-    ghost use Rattle.ini_config.specs.Keys.{auth_type_value};
-
-    #[tactic(auto, unfolding(crate::specs::Keys::auth_type_value))]
-    fn of(text: &str) -> Result<AuthType, IniCode>
-        ensures { result ≡ auth_type_value text.now }
-    {
-        match text {
-            "trust" => Ok(AuthType::Trust),
-            _ => Err(IniCode::NotInProfile),
-        }
-    }
-}
-
 /// What has been read of `[pgbouncer]` so far.
 #[derive(Drop)]
 pub(crate) struct PoolerKeys {
@@ -122,8 +94,13 @@ impl PoolerKeys {
             (key_given (keys_seen self.old) name text.now) }
     {
         match name {
-            KeyName::PoolMode => once(&mut self.pool_mode, PoolMode::of(text)),
-            KeyName::AuthType => once(&mut self.auth_type, AuthType::of(text)),
+            KeyName::PoolMode => {
+                once(
+                    &mut self.pool_mode,
+                    only("transaction", PoolMode::Transaction, text),
+                )
+            }
+            KeyName::AuthType => once(&mut self.auth_type, only("trust", AuthType::Trust, text)),
             KeyName::ListenAddr => once(&mut self.listen_addr, address_value(alloc, text)),
             KeyName::ListenPort => once(&mut self.listen_port, size_value(text)),
             KeyName::PeerId => once(&mut self.peer_id, peer_value(0, text)),

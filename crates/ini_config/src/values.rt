@@ -3,7 +3,7 @@ ghost use Rattle.std.specs.Prelude.{◌≡◌, ◌<◌, ◌≤◌, ◌⊎◌, Ma
 ghost use Rattle.ini_config.specs.Reads.{once, Gives};
 ghost use Rattle.ini_config.specs.Text.{number_in};
 ghost use Rattle.ini_config.specs.Entry.{host_value};
-ghost use Rattle.ini_config.specs.Keys.{address_value};
+ghost use Rattle.ini_config.specs.Keys.{address_value, only};
 
 use crate::fault::IniCode;
 use crate::text::number_in;
@@ -30,6 +30,16 @@ pub(crate) fn text_value(alloc: Global, text: &str) -> Result<String, IniCode>
     ensures { Gives string_bytes result (Ok text.now) }
 {
     Ok(String::from_str(alloc, text)?)
+}
+
+/// The one value that the profile has, which has this name.
+pub(crate) fn only<T: Copy>(name: &str, value: T, text: &str) -> Result<T, IniCode>
+    ensures { result ≡ only name.now value text.now }
+{
+    if text != name {
+        return Err(IniCode::NotInProfile);
+    }
+    Ok(value)
 }
 
 /// A host, which is no path of a Unix socket.

@@ -27,42 +27,36 @@ pub(crate) enum EntryKind {
 }
 
 impl EntryKind {
-    ghost use Rattle.ini_config.specs.Entry.{word_name};
+    ghost use Rattle.ini_config.specs.Entry.{word_name, word_of};
 
     fn word_name(self, text: &str) -> Result<WordName, IniCode>
         ensures { result ≡ word_name self text.now }
     {
-        match self {
-            EntryKind::Database => WordName::of_database(text),
-            EntryKind::Peer => WordName::of_peer(text),
+        self.allow(WordName::of(text)?)
+    }
+
+    fn allow(self, name: WordName) -> Result<WordName, IniCode>
+        ensures { result ≡ word_of self name }
+    {
+        match (self, name) {
+            (EntryKind::Peer, WordName::User | WordName::Dbname) => Err(IniCode::UnknownKey),
+            (EntryKind::Database | EntryKind::Peer, _) => Ok(name),
         }
     }
 }
 
 impl WordName {
-    ghost use Rattle.ini_config.specs.Entry.{database_word, peer_word};
+    ghost use Rattle.ini_config.specs.Entry.{word_named};
 
-    #[tactic(auto, unfolding(crate::specs::Entry::database_word))]
-    fn of_database(text: &str) -> Result<WordName, IniCode>
-        ensures { result ≡ database_word text.now }
+    #[tactic(auto, unfolding(crate::specs::Entry::word_named))]
+    fn of(text: &str) -> Result<WordName, IniCode>
+        ensures { result ≡ word_named text.now }
     {
         match text {
             "host" => Ok(WordName::Host),
             "port" => Ok(WordName::Port),
             "user" => Ok(WordName::User),
             "dbname" => Ok(WordName::Dbname),
-            "pool_size" => Ok(WordName::PoolSize),
-            _ => Err(IniCode::UnknownKey),
-        }
-    }
-
-    #[tactic(auto, unfolding(crate::specs::Entry::peer_word))]
-    fn of_peer(text: &str) -> Result<WordName, IniCode>
-        ensures { result ≡ peer_word text.now }
-    {
-        match text {
-            "host" => Ok(WordName::Host),
-            "port" => Ok(WordName::Port),
             "pool_size" => Ok(WordName::PoolSize),
             _ => Err(IniCode::UnknownKey),
         }
