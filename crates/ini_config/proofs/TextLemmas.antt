@@ -6,10 +6,11 @@ use Rattle.std.specs.List.{position_or_len, slice_split, list_any, before_first,
 use Rattle.std.specs.Str.{IsCharBoundary}
 use Rattle.std.proofs.lemmas.Bool.Decides.{nat_tests}
 use Rattle.std.proofs.lemmas.Bool.{ne_eqb, ltb-false, eqb-true, cases_Bool, false≢true}
-use Rattle.std.proofs.lemmas.List.{reverse-append, reverse-reverse}
+use Rattle.std.proofs.lemmas.List.{reverse-append, reverse-reverse, get_or_default}
 use Rattle.std.proofs.lemmas.List.Splits.{slice_split_first, slice_split_none, slice_split-cons_yes}
 use Rattle.std.proofs.lemmas.List.Sums.{prefix_len_passes}
 use Rattle.std.proofs.lemmas.List.Quantifiers.{position-Some}
+use Rattle.std.proofs.lemmas.List.Folds.{list_any_none, list_any-from_Any}
 use Rattle.std.proofs.lemmas.Str.{IsCharBoundary-before_ascii}
 use Rattle.ini_config.specs.Text.{is_blank, is_equals, is_empty, trim_front, trim_back, words, cut_at_equals}
 use Rattle.ini_config.specs.Reads.{Answers}
@@ -134,19 +135,23 @@ word_cut text bs place e found =
     let p = position-Some is_blank bs place 0 found in
     (sym (words-trim_front text) ∙ ap words (sym e) ∙ words_first bs place found some, omega (arith, length-drop place bs, trim_front-le text, ap length e, p.0))
 
--- an element that passes has a first place
-pub holds_place : {X : Type 0} (p : X → Bool) → (xs : List X) → list_any p xs ≡ ltb (position_or_len p xs) (length xs)
-holds_place p [] = refl
-holds_place p (x ∷ xs) = by (p x) (holds_place p xs)
-  where
-    by : (t : Bool) → list_any p xs ≡ ltb (position_or_len p xs) (length xs) → (t || list_any p xs) ≡ ltb (cond (not t) (1 + position_or_len p xs) 0) (suc (length xs))
-    by true more = grind (arith, nat_tests)
-    by false more = more ∙ grind (arith, nat_tests)
+-- no byte is a mark where the first one stands behind the text
+no_mark : (mark : ℕ → Bool) (bs : List ℕ) → length bs ≤ position_or_len mark bs → list_any mark bs ≡ false
+no_mark mark bs none = list_any_none mark bs (λ k d lt. not_true (mark (get_or bs k d)) (prefix_len_passes (λ b. not (mark b)) bs k d (omega arith)))
+
+-- some byte is a mark where the first one stands in the text
+some_mark : (mark : ℕ → Bool) (bs : List ℕ) → position_or_len mark bs < length bs → list_any mark bs ≡ true
+some_mark mark bs lt =
+    let place = position_or_len mark bs in
+    let found : position mark bs ≡ Some place = ap (λ b. cond b (Some place) None) (grind (arith, nat_tests)) in
+    let p = position-Some mark bs place 0 found in
+    let same = get_or_default bs place (get_or bs place 0) 0 lt in
+    list_any-from_Any mark bs (place, get_or bs place 0, lt, same, p.1)
 
 -- the cut at the first `=`
 pub cut_read : (bs : List ℕ) (r : Option (Bor (List ℕ) × Bor (List ℕ)))
     → MatchOption r (position_or_len is_equals bs ≡ length bs) (λ x. (position_or_len is_equals bs < length bs) × (x.0.now ≡ before_first is_equals bs) × (x.1.now ≡ after_first is_equals bs))
     → Answers (λ (x : Bor (List ℕ) × Bor (List ℕ)). (x.0.now, x.1.now)) (ok_or r BadLine) (cut_at_equals bs)
 unfolding cut_at_equals
-cut_read bs None h = let none : ltb (position_or_len is_equals bs) (length bs) ≡ false = grind (arith, nat_tests) in rw (holds_place is_equals bs, none) refl
-cut_read bs (Some x) h = let some : ltb (position_or_len is_equals bs) (length bs) ≡ true = let lt = h.0 in grind (arith, nat_tests) in rw (holds_place is_equals bs, some, h.1, h.2) refl
+cut_read bs None h = rw (no_mark is_equals bs (omega arith)) refl
+cut_read bs (Some x) h = rw (some_mark is_equals bs h.0, h.1, h.2) refl

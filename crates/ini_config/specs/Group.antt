@@ -3,6 +3,8 @@
 use Rattle.std.specs.Prelude.{ℕ, ◌≢◌, ◌<◌, ◌≤◌, Bool, IsTrue, ◌==◌, List, length, All, AllPairs}
 use Rattle.std.specs.List.{list_any}
 use Rattle.ini_config.specs.Node.{NodeSettings, PeerSettings}
+use Rattle.ini_config.specs.declared.pair_law.PairLaw.{PairLaw}
+use Rattle.ini_config.specs.declared.pair_law.PairLaw.TheVariants as law
 
 -- whether a node lists a peer with this number
 abbrev pub lists : NodeSettings → ℕ → Bool
@@ -15,6 +17,11 @@ Differ s t = s.peer_id ≢ t.peer_id
 -- two nodes of which each lists the other
 abbrev pub ListEachOther : NodeSettings → NodeSettings → Type 0
 ListEachOther s t = IsTrue (lists s t.peer_id) × IsTrue (lists t s.peer_id)
+
+-- what each two nodes have to meet
+abbrev pub law_of : PairLaw → NodeSettings → NodeSettings → Type 0
+law_of law.Differ = Differ
+law_of law.ListEachOther = ListEachOther
 
 -- where there are two nodes or more, none has the number 0, which is that of a node without peers
 abbrev pub AllPeer : List NodeSettings → Type 0

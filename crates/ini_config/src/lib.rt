@@ -8,6 +8,7 @@ mod fault;
 mod keys;
 mod node_group;
 mod node_settings;
+mod pair_law;
 mod plain;
 mod read;
 mod section;

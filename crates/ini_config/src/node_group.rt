@@ -2,10 +2,11 @@
 ghost use Rattle.std.specs.Prelude.{◌≡◌, ◌<◌, ◌↔◌, List, ℕ, length, slice_get, All, AllPairs, IsTrue, IsOk, IfOk, IsErrOf};
 ghost use Rattle.std.specs.Option.{option_copied};
 ghost use Rattle.ini_config.specs.Node.{NodeSettings};
-ghost use Rattle.ini_config.specs.Group.{AllPeer, PeersDiffer, AllListed, IsGroup, Differ, ListEachOther};
+ghost use Rattle.ini_config.specs.Group.{AllPeer, PeersDiffer, AllListed, IsGroup, law_of};
 
 use crate::fault::GroupError;
 use crate::node_settings::Settings;
+use crate::pair_law::PairLaw;
 use std::marker::Model;
 
 /// The settings of the nodes of one group, in the order in which they were given. There may be no
@@ -44,10 +45,10 @@ impl Group {
         if !all_peer(&nodes) {
             return Err(GroupError::NoPeering);
         }
-        if !peers_differ(&nodes) {
+        if !all_pairs(&nodes, PairLaw::Differ) {
             return Err(GroupError::SamePeer);
         }
-        if !all_listed(&nodes) {
+        if !all_pairs(&nodes, PairLaw::ListEachOther) {
             return Err(GroupError::MissingPeer);
         }
         Ok(Group { nodes })
@@ -96,39 +97,14 @@ fn have_numbers(nodes: &[Settings]) -> bool
     nodes.iter().all(|node| node.peer_id().get() > 0)
 }
 
-// Whether no two nodes have one number.
-fn peers_differ(nodes: &[Settings]) -> bool
-    ensures { IsTrue result ↔ PeersDiffer nodes.now }
+// Whether this holds of each two nodes.
+fn all_pairs(nodes: &[Settings], law: PairLaw) -> bool
+    ensures { IsTrue result ↔ AllPairs (law_of law) nodes.now }
 {
     for (place, node) in nodes.iter().enumerate() {
-        if !differs_from_all(node, &nodes[..place]) {
+        if !law.holds(node, &nodes[..place]) {
             return false;
         }
     }
     true
-}
-
-fn differs_from_all(node: &Settings, others: &[Settings]) -> bool
-    ensures { IsTrue result ↔ All (λ other. Differ other node.now) others.now }
-{
-    let number = node.peer_id();
-    others.iter().all(|other| other.peer_id() != number)
-}
-
-// Whether each node lists each other node.
-fn all_listed(nodes: &[Settings]) -> bool
-    ensures { IsTrue result ↔ AllListed nodes.now }
-{
-    for (place, node) in nodes.iter().enumerate() {
-        if !is_listed(node, &nodes[..place]) {
-            return false;
-        }
-    }
-    true
-}
-
-fn is_listed(node: &Settings, others: &[Settings]) -> bool
-    ensures { IsTrue result ↔ All (λ other. ListEachOther other node.now) others.now }
-{
-    others.iter().all(|other| other.lists_peer(node.peer_id()) && node.lists_peer(other.peer_id()))
 }

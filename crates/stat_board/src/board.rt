@@ -4,7 +4,7 @@ ghost use Rattle.std.specs.Mem.Slots.{slots_items, slots_len, IsFull};
 ghost use Rattle.stat_board.specs.Counts.{BOARD_LIMIT, counted_at, noted, handing, handed, united, IsWithin};
 
 use crate::counter::COUNTERS;
-use crate::note::{Both, Halve, Look, Note, Place, Raise, Rule, Weigh};
+use crate::note::{Look, Note, Place, Raise, Rule, Weigh};
 use crate::row::Row;
 use crate::seat::BoardSeat;
 use atomic_table::{Closed, Table};
@@ -94,7 +94,7 @@ impl Board {
         ensures left { seat.new.me ≡ (handing seat.old.me.0, seat.old.me.1) }
         ensures right { result.me ≡ (handed seat.old.me.0, []) }
     {
-        self.table.shared.split_seat::<Halve>(seat)
+        self.table.shared.split_seat::<Rule>(seat)
     }
 
     // Two places are one.
@@ -106,7 +106,7 @@ impl Board {
         ensures within { IsWithin seat.new.me.0 }
     {
         let shared = &self.table.shared;
-        shared.join_seat::<Both>(seat, other);
+        shared.join_seat::<Rule>(seat, other);
         shared.load::<Weigh>(seat, 0);
     }
 }

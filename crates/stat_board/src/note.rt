@@ -14,6 +14,7 @@ pub struct Note {
 /// A seat's place at the board. It has no bytes.
 pub type Place = Seat<(), Note>;
 
+/// The rule, by which seats are also split and joined.
 pub struct Rule;
 
 impl TableRule<(), Note, ()> for Rule {
@@ -48,9 +49,7 @@ impl Play<(), Note> for Weigh {
     ghost then = { weighing };
 }
 
-pub struct Halve;
-
-impl Split<Note> for Halve {
+impl Split<Note> for Rule {
     ghost use Rattle.stat_board.specs.Counts.{handing, handed};
 
     ghost left = { handing };
@@ -58,9 +57,7 @@ impl Split<Note> for Halve {
     ghost right = { handed };
 }
 
-pub struct Both;
-
-impl Join<Note> for Both {
+impl Join<Note> for Rule {
     ghost use Rattle.stat_board.specs.Counts.{united, nobody};
 
     ghost both = { united };

@@ -3,6 +3,7 @@ ghost use Rattle.std.specs.Prelude.{◌≡◌};
 ghost use Rattle.std.specs.Thread.{IsSync};
 
 use crate::{Board, BoardSeat, Counter, NoAllowance};
+use std::marker::PhantomData;
 use std::test::Fail;
 use std::thread;
 use std::thread::Threads;
@@ -35,82 +36,49 @@ fn raise(
     Ok(())
 }
 
+// What a thread does at a board with a seat of its own. The seat that it returns has all counts.
+trait Work {
+    fn count<R: Threads + Sync>(rt: &R, board: &Board, seat: BoardSeat) -> BoardSeat
+        requires { seat.board ≡ board.now }
+        ensures { result.board ≡ seat.board };
+}
+
 // A thousand requests with an unknown key.
-fn by_one(board: &Board, mut seat: BoardSeat) -> BoardSeat
-    requires { seat.board ≡ board.now }
-    ensures { result.board ≡ seat.board }
-{
-    let _ = raise(board, &mut seat, Counter::Unknown, 1000);
-    seat
+struct Thousand;
+
+impl Work for Thousand {
+    fn count<R: Threads + Sync>(_rt: &R, board: &Board, mut seat: BoardSeat) -> BoardSeat {
+        let _ = raise(board, &mut seat, Counter::Unknown, 1000);
+        seat
+    }
 }
 
 // The same in each of two threads, whose seats are joined.
-fn by_two<R: Threads + Sync>(rt: &R, board: &Board, mut seat: BoardSeat) -> BoardSeat
-    requires { seat.board ≡ board.now }
-    ensures { result.board ≡ seat.board }
-{
-    let other = seat.split(board);
-    let (mut first, second) = thread::join(
-        rt,
-        || -> BoardSeat
-            requires { seat.board ≡ board.now }
-            ensures { result.board ≡ seat.board }
-        { by_one(board, seat) },
-        || -> BoardSeat
-            requires { other.board ≡ board.now }
-            ensures { result.board ≡ other.board }
-        { by_one(board, other) },
-    );
-    first.join(board, second);
-    first
-}
+struct Twice<W>(PhantomData<W>);
 
-// In four.
-fn by_four<R: Threads + Sync>(rt: &R, board: &Board, mut seat: BoardSeat) -> BoardSeat
-    requires { seat.board ≡ board.now }
-    ensures { result.board ≡ seat.board }
-{
-    let other = seat.split(board);
-    let (mut first, second) = thread::join(
-        rt,
-        || -> BoardSeat
-            requires { IsSync R.row × (seat.board ≡ board.now) }
-            ensures { result.board ≡ seat.board }
-        { by_two(rt, board, seat) },
-        || -> BoardSeat
-            requires { IsSync R.row × (other.board ≡ board.now) }
-            ensures { result.board ≡ other.board }
-        { by_two(rt, board, other) },
-    );
-    first.join(board, second);
-    first
-}
-
-// In eight.
-fn by_eight<R: Threads + Sync>(rt: &R, board: &Board, mut seat: BoardSeat) -> BoardSeat
-    requires { seat.board ≡ board.now }
-    ensures { result.board ≡ seat.board }
-{
-    let other = seat.split(board);
-    let (mut first, second) = thread::join(
-        rt,
-        || -> BoardSeat
-            requires { IsSync R.row × (seat.board ≡ board.now) }
-            ensures { result.board ≡ seat.board }
-        { by_four(rt, board, seat) },
-        || -> BoardSeat
-            requires { IsSync R.row × (other.board ≡ board.now) }
-            ensures { result.board ≡ other.board }
-        { by_four(rt, board, other) },
-    );
-    first.join(board, second);
-    first
+impl<W: Work> Work for Twice<W> {
+    fn count<R: Threads + Sync>(rt: &R, board: &Board, mut seat: BoardSeat) -> BoardSeat {
+        let other = seat.split(board);
+        let (mut first, second) = thread::join(
+            rt,
+            || -> BoardSeat
+                requires { IsSync R.row × (seat.board ≡ board.now) }
+                ensures { result.board ≡ seat.board }
+            { W::count(rt, board, seat) },
+            || -> BoardSeat
+                requires { IsSync R.row × (other.board ≡ board.now) }
+                ensures { result.board ≡ other.board }
+            { W::count(rt, board, other) },
+        );
+        first.join(board, second);
+        first
+    }
 }
 
 #[test]
 fn eight_threads(rt: HostRuntime) -> Result<(), Fail> {
     let (board, first) = Board::new(rt.alloc())?;
-    let seat = by_eight(&rt, &board, first);
+    let seat = Twice::<Twice<Twice<Thousand>>>::count(&rt, &board, first);
     assert_eq!(rt; board.close(seat), [0, 8000, 0, 0, 0, 0, 0, 0]);
     Ok(())
 }

@@ -108,34 +108,33 @@ fn expect_row(
     Ok(())
 }
 
-#[test]
-fn faults_of_form(rt: HostRuntime) -> Result<(), Fail> {
-    for row in FORMS {
-        expect_row(&rt, &row)?;
+// Asserts the fault of each line of a table.
+fn expect_rows(
+    rt: &(impl Abort + Alloc<A = Global>),
+    rows: &[(&str, &str, IniCode)],
+) -> Result<(), Fail> {
+    for row in rows {
+        expect_row(rt, row)?;
     }
     Ok(())
+}
+
+#[test]
+fn faults_of_form(rt: HostRuntime) -> Result<(), Fail> {
+    expect_rows(&rt, &FORMS)
 }
 
 #[test]
 fn faults_of_keys(rt: HostRuntime) -> Result<(), Fail> {
-    for row in KEY_LINES {
-        expect_row(&rt, &row)?;
-    }
-    Ok(())
+    expect_rows(&rt, &KEY_LINES)
 }
 
 #[test]
 fn faults_of_databases(rt: HostRuntime) -> Result<(), Fail> {
-    for row in DATABASE_LINES {
-        expect_row(&rt, &row)?;
-    }
-    Ok(())
+    expect_rows(&rt, &DATABASE_LINES)
 }
 
 #[test]
 fn faults_of_peers(rt: HostRuntime) -> Result<(), Fail> {
-    for row in PEER_LINES {
-        expect_row(&rt, &row)?;
-    }
-    Ok(())
+    expect_rows(&rt, &PEER_LINES)
 }
