@@ -9,9 +9,10 @@ use Rattle.std.proofs.lemmas.List.{get_or_append_left}
 use Rattle.key_table.specs.Slots.{IsNext}
 use Rattle.key_table.specs.FreeList.{free_count, IsFreeList}
 use Rattle.key_table.proofs.Places.{slice_get-set_same, slice_get-set_other}
+use Rattle.key_table.specs.declared.entry.Entry.{Entry}
 
 -- a free slot that becomes live is one free slot less
-pub free_count-live : (secrets : List (Option ℕ)) (s x : ℕ) → slice_get secrets s ≡ Some None → free_count (set secrets s (Some x)) + 1 ≡ free_count secrets
+pub free_count-live : (entries : List (Option Entry)) (s : ℕ) (x : Entry) → slice_get entries s ≡ Some None → free_count (set entries s (Some x)) + 1 ≡ free_count entries
 free_count-live [] s x h = absurd (none-some None h)
 free_count-live (None ∷ ys) zero x h = refl
 free_count-live (Some y ∷ ys) zero x h = absurd (cc)
@@ -19,7 +20,7 @@ free_count-live (None ∷ ys) (suc s) x h = let e = free_count-live ys s x h in 
 free_count-live (Some y ∷ ys) (suc s) x h = free_count-live ys s x h
 
 -- a live slot that is freed is one free slot more
-pub free_count-freed : (secrets : List (Option ℕ)) (s x : ℕ) → slice_get secrets s ≡ Some (Some x) → free_count (set secrets s None) ≡ free_count secrets + 1
+pub free_count-freed : (entries : List (Option Entry)) (s : ℕ) (x : Entry) → slice_get entries s ≡ Some (Some x) → free_count (set entries s None) ≡ free_count entries + 1
 free_count-freed [] s x h = absurd (none-some (Some x) h)
 free_count-freed (None ∷ ys) zero x h = absurd (cc)
 free_count-freed (Some y ∷ ys) zero x h = refl
@@ -27,59 +28,59 @@ free_count-freed (None ∷ ys) (suc s) x h = let e = free_count-freed ys s x h i
 free_count-freed (Some y ∷ ys) (suc s) x h = free_count-freed ys s x h
 
 -- with no free slot counted, no slot is free
-pub none_free : (secrets : List (Option ℕ)) (s : ℕ) → free_count secrets ≡ 0 → slice_get secrets s ≢ Some None
+pub none_free : (entries : List (Option Entry)) (s : ℕ) → free_count entries ≡ 0 → slice_get entries s ≢ Some None
 none_free [] s h e = none-some None e
 none_free (None ∷ ys) s h e = omega arith
 none_free (Some y ∷ ys) zero h e = cc
 none_free (Some y ∷ ys) (suc s) h e = none_free ys s h e
 
 -- no more slots are free than there are
-pub free_count-le : (secrets : List (Option ℕ)) → free_count secrets ≤ length secrets
+pub free_count-le : (entries : List (Option Entry)) → free_count entries ≤ length entries
 free_count-le [] = omega arith
 free_count-le (None ∷ ys) = let e = free_count-le ys in omega (arith, e)
 free_count-le (Some y ∷ ys) = let e = free_count-le ys in omega (arith, e)
 
 -- where a slot is live, not each is free
-pub some_live : (secrets : List (Option ℕ)) (s x : ℕ) → slice_get secrets s ≡ Some (Some x) → free_count secrets < length secrets
-some_live secrets s x h =
-    let more = free_count-freed secrets s x h in
-    let few = free_count-le (set secrets s None) in
-    let same = length-set secrets s None in
+pub some_live : (entries : List (Option Entry)) (s : ℕ) (x : Entry) → slice_get entries s ≡ Some (Some x) → free_count entries < length entries
+some_live entries s x h =
+    let more = free_count-freed entries s x h in
+    let few = free_count-le (set entries s None) in
+    let same = length-set entries s None in
     omega (arith, more, few, same)
 
 -- the next slot is given
-pub after_issue : (secrets : List (Option ℕ)) (free rest : List ℕ) (s x : ℕ) → free ≡ rest ++ s ∷ [] → IsFreeList secrets free → IsFreeList (set secrets s (Some x)) rest
-after_issue secrets free rest s x e keeps =
+pub after_issue : (entries : List (Option Entry)) (free rest : List ℕ) (s : ℕ) (x : Entry) → free ≡ rest ++ s ∷ [] → IsFreeList entries free → IsFreeList (set entries s (Some x)) rest
+after_issue entries free rest s x e keeps =
     let shorter : length free ≡ length rest + 1 = ap length e ∙ length-append rest (s ∷ []) in
     let at : (i : ℕ) → i < length rest → get_or free i 0 ≡ get_or rest i 0 = λ i h. ap (λ (xs : List ℕ). get_or xs i 0) e ∙ get_or_append_left rest (s ∷ []) 0 i h in
     let last : get_or free (length rest) 0 ≡ s = ap (λ (xs : List ℕ). get_or xs (length rest) 0) e ∙ get_or-append_seam rest s [] 0 in
-    let was_free : slice_get secrets s ≡ Some None = subst (λ n. slice_get secrets n ≡ Some None) last (keeps.sound (length rest) (omega arith)) in
+    let was_free : slice_get entries s ≡ Some None = subst (λ n. slice_get entries n ≡ Some None) last (keeps.sound (length rest) (omega arith)) in
     record {
       sound = λ i h.
           let other : get_or rest i 0 ≢ s = λ same. keeps.distinct i (length rest) h (omega arith) (at i h ∙ same ∙ sym last) in
-          slice_get-set_other secrets s (get_or rest i 0) (Some x) other ∙ subst (λ n. slice_get secrets n ≡ Some None) (at i h) (keeps.sound i (omega arith));
+          slice_get-set_other entries s (get_or rest i 0) (Some x) other ∙ subst (λ n. slice_get entries n ≡ Some None) (at i h) (keeps.sound i (omega arith));
       distinct = λ i j below within same. keeps.distinct i j below (omega arith) (at i (omega arith) ∙ same ∙ sym (at j within));
-      counted = let one_less = free_count-live secrets s x was_free in let before = keeps.counted in omega (arith, one_less, before);
+      counted = let one_less = free_count-live entries s x was_free in let before = keeps.counted in omega (arith, one_less, before);
     }
 
 -- a live slot is freed
-pub after_retire : (secrets : List (Option ℕ)) (free : List ℕ) (s x : ℕ) → slice_get secrets s ≡ Some (Some x) → IsFreeList secrets free → IsFreeList (set secrets s None) (free ++ s ∷ [])
-after_retire secrets free s x live keeps =
+pub after_retire : (entries : List (Option Entry)) (free : List ℕ) (s : ℕ) (x : Entry) → slice_get entries s ≡ Some (Some x) → IsFreeList entries free → IsFreeList (set entries s None) (free ++ s ∷ [])
+after_retire entries free s x live keeps =
     let longer : length (free ++ s ∷ []) ≡ length free + 1 = length-append free (s ∷ []) in
     let at : (i : ℕ) → i < length free → get_or (free ++ s ∷ []) i 0 ≡ get_or free i 0 = λ i h. get_or_append_left free (s ∷ []) 0 i h in
     let last : get_or (free ++ s ∷ []) (length free) 0 ≡ s = get_or-append_seam free s [] 0 in
-    let other : (i : ℕ) → i < length free → get_or free i 0 ≢ s = λ i h same. none-some x (same_Some None (Some x) (sym (keeps.sound i h) ∙ ap (slice_get secrets) same ∙ live)) in
-    let now_free : slice_get (set secrets s None) s ≡ Some None = slice_get-set_same secrets s None (slice_get_within secrets s (Some x) live) in
+    let other : (i : ℕ) → i < length free → get_or free i 0 ≢ s = λ i h same. none-some x (same_Some None (Some x) (sym (keeps.sound i h) ∙ ap (slice_get entries) same ∙ live)) in
+    let now_free : slice_get (set entries s None) s ≡ Some None = slice_get-set_same entries s None (slice_get_within entries s (Some x) live) in
     record {
       sound = λ i h. ⊎_elim
-          (λ below. ap (slice_get (set secrets s None)) (at i below) ∙ slice_get-set_other secrets s (get_or free i 0) None (other i below) ∙ keeps.sound i below)
-          (λ not_below. let here : i ≡ length free = omega arith in ap (slice_get (set secrets s None)) (ap (λ n. get_or (free ++ s ∷ []) n 0) here ∙ last) ∙ now_free)
+          (λ below. ap (slice_get (set entries s None)) (at i below) ∙ slice_get-set_other entries s (get_or free i 0) None (other i below) ∙ keeps.sound i below)
+          (λ not_below. let here : i ≡ length free = omega arith in ap (slice_get (set entries s None)) (ap (λ n. get_or (free ++ s ∷ []) n 0) here ∙ last) ∙ now_free)
           (cases_lt i (length free));
       distinct = λ i j below within same. ⊎_elim
           (λ inside. keeps.distinct i j below inside (sym (at i (omega arith)) ∙ same ∙ at j inside))
           (λ outside. let here : j ≡ length free = omega arith in other i (omega arith) (sym (at i (omega arith)) ∙ same ∙ ap (λ n. get_or (free ++ s ∷ []) n 0) here ∙ last))
           (cases_lt j (length free));
-      counted = let one_more = free_count-freed secrets s x live in let before = keeps.counted in omega (arith, one_more, before, longer);
+      counted = let one_more = free_count-freed entries s x live in let before = keeps.counted in omega (arith, one_more, before, longer);
     }
 
 -- the list that a new table begins with: each slot, the last one first
@@ -110,7 +111,7 @@ free_count-replicate zero = refl
 free_count-replicate (suc n) = let e = free_count-replicate n in omega (arith, e)
 
 -- a slot of such a table is free
-pub slice_get-replicate : (n i : ℕ) → i < n → ◌≡◌ {A = Option (Option ℕ)} (slice_get (replicate n None) i) (Some None)
+pub slice_get-replicate : (n i : ℕ) → i < n → ◌≡◌ {A = Option (Option Entry)} (slice_get (replicate n None) i) (Some None)
 slice_get-replicate zero i h = absurd (omega arith)
 slice_get-replicate (suc n) zero h = refl
 slice_get-replicate (suc n) (suc i) h = slice_get-replicate n i (omega arith)
@@ -124,12 +125,12 @@ at_first limit free full down = record {
 }
 
 -- what stands last in the list is given next
-pub next_of : (secrets : List (Option ℕ)) (free : List ℕ) → IsFreeList secrets free → IsNext secrets (slice_get free (length free - 1))
-next_of secrets free keeps = ⊎_elim
+pub next_of : (entries : List (Option Entry)) (free : List ℕ) → IsFreeList entries free → IsNext entries (slice_get free (length free - 1))
+next_of entries free keeps = ⊎_elim
     (λ none. let empty : slice_get free (length free - 1) ≡ None = slice_get_past free (length free - 1) (omega arith) in
     let counted = keeps.counted in
-    subst (IsNext secrets) (sym empty) (λ s. none_free secrets s (omega (arith, counted))))
-    (λ some. subst (IsNext secrets) (sym (slice_get-get_or free (length free - 1) 0 (omega arith))) (keeps.sound (length free - 1) (omega arith)))
+    subst (IsNext entries) (sym empty) (λ s. none_free entries s (omega (arith, counted))))
+    (λ some. subst (IsNext entries) (sym (slice_get-get_or free (length free - 1) 0 (omega arith))) (keeps.sound (length free - 1) (omega arith)))
     (cases_lt (length free) 1)
 
 -- what stands last
@@ -141,5 +142,5 @@ last_listed free rest s e =
     ap (slice_get free) shorter ∙ slice_get-get_or free (length rest) 0 within ∙ ap Some last
 
 -- what stands last is free
-pub last_free : (secrets : List (Option ℕ)) (free rest : List ℕ) (s : ℕ) → free ≡ rest ++ s ∷ [] → IsFreeList secrets free → slice_get secrets s ≡ Some None
-last_free secrets free rest s e keeps = subst (IsNext secrets) (last_listed free rest s e) (next_of secrets free keeps)
+pub last_free : (entries : List (Option Entry)) (free rest : List ℕ) (s : ℕ) → free ≡ rest ++ s ∷ [] → IsFreeList entries free → slice_get entries s ≡ Some None
+last_free entries free rest s e keeps = subst (IsNext entries) (last_listed free rest s e) (next_of entries free keeps)

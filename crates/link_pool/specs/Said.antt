@@ -20,6 +20,7 @@ abbrev pub acquire_said : {S : Type 0}
 acquire_said (acquire.Got lease) = acquire.Got lease.details
 acquire_said (acquire.Open permit) = acquire.Open permit
 acquire_said acquire.Waiting = acquire.Waiting
+acquire_said acquire.Cancelled = acquire.Cancelled
 acquire_said acquire.Holding = acquire.Holding
 acquire_said acquire.Exhausted = acquire.Exhausted
 acquire_said acquire.Stale = acquire.Stale

@@ -61,7 +61,7 @@ Puts at stream old new = Moves at None (Some stream) old new
 abbrev pub has_stream_in : LinkState → Bool
 has_stream_in state.Idle = true
 has_stream_in (state.Held slot) = false
-has_stream_in state.Quarantined = true
+has_stream_in (state.Quarantined giver) = true
 
 -- whether the place has the stream of its link
 abbrev pub has_stream : Option Place → Bool
@@ -79,6 +79,7 @@ abbrev pub AcquireStreams : {S : Type 0} → AcquireReply (LinkValue S) PermitRe
 AcquireStreams (acquire.Got lease) old new = Takes lease.details.at lease.stream old new
 AcquireStreams (acquire.Open permit) old new = new ≡ old
 AcquireStreams acquire.Waiting old new = new ≡ old
+AcquireStreams acquire.Cancelled old new = new ≡ old
 AcquireStreams acquire.Holding old new = new ≡ old
 AcquireStreams acquire.Exhausted old new = new ≡ old
 AcquireStreams acquire.Stale old new = new ≡ old

@@ -25,6 +25,14 @@ impl NextNumber {
         NextNumber { next: Some(0) }
     }
 
+    /// The number that is given next, and none past 2^64 - 1.
+    pub const fn peek(&self) -> Option<u64>
+        ensures none_left { IsNone result ↔ (self.now ≡ 2 ^ 64) }
+        ensures next { IfSome result (λ n. (n ≡ self.now) × (n < 2 ^ 64)) }
+    {
+        self.next
+    }
+
     /// Gives the next number, and none past 2^64 - 1.
     pub fn give(&mut self) -> Option<u64>
         ensures none_left { IsNone result ↔ (self.old ≡ 2 ^ 64) }

@@ -1,11 +1,12 @@
 //! The pools of a node, and the parts of its steps that change them.
-ghost use Rattle.std.specs.Prelude.{replicate, ◌≡◌, ◌<◌, true, IfOk, length, map, slice_get};
+ghost use Rattle.std.specs.Prelude.{replicate, ◌≡◌, ◌<◌, true, Some, IfOk, length, map, slice_get};
 ghost use Rattle.link_pool.specs.declared.place.Claim.TheVariants as claim;
 ghost use Rattle.link_pool.specs.Entries.{stream_of, freed};
-ghost use Rattle.link_pool.specs.Pool.{place_at};
+ghost use Rattle.link_pool.specs.Pool.{place_at, free_at, keep};
+ghost use Rattle.link_pool.specs.Stacks.{top};
 ghost use Rattle.link_pool.specs.OnePlace.{IsPool};
 ghost use Rattle.link_pool.specs.PoolStep.{fresh, RestartStep};
-ghost use Rattle.link_pool.specs.Parts.{is_bare, with_client, Stores};
+ghost use Rattle.link_pool.specs.Parts.{is_taken, with_client, Stores};
 ghost use Rattle.link_pool.specs.Streams.{AreStored, NothingStored, RestartStreams};
 
 mod asking;
@@ -17,7 +18,7 @@ use crate::entry::Entry;
 use crate::next_number::NextNumber;
 use crate::place::{Claim, Place};
 use crate::replies::RestartReply;
-use lease::LinkPlace;
+use lease::{LinkPlace, PermitRecord};
 use pg_ids::{PeerNo, SlotNo};
 use slot_queues::SlotQueues;
 use std::alloc::{AllocError, Global};
@@ -105,9 +106,9 @@ impl<S: Drop> Pool<S> {
         self.incarnation
     }
 
-    // What is at a place that has no stream changes, and so what the client has that had the place, or gets it.
+    // What is at a place that a client has changes, and so what the client has.
     fn change(&mut self, at: &LinkPlace, slot: SlotNo, entry: Entry<S>)
-        requires bare { is_bare (place_at self.old.view at.now) ≡ true }
+        requires taken { is_taken (place_at self.old.view at.now) ≡ true }
         requires slot { slot < length self.old.view.claims }
         requires whole { IsPool (with_client self.old.view at.now slot entry) }
         ensures view { self.new.view ≡ with_client self.old.view at.now slot entry }
@@ -117,6 +118,21 @@ impl<S: Drop> Pool<S> {
         self.claims[slot.get() as usize] = entry.claim(at);
         let pool = &mut self.pools[at.database.get() as usize];
         pool.put(at.index, entry);
+    }
+
+    // The place of a permit, which is the one of its database that is taken next, is kept for the client
+    // of a slot.
+    fn keep(&mut self, slot: SlotNo, permit: &PermitRecord)
+        requires slot { slot < length self.old.view.claims }
+        requires next { top (free_at self.old.view permit.now.at.database) ≡ Some permit.now.at.index }
+        requires whole { IsPool (keep self.old.view slot permit.now) }
+        ensures view { self.new.view ≡ keep self.old.view slot permit.now }
+        ensures streams { self.new.stored ≡ self.old.stored }
+        ensures whole { IsPool self.new.view }
+    {
+        self.claims[slot.get() as usize] = Claim::Open(permit.at);
+        let pool = &mut self.pools[permit.at.database.get() as usize];
+        pool.keep(permit.at.index, *permit, slot);
     }
 
     /// A new start: the next incarnation, in which nobody has anything. The streams of idle and quarantined links

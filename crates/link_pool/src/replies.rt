@@ -6,12 +6,15 @@ use pg_ids::{DatabaseNo, ServerKey};
 /// What asking for a link answers.
 #[derive(Clone, Copy, Debug, PartialEq, Eq)]
 pub enum AcquireReply<L, P> {
-    /// The client has this idle link.
+    /// The client has this link: an idle one, or that which it gave back and which is still
+    /// quarantined.
     Got(L),
     /// No link is idle, and the client may open one.
     Open(P),
     /// The client waits for its turn.
     Waiting,
+    /// The client's wait was cancelled, which is answered once: it has nothing, and may ask again.
+    Cancelled,
     /// The client has a link or a permit, so nothing changes.
     Holding,
     /// No number is left for a permit, or for a step (its node's), so nothing changes.

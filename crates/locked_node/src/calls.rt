@@ -28,7 +28,7 @@ use node_core::{
     AcquireReply, CloseReply, DatabaseNo, EndedReply, FailedReply, JoinRefusal, Lease, LeaveReply,
     Order, Pass, Permit, ReleaseReply, RestartReply, Ticket, UpFailedReply, UpReply,
 };
-use pg_ids::{Secret, ServerKey};
+use pg_ids::{AnyKey, Boot, Kind, Secret, ServerKey};
 use std::sync::Wait;
 
 impl<S: Drop> Shared<S> {
@@ -54,21 +54,22 @@ impl<S: Drop> Shared<S> {
         reply
     }
 
-    /// Gives a client of this database a slot, with this secret. Fails with `Exhausted` without
-    /// allowance.
+    /// Gives a client of this database a slot, with this secret, and a key of this kind. Fails with
+    /// `Exhausted` without allowance.
     pub fn join<R: Wait>(
         &self,
         rt: &R,
         caller: &mut Caller<S>,
         database: DatabaseNo,
         secret: Secret,
+        kind: Kind,
     ) -> Result<Pass, JoinRefusal>
         requires own { caller.old.lock ≡ self.now }
         requires database { database < length caller.old.start.view.pools }
-        ensures counted { Counted (call.Join database secret result) result (Err join.Exhausted)
-            caller.old caller.new }
+        ensures counted { Counted (call.Join database secret kind result) result
+            (Err join.Exhausted) caller.old caller.new }
     {
-        self.call(rt, caller, Join(database, secret))
+        self.call(rt, caller, Join(database, secret, kind))
     }
 
     /// Frees the slot of a pass. Without allowance the pass is spent.
@@ -153,10 +154,10 @@ impl<S: Drop> Shared<S> {
         self.call(rt, caller, Close(lease))
     }
 
-    /// Decides on a cancel request with these eight key bytes. Without allowance it is refused.
-    pub fn cancel<R: Wait>(&self, rt: &R, caller: &mut Caller<S>, key: &[u8; 8]) -> Order<Ticket>
+    /// Decides on a cancel request with this key. Without allowance it is refused.
+    pub fn cancel<R: Wait>(&self, rt: &R, caller: &mut Caller<S>, key: AnyKey) -> Order<Ticket>
         requires own { caller.old.lock ≡ self.now }
-        ensures counted { Counted (call.Cancel key.now result)
+        ensures counted { Counted (call.Cancel key result)
             result (order.Refused cancel.Exhausted) caller.old caller.new }
     {
         self.call(rt, caller, Cancel(key))
@@ -182,14 +183,14 @@ impl<S: Drop> Shared<S> {
         self.call(rt, caller, Failed(ticket))
     }
 
-    /// Starts the node anew. It is the one step whose work under the lock grows with the node: each
+    /// Starts the node anew, with this boot. It is the one step whose work under the lock grows with the node: each
     /// slot is freed, and the streams of links that nobody holds are dropped. Returns `Exhausted`
     /// without allowance.
-    pub fn restart<R: Wait>(&self, rt: &R, caller: &mut Caller<S>) -> RestartReply
+    pub fn restart<R: Wait>(&self, rt: &R, caller: &mut Caller<S>, boot: Boot) -> RestartReply
         requires own { caller.old.lock ≡ self.now }
-        ensures counted { Counted (call.Restart result) result restart.Exhausted
+        ensures counted { Counted (call.Restart boot result) result restart.Exhausted
             caller.old caller.new }
     {
-        self.call(rt, caller, Restart)
+        self.call(rt, caller, Restart(boot))
     }
 }

@@ -2,6 +2,7 @@
 #![tactic(auto)]
 
 mod call;
+mod call_answer;
 mod call_kind;
 mod caller;
 mod calls;
@@ -15,6 +16,7 @@ mod steps;
 mod tally;
 
 pub use call::Call;
+pub use call_answer::{ANSWERS, CallAnswer};
 pub use call_kind::{CallKind, KINDS};
 pub use caller::Caller;
 pub use journal::Journal;

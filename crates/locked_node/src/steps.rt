@@ -22,31 +22,31 @@ use node_core::{
     JoinRefusal, Lease, LeaveReply, LinkRecord, NodeCore, Order, Pass, PassRecord, Permit,
     PermitRecord, ReleaseReply, RestartReply, Ticket, TicketRecord, UpFailedReply, UpReply,
 };
-use pg_ids::{Secret, ServerKey};
+use pg_ids::{AnyKey, Boot, Kind, Secret, ServerKey};
 
-/// A client of this database logs in.
+/// A client of this database logs in, with this secret, and asks for a key of this kind.
 #[derive(Drop)]
-pub struct Join(pub DatabaseNo, pub Secret);
+pub struct Join(pub DatabaseNo, pub Secret, pub Kind);
 
 impl<S: Drop> Call<S> for Join {
     type Reply = Result<Pass, JoinRefusal>;
 
-    type Details = (DatabaseNo, Secret);
+    type Details = (DatabaseNo, Secret, Kind);
 
-    ghost handed = { λ made. (made.0, made.1) };
+    ghost handed = { λ made. (made.0, made.1, made.2) };
 
-    ghost exchange = { λ made reply. call.Join made.0 made.1 reply };
+    ghost exchange = { λ made reply. call.Join made.0 made.1 made.2 reply };
 
     ghost can_make = { λ pools made. made.0 < length pools };
 
     ghost at_end = { λ _. Err join.Exhausted };
 
     fn details(&self) -> Self::Details {
-        (self.0, self.1)
+        (self.0, self.1, self.2)
     }
 
     fn make(self, core: &mut NodeCore<S>) -> Self::Reply {
-        core.join(self.0, self.1)
+        core.join(self.0, self.1, self.2)
     }
 
     fn record(details: &Self::Details, reply: &Self::Reply) -> Exchange {
@@ -54,7 +54,7 @@ impl<S: Drop> Call<S> for Join {
             Ok(pass) => Ok(pass.details()),
             Err(refusal) => Err(*refusal),
         };
-        Exchange::Join(details.0, details.1, kept)
+        Exchange::Join(details.0, details.1, details.2, kept)
     }
 
     fn forfeit(self) -> Self::Reply {
@@ -134,6 +134,7 @@ impl<S: Drop> Call<S> for Acquire<'_> {
             AcquireReply::Got(lease) => AcquireReply::Got(lease.details()),
             AcquireReply::Open(permit) => AcquireReply::Open(permit.details()),
             AcquireReply::Waiting => AcquireReply::Waiting,
+            AcquireReply::Cancelled => AcquireReply::Cancelled,
             AcquireReply::Holding => AcquireReply::Holding,
             AcquireReply::Exhausted => AcquireReply::Exhausted,
             AcquireReply::Stale => AcquireReply::Stale,
@@ -304,23 +305,23 @@ impl<S: Drop> Call<S> for Close<S> {
     }
 }
 
-/// A cancel request with these eight key bytes comes.
+/// A cancel request with this key comes.
 #[derive(Drop)]
-pub struct Cancel<'a>(pub &'a [u8; 8]);
+pub struct Cancel(pub AnyKey);
 
-impl<S: Drop> Call<S> for Cancel<'_> {
+impl<S: Drop> Call<S> for Cancel {
     type Reply = Order<Ticket>;
 
-    type Details = [u8; 8];
+    type Details = AnyKey;
 
-    ghost handed = { λ made. made.0.now };
+    ghost handed = { λ made. made.0 };
 
     ghost exchange = { λ made reply. call.Cancel made reply };
 
     ghost at_end = { λ _. order.Refused cancel.Exhausted };
 
     fn details(&self) -> Self::Details {
-        *self.0
+        self.0
     }
 
     fn make(self, core: &mut NodeCore<S>) -> Self::Reply {
@@ -333,6 +334,7 @@ impl<S: Drop> Call<S> for Cancel<'_> {
         let kept = match reply {
             Order::Serve(ticket, database, key) => Order::Serve(ticket.details(), *database, *key),
             Order::Forward(peer, packet) => Order::Forward(*peer, *packet),
+            Order::Unwait(slot) => Order::Unwait(*slot),
             Order::Refused(refusal) => Order::Refused(*refusal),
         };
         Exchange::Cancel(*details, kept)
@@ -419,33 +421,33 @@ impl<S: Drop> Call<S> for Failed {
     }
 }
 
-/// A new start.
+/// A new start, with this boot.
 #[derive(Drop)]
-pub struct Restart;
+pub struct Restart(pub Boot);
 
 impl<S: Drop> Call<S> for Restart {
     type Reply = RestartReply;
 
-    type Details = ();
+    type Details = Boot;
 
-    ghost handed = { λ _. tt };
+    ghost handed = { λ made. made.0 };
 
-    ghost exchange = { λ made reply. call.Restart reply };
+    ghost exchange = { λ made reply. call.Restart made reply };
 
     ghost streams = { λ _ reply. RestartStreams reply };
 
     ghost at_end = { λ _. restart.Exhausted };
 
     fn details(&self) -> Self::Details {
-        ()
+        self.0
     }
 
     fn make(self, core: &mut NodeCore<S>) -> Self::Reply {
-        core.restart()
+        core.restart(self.0)
     }
 
     fn record(details: &Self::Details, reply: &Self::Reply) -> Exchange {
-        Exchange::Restart(*reply)
+        Exchange::Restart(*details, *reply)
     }
 
     fn forfeit(self) -> Self::Reply {

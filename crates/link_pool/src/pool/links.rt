@@ -111,6 +111,7 @@ impl<S: Drop> Pool<S> {
                     link: lease.quarantine(),
                     key: link.key,
                     hold: link.hold,
+                    giver: Some(slot),
                 };
                 self.change(&details.at, slot, quarantined);
                 ReleaseReply::Quarantined

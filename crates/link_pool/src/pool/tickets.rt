@@ -1,37 +1,39 @@
 //! Cancel requests that are on their way, and how they end.
-ghost use Rattle.std.specs.Prelude.{◌≡◌, ◌≢◌, ◌≤◌, Some, is_some, IfSome, IfNone, slice_get};
+ghost use Rattle.std.specs.Prelude.{◌≡◌, ◌≢◌, ◌≤◌, ◌<◌, Some, is_some, IfSome, IfNone, length, slice_get};
 ghost use Rattle.lease.specs.declared.link_place.LinkPlace.{LinkPlace as LinkPlaceOf};
 ghost use Rattle.link_pool.specs.declared.place.Place.TheVariants as place;
 ghost use Rattle.link_pool.specs.declared.place.LinkState.TheVariants as state;
 ghost use Rattle.link_pool.specs.declared.place.Claim.TheVariants as claim;
 ghost use Rattle.link_pool.specs.declared.place.Link.{Link as LinkOf};
-ghost use Rattle.link_pool.specs.Pool.{place_at, with_place};
+ghost use Rattle.link_pool.specs.Pool.{place_at, with_place, claims_without, nothing_for};
 ghost use Rattle.link_pool.specs.OnePlace.{IsPool, LinkFits};
 ghost use Rattle.link_pool.specs.PoolStep.{IsTicket, StaleTicket, EndedStep, FailedStep, ServeStep};
-ghost use Rattle.link_pool.specs.Parts.{IsLent, Leaves, settled_place, is_leaving};
+ghost use Rattle.link_pool.specs.Parts.{IsLent, Leaves, settled_place, settled_giver, is_leaving};
 ghost use Rattle.link_pool.specs.Streams.{FailedStreams};
 ghost use Rattle.link_pool.specs.Said.{failed_said};
 
 use super::Pool;
-use crate::place::{Link, Place};
+use crate::place::{Claim, Link, Place};
 use crate::replies::{EndedReply, FailedReply, ServeReply};
 use lease::{LinkPlace, LinkRecord, Ticket, TicketRecord};
 use pg_ids::SlotNo;
-use quarantine::Hold;
+use quarantine::{Hold, HoldState};
 
 impl<S: Drop> Pool<S> {
     // A link that isn't idle has these tickets. If it is quarantined, then it is idle once none is open, and it
-    // leaves the pool once it is condemned: its stream is returned.
+    // leaves the pool once it is condemned: its stream is returned. Then its giver can't get it back.
     fn settle(&mut self, link: &Link, hold: Hold) -> Option<S>
         requires was { place_at self.old.view link.now.details.at ≡ Some (place.Link link.now) }
         requires not_idle { link.now.state ≢ state.Idle }
         requires few { hold.tickets ≤ 65535 }
         ensures view { self.new.view
-            ≡ with_place self.old.view link.now.details.at (settled_place hold (place.Link link.now)) }
+            ≡ nothing_for (settled_giver link.now.state hold)
+            (with_place self.old.view link.now.details.at (settled_place hold (place.Link link.now))) }
         ensures streams { Leaves link.now.details.at result self.old.stored self.new.stored }
         ensures leaves { is_some result ≡ is_leaving hold (place.Link link.now) }
         ensures whole { IsPool self.new.view }
     {
+        clear_claim(&mut self.claims, freed_giver(link, hold));
         let pool = &mut self.pools[link.details.at.database.get() as usize];
         pool.settle(link.details.at.index, hold)
     }
@@ -160,5 +162,25 @@ impl<S: Drop> Pool<S> {
         let _none = self.settle(&link, hold);
         let ticket = Ticket::new(self.ticket(number, &link));
         ServeReply::Serve(ticket, link.at().database, link.key)
+    }
+}
+
+// The client that gave a link back, if it can't get it back once the link has these tickets.
+fn freed_giver(link: &Link, hold: Hold) -> Option<SlotNo>
+    ensures { result ≡ settled_giver link.now.state hold }
+{
+    match hold.state() {
+        HoldState::Waiting(_) => None,
+        HoldState::Clear | HoldState::Condemned => link.giver(),
+    }
+}
+
+// The client of the slot has nothing, if there is a slot.
+fn clear_claim(claims: &mut Vec<Claim>, slot: Option<SlotNo>)
+    requires { IfSome slot (λ slot. slot < length claims.old.items) }
+    ensures { claims.new.items ≡ claims_without slot claims.old.items }
+{
+    if let Some(slot) = slot {
+        claims[slot.get() as usize] = Claim::Nothing;
     }
 }

@@ -7,7 +7,7 @@ use Rattle.key_table.proofs.key_table.KeyTable.clear.Goals as goal
 keeps : (c : goal.After-list_all) → IsFreeList c.fill.new.self.items c.list_all.new.free.items
 keeps c =
     let all : c.fill.new.self.items ≡ replicate c.len-limit.result None = search rules in
-    subst (λ secrets. IsFreeList secrets c.list_all.new.free.items) (sym all) c.list_all.ensures.listed
+    subst (λ entries. IsFreeList entries c.list_all.new.free.items) (sym all) c.list_all.ensures.listed
 
 pub invariant_of-self : goal.invariant_of-self
 invariant_of-self c =

@@ -9,16 +9,16 @@ push_reserved-requires c =
     let live = subst (λ t. IsLive t c.args.slot) (sym c.self.view_is) c.requires in
     let counted = c.self.invariant.2.counted in
     let room = c.self.invariant.1 in
-    let few = some_live c.self.inside.secrets.items c.args.slot live.0 live.1 in
+    let few = some_live c.self.inside.entries.items c.args.slot live.0 live.1 in
     let free_len : vec_len c.self.inside.free ≡ length c.self.inside.free.items = search rules in
-    let len : vec_len c.self.inside.secrets ≡ length c.self.inside.secrets.items = search rules in
+    let len : vec_len c.self.inside.entries ≡ length c.self.inside.entries.items = search rules in
     omega (arith, counted, room, few, free_len, len)
 
 -- the freed slot is listed
-keeps : (c : goal.After-push_reserved) → IsFreeList (slice_set c.self.inside.secrets.items c.get.result None) c.push_reserved.new.self.items
+keeps : (c : goal.After-push_reserved) → IsFreeList (slice_set c.self.inside.entries.items c.get.result None) c.push_reserved.new.self.items
 keeps c =
     let live = subst (λ t. IsLive t c.args.slot) (sym c.self.view_is) c.requires in
-    let after = after_retire c.self.inside.secrets.items c.self.inside.free.items c.args.slot live.0 live.1 c.self.invariant.2 in
+    let after = after_retire c.self.inside.entries.items c.self.inside.free.items c.args.slot live.0 live.1 c.self.invariant.2 in
     rw (c.get.ensures, c.push_reserved.ensures.items) after
 
 pub invariant_of-self : goal.invariant_of-self
@@ -29,4 +29,4 @@ invariant_of-self c =
     (omega arith, omega (arith, room, capacity), keeps c)
 
 pub returns-clause-next : goal.returns-clause-next
-returns-clause-next c = next_of (slice_set c.self.inside.secrets.items c.get.result None) c.push_reserved.new.self.items (keeps c)
+returns-clause-next c = next_of (slice_set c.self.inside.entries.items c.get.result None) c.push_reserved.new.self.items (keeps c)

@@ -8,7 +8,7 @@ pub index_mut-requires : goal.index_mut-requires
 index_mut-requires g c =
     let node = (node_of c.self.inside).view in
     let slot = c.in-Some.slot in
-    let nobody = free_client node.keys.secrets node.clients slot c.self.invariant.live
+    let nobody = free_client node.keys.entries node.clients slot c.self.invariant.live
     c.in-Some.ensures.free in
     let within = slice_get_within node.clients slot None nobody in
     let len : vec_len c.self.inside.clients ≡ length c.self.inside.clients.items = search rules in

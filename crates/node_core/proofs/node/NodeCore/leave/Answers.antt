@@ -1,13 +1,13 @@
 use Rattle.std.proofs.Common.{rules, ◌≡◌, Some, length, arith, vec_len}
 use Rattle.std.proofs.lemmas.Option.{slice_get_within}
 use Rattle.node_core.specs.ViewOf.{node_of}
-use Rattle.node_core.proofs.Clients.{secret_of, left_view}
+use Rattle.node_core.proofs.Clients.{entry_of, left_view}
 use Rattle.node_core.proofs.node.NodeCore.leave.Goals as goal
 
 pub retire-requires : goal.retire-requires
 retire-requires g c =
     let there = rw (← c.self.view_is) at c.in-Some.ensures.found.there in
-    secret_of _ _ _ _ c.self.invariant.live there
+    entry_of _ _ _ _ c.self.invariant.live there
 
 pub index_mut-requires : goal.index_mut-requires
 index_mut-requires g c =
