@@ -4,8 +4,14 @@
 #[cfg(test)]
 mod answers;
 #[cfg(test)]
+mod kinds;
+#[cfg(test)]
 mod links;
 #[cfg(test)]
 mod nodes;
+#[cfg(test)]
+mod steps;
+#[cfg(test)]
+mod sums;
 #[cfg(test)]
 mod threads;

@@ -2,10 +2,10 @@
 ghost use Rattle.std.specs.Prelude.{◌≡◌, ◌<◌, length, IfSome};
 ghost use Rattle.std.specs.Thread.{IsSync};
 
-use crate::nodes::{Caller, KEY, LOWERED, STRAY, Shared, left, node, ordered};
-use locked_node::CallKind;
+use crate::nodes::{Caller, LOWERED, Shared, key, left, node, ordered, stray};
+use locked_node::{CallAnswer, CallKind};
 use node_core::{DatabaseNo, JoinRefusal, LeaveReply, Order, Pass, TicketRecord};
-use pg_ids::{PeerNo, Secret};
+use pg_ids::{AnyKey, Kind, PeerNo, Secret};
 use std::sync::Wait;
 use std::test::Fail;
 use std::thread;
@@ -48,9 +48,9 @@ fn round<R: Wait>(rt: &R, shared: &Shared, caller: &mut Caller, replies: &mut Re
     requires database { 0 < length caller.old.start.view.pools }
     ensures { (caller.new.lock ≡ caller.old.lock) × (caller.new.start ≡ caller.old.start) }
 {
-    let pass = shared.join(rt, caller, DatabaseNo(0), Secret(1));
-    request(rt, shared, caller, &KEY, replies);
-    request(rt, shared, caller, &STRAY, replies);
+    let pass = shared.join(rt, caller, DatabaseNo(0), Secret(1), Kind::Short);
+    request(rt, shared, caller, key(), replies);
+    request(rt, shared, caller, stray(), replies);
     match pass {
         Ok(pass) => {
             replies.joined = replies.joined.wrapping_add(1);
@@ -58,7 +58,7 @@ fn round<R: Wait>(rt: &R, shared: &Shared, caller: &mut Caller, replies: &mut Re
         }
         Err(_) => {
             replies.full = replies.full.wrapping_add(1);
-            request(rt, shared, caller, &KEY, replies);
+            request(rt, shared, caller, key(), replies);
         }
     }
 }
@@ -67,7 +67,7 @@ fn request<R: Wait>(
     rt: &R,
     shared: &Shared,
     caller: &mut Caller,
-    key: &[u8; 8],
+    key: AnyKey,
     replies: &mut Replies,
 )
     requires own { caller.old.lock ≡ shared.now }
@@ -76,7 +76,7 @@ fn request<R: Wait>(
     match ordered(shared.cancel(rt, caller, key)) {
         Order::Forward(_, _) => replies.forwarded = replies.forwarded.wrapping_add(1),
         Order::Refused(_) => replies.strayed = replies.strayed.wrapping_add(1),
-        Order::Serve(_, _, _) => {}
+        Order::Serve(_, _, _) | Order::Unwait(_) => {}
     }
 }
 
@@ -198,14 +198,14 @@ fn eight_threads(rt: HostRuntime) -> Result<(), Fail> {
         { by_four(&rt, lock, two, three) },
     );
     let (caller, replies) = united(&shared, front, back);
-    for (kind, calls) in [
-        (CallKind::Joined, replies.joined),
-        (CallKind::JoinFull, replies.full),
-        (CallKind::Left, replies.left),
-        (CallKind::Forwarded, replies.forwarded),
-        (CallKind::CancelNoPeer, replies.strayed),
+    for (answer, calls) in [
+        (CallAnswer::Joined, replies.joined),
+        (CallAnswer::JoinFull, replies.full),
+        (CallAnswer::Left, replies.left),
+        (CallAnswer::Forwarded, replies.forwarded),
+        (CallAnswer::CancelNoPeer, replies.strayed),
     ] {
-        assert_eq!(rt; caller.calls(kind), u128::from(calls));
+        assert_eq!(rt; caller.calls(CallKind::short(answer)), u128::from(calls));
     }
     assert_eq!(rt; replies.joined, replies.left);
     assert_eq!(rt; replies.strayed, 2000);
@@ -226,7 +226,7 @@ fn client<R: Wait>(
     requires database { 0 < length caller.start.view.pools }
     ensures { result.0.lock ≡ caller.lock }
 {
-    let pass = shared.join(rt, &mut caller, DatabaseNo(0), Secret(1));
+    let pass = shared.join(rt, &mut caller, DatabaseNo(0), Secret(1), Kind::Short);
     (caller, pass)
 }
 
@@ -235,7 +235,7 @@ fn canceller<R: Wait>(rt: &R, shared: &Shared, mut caller: Caller) -> (Caller, O
     requires own { caller.lock ≡ shared.now }
     ensures { result.0.lock ≡ caller.lock }
 {
-    let order = ordered(shared.cancel(rt, &mut caller, &KEY));
+    let order = ordered(shared.cancel(rt, &mut caller, key()));
     (caller, order)
 }
 

@@ -1,0 +1,29 @@
+//! What the numbers of a kind's calls sum up to.
+use locked_node::{CallAnswer, CallKind, Tally, WIDEST};
+use pg_ids::Kind;
+use std::process::Abort;
+
+// The numbers of the calls of this kind sum up to these, by position, and behind them there are
+// none.
+pub(crate) fn assert_sums(rt: &impl Abort, tally: &Tally, kind: CallKind, wanted: &[u128]) {
+    let sums = tally.sums(kind);
+    for place in 0..WIDEST {
+        assert_eq!(rt;
+            sums[place],
+            wanted.get(place).copied().unwrap_or(0),
+            "{kind:?}, number {place}"
+        );
+    }
+}
+
+// The same of the calls with each of these answers, and with keys of this kind.
+pub(crate) fn assert_all(
+    rt: &impl Abort,
+    tally: &Tally,
+    key: Kind,
+    wanted: &[(CallAnswer, &[u128])],
+) {
+    for &(answer, sums) in wanted {
+        assert_sums(rt, tally, CallKind { answer, key }, sums);
+    }
+}
