@@ -6,8 +6,8 @@ use node_core::{DatabaseNo, Exchange, JoinRefusal, LeaveReply, Pass};
 use pg_ids::{AnyKey, Kind, Secret};
 use std::test::Fail;
 
-// The tail keeps 4,096 calls, and what leaves it is counted: 5,000 requests for peer 2, each sent on with a key that
-// ends in 6 for one that ends in 7.
+// The tail keeps 4,096 calls, and what leaves it is counted: 5,000 requests for peer 2, each sent on
+// with a key that ends in 6 for one that ends in 7.
 #[test]
 fn trims(rt: HostRuntime) -> Result<(), Fail> {
     let mut journal = node(rt.alloc(), 1)?;
@@ -72,7 +72,8 @@ const ANSWERED: &[(CallAnswer, &[u128])] = &[
     (CallAnswer::LeaveStale, &[1, 0, 1, STRANGE]),
 ];
 
-// One slot: the second client finds none, a pass of another node is stale, and the first client leaves.
+// One slot: the second client finds none, a pass of another node is stale, and the first client
+// leaves.
 #[test]
 fn answers(rt: HostRuntime) -> Result<(), Fail> {
     let (shared, mut caller) = Shared::new(rt.alloc(), node(rt.alloc(), 1)?)?;
@@ -104,7 +105,8 @@ fn is_full(reply: Result<Pass, JoinRefusal>) -> bool {
     }
 }
 
-// A new caller has 2^64 calls, which is too few to hand any on. What is handed comes back by a join.
+// A new caller has 2^64 calls, which is too few to hand any on. What is handed comes back by a
+// join.
 #[test]
 fn parts(rt: HostRuntime) -> Result<(), Fail> {
     let (shared, mut first) = Shared::new(rt.alloc(), node(rt.alloc(), 1)?)?;
@@ -118,8 +120,8 @@ fn parts(rt: HostRuntime) -> Result<(), Fail> {
     Ok(())
 }
 
-// A caller that hasn't everything back: the total is that of the lock, and neither what this caller counted nor what
-// its allowance leaves.
+// A caller that hasn't everything back: the total is that of the lock, and neither what this caller
+// counted nor what its allowance leaves.
 #[test]
 fn total_of_others(rt: HostRuntime) -> Result<(), Fail> {
     let (shared, mut first) = Shared::new(rt.alloc(), node(rt.alloc(), 1)?)?;
@@ -127,7 +129,7 @@ fn total_of_others(rt: HostRuntime) -> Result<(), Fail> {
     ordered(shared.cancel(&rt, &mut first, key()));
     ordered(shared.cancel(&rt, &mut first, stray()));
     ordered(shared.cancel(&rt, &mut part, key()));
-    assert_eq!(rt; part.calls(CallKind::Forwarded), 1);
+    assert_eq!(rt; part.calls(CallKind::short(CallAnswer::Forwarded)), 1);
     assert_eq!(rt; shared.total_calls(part), 3);
     Ok(())
 }

@@ -48,8 +48,8 @@ fn a_quarantined_link(rt: HostRuntime) -> Result<(), Fail> {
     ] {
         assert_eq!(rt; caller.calls(CallKind::short(answer)), 1);
     }
-    // The ticket is node 2's, of link 0 at place 0 of the database 0; then come the database, the key that was
-    // asked by, and the server's.
+    // The ticket is node 2's, of link 0 at place 0 of the database 0; then come the database, the
+    // key that was asked by, and the server's.
     assert_sums(
         &rt,
         caller.tally(),
@@ -70,7 +70,8 @@ fn a_quarantined_link(rt: HostRuntime) -> Result<(), Fail> {
     Ok(())
 }
 
-// A link for which a cancel request failed is closed once it is given back, and the next client opens another.
+// A link for which a cancel request failed is closed once it is given back, and the next client
+// opens another.
 #[test]
 fn a_condemned_link(rt: HostRuntime) -> Result<(), Fail> {
     let (shared, mut caller) = Shared::new(rt.alloc(), one_link(rt.alloc())?)?;

@@ -11,8 +11,8 @@ use std::test::Fail;
 use std::thread;
 use std::thread::Threads;
 
-// The replies that threads got: how many clients joined, found no slot and left, and how many requests were sent on,
-// and refused since their peer is in no list.
+// The replies that threads got: how many clients joined, found no slot and left, and how many
+// requests were sent on, and refused since their peer is in no list.
 #[derive(Clone, Copy, Drop)]
 struct Replies {
     joined: u64,

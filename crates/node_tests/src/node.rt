@@ -45,7 +45,7 @@ const NOTHING: Made = Made {
 
 // Each act, from the first on, returns what stands beside it.
 fn run(rt: &impl Abort, desk: &mut Desk, rows: &[(Act, Said)]) -> Result<(), Fail> {
-    run_later(rt, desk, rows, NOTHING)
+    run_later(rt, desk, rows, &NOTHING)
 }
 
 // The same after these were made.
@@ -53,7 +53,7 @@ fn run_later(
     rt: &impl Abort,
     desk: &mut Desk,
     rows: &[(Act, Said)],
-    made: Made,
+    made: &Made,
 ) -> Result<(), Fail> {
     for &(act, said) in rows {
         assert_eq!(rt;

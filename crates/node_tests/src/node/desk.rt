@@ -52,7 +52,7 @@ pub(crate) enum Act {
 
 impl Act {
     /// The same after these were made.
-    pub(crate) fn later(self, made: Made) -> Act {
+    pub(crate) fn later(self, made: &Made) -> Act {
         match self {
             Act::Restart(boot) => Act::Restart(boot.saturating_add(made.boots)),
             act => act,
@@ -96,7 +96,7 @@ pub(crate) enum Said {
 
 impl Said {
     /// The same after these were made.
-    pub(crate) fn later(self, made: Made) -> Said {
+    pub(crate) fn later(self, made: &Made) -> Said {
         match self {
             Said::EnteredLong(boot, serial) => {
                 // Serials begin anew with each boot.
@@ -136,7 +136,7 @@ pub(crate) struct Made {
 
 impl Made {
     /// What was made after these too.
-    pub(crate) fn and(self, next: Made) -> Made {
+    pub(crate) fn and(&self, next: &Made) -> Made {
         let serials = if next.boots == 0 { self.serials } else { 0 };
         Made {
             boots: self.boots.saturating_add(next.boots),
