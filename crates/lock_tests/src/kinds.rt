@@ -125,7 +125,10 @@ fn two_clients<R: Abort + Wait>(rt: &R, shared: &Shared, caller: &mut Caller, ki
     cancel_wait(rt, shared, caller, &second);
     take_back(rt, shared, caller, &first, lease);
     assert_eq!(rt; leave(rt, shared, caller, first, second), (true, true));
-    assert_eq!(rt; shared.restart(rt, caller, Boot(10)), RestartReply::Restarted);
+    assert_eq!(rt;
+        shared.restart(rt, caller, Boot(10)),
+        RestartReply::Restarted
+    );
 }
 
 #[test]

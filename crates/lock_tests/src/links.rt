@@ -120,12 +120,18 @@ fn a_new_start(rt: HostRuntime) -> Result<(), Fail> {
     let first = login(&rt, &shared, &mut caller, 1, Kind::Short).expect(&rt, "a slot");
     let lease = open(&rt, &shared, &mut caller, &first, 7, SERVER).expect(&rt, "a link");
     let ticket = served(shared.cancel(&rt, &mut caller, key()), SERVER).expect(&rt, "a ticket");
-    assert_eq!(rt; shared.restart(&rt, &mut caller, Boot(10)), RestartReply::Restarted);
+    assert_eq!(rt;
+        shared.restart(&rt, &mut caller, Boot(10)),
+        RestartReply::Restarted
+    );
     assert_eq!(rt; shared.ended(&rt, &mut caller, ticket), EndedReply::Stale);
     let released = shared.release(&rt, &mut caller, lease);
     assert_eq!(rt; released, ReleaseReply::Stale(Stream(7)));
     let second = login(&rt, &shared, &mut caller, 9, Kind::Short).expect(&rt, "a slot");
-    assert_eq!(rt; second.key(), AnyKey::from_short_bytes([0, 8, 0, 0, 0, 0, 0, 0x27]));
+    assert_eq!(rt;
+        second.key(),
+        AnyKey::from_short_bytes([0, 8, 0, 0, 0, 0, 0, 0x27])
+    );
     let order = ordered(shared.cancel(&rt, &mut caller, key()));
     let unknown = CancelRefusal::Route(RouteRefusal::Unknown);
     assert_eq!(rt; order, Order::Refused(unknown));

@@ -23,8 +23,9 @@ pub(crate) type Caller = LockCaller<Stream>;
 pub(crate) const BOOT: Boot = Boot(9);
 
 // The CancelRequest of peer 2, slot 0, secret 1, with two hops.
-pub(crate) const LOWERED: Packet =
-    Packet::Short([0, 0, 0, 16, 4, 0xd2, 0x16, 0x2e, 0, 8, 0, 0, 0, 0, 0, 6]);
+pub(crate) const LOWERED: Packet = Packet::Short([
+    0, 0, 0, 16, 4, 0xd2, 0x16, 0x2e, 0, 8, 0, 0, 0, 0, 0, 6,
+]);
 
 // The key of the same, with three hops.
 pub(crate) fn key() -> AnyKey {

@@ -121,7 +121,8 @@ struct Two(Caller, Caller);
 // In two threads, each with a caller of its own.
 fn by_two<R: Threads + Wait + Sync>(rt: &R, shared: &Shared, callers: Two) -> (Caller, Replies)
     requires own { (callers.0.lock ≡ shared.now) × (callers.1.lock ≡ shared.now) }
-    requires database { (0 < length callers.0.start.view.pools) × (0 < length callers.1.start.view.pools) }
+    requires database { (0 < length callers.0.start.view.pools)
+        × (0 < length callers.1.start.view.pools) }
     ensures { (result.0.lock ≡ callers.0.lock) × (result.0.start ≡ callers.0.start) }
 {
     let Two(first, second) = callers;
@@ -146,18 +147,23 @@ fn by_four<R: Threads + Wait + Sync>(
     front: Two,
     back: Two,
 ) -> (Caller, Replies)
-    requires own { (front.0.lock ≡ shared.now) × (front.1.lock ≡ shared.now) × (back.0.lock ≡ shared.now) × (back.1.lock ≡ shared.now) }
-    requires database { (0 < length front.0.start.view.pools) × (0 < length front.1.start.view.pools) × (0 < length back.0.start.view.pools) × (0 < length back.1.start.view.pools) }
+    requires own { (front.0.lock ≡ shared.now) × (front.1.lock ≡ shared.now)
+        × (back.0.lock ≡ shared.now) × (back.1.lock ≡ shared.now) }
+    requires database { (0 < length front.0.start.view.pools)
+        × (0 < length front.1.start.view.pools) × (0 < length back.0.start.view.pools)
+        × (0 < length back.1.start.view.pools) }
     ensures { (result.0.lock ≡ front.0.lock) × (result.0.start ≡ front.0.start) }
 {
     let (one, other) = thread::join(
         rt,
         || -> (Caller, Replies)
-            requires { IsSync R.row × (front.0.lock ≡ shared.now) × (front.1.lock ≡ shared.now) × (0 < length front.0.start.view.pools) × (0 < length front.1.start.view.pools) }
+            requires { IsSync R.row × (front.0.lock ≡ shared.now) × (front.1.lock ≡ shared.now)
+                × (0 < length front.0.start.view.pools) × (0 < length front.1.start.view.pools) }
             ensures { (result.0.lock ≡ front.0.lock) × (result.0.start ≡ front.0.start) }
         { by_two(rt, shared, front) },
         || -> (Caller, Replies)
-            requires { IsSync R.row × (back.0.lock ≡ shared.now) × (back.1.lock ≡ shared.now) × (0 < length back.0.start.view.pools) × (0 < length back.1.start.view.pools) }
+            requires { IsSync R.row × (back.0.lock ≡ shared.now) × (back.1.lock ≡ shared.now)
+                × (0 < length back.0.start.view.pools) × (0 < length back.1.start.view.pools) }
             ensures { result.0.lock ≡ back.0.lock }
         { by_two(rt, shared, back) },
     );
@@ -170,7 +176,8 @@ fn pair(shared: &Shared, first: &mut Caller) -> Option<Two>
     requires database { 0 < length first.old.start.view.pools }
     ensures first { (first.new.lock ≡ first.old.lock) × (first.new.start ≡ first.old.start) }
     ensures own { IfSome result (λ two. (two.0.lock ≡ shared.now) × (two.1.lock ≡ shared.now)) }
-    ensures start { IfSome result (λ two. (two.0.start ≡ first.old.start) × (two.1.start ≡ first.old.start)) }
+    ensures start { IfSome result
+        (λ two. (two.0.start ≡ first.old.start) × (two.1.start ≡ first.old.start)) }
 {
     let one = first.split(shared)?;
     let other = first.split(shared)?;
@@ -189,11 +196,17 @@ fn eight_threads(rt: HostRuntime) -> Result<(), Fail> {
     let (front, back) = thread::join(
         &rt,
         || -> (Caller, Replies)
-            requires { (four.0.lock ≡ lock.now) × (four.1.lock ≡ lock.now) × (one.0.lock ≡ lock.now) × (one.1.lock ≡ lock.now) × (0 < length four.0.start.view.pools) × (0 < length four.1.start.view.pools) × (0 < length one.0.start.view.pools) × (0 < length one.1.start.view.pools) }
+            requires { (four.0.lock ≡ lock.now) × (four.1.lock ≡ lock.now)
+                × (one.0.lock ≡ lock.now) × (one.1.lock ≡ lock.now)
+                × (0 < length four.0.start.view.pools) × (0 < length four.1.start.view.pools)
+                × (0 < length one.0.start.view.pools) × (0 < length one.1.start.view.pools) }
             ensures { result.0.lock ≡ four.0.lock }
         { by_four(&rt, lock, four, one) },
         || -> (Caller, Replies)
-            requires { (two.0.lock ≡ lock.now) × (two.1.lock ≡ lock.now) × (three.0.lock ≡ lock.now) × (three.1.lock ≡ lock.now) × (0 < length two.0.start.view.pools) × (0 < length two.1.start.view.pools) × (0 < length three.0.start.view.pools) × (0 < length three.1.start.view.pools) }
+            requires { (two.0.lock ≡ lock.now) × (two.1.lock ≡ lock.now)
+                × (three.0.lock ≡ lock.now) × (three.1.lock ≡ lock.now)
+                × (0 < length two.0.start.view.pools) × (0 < length two.1.start.view.pools)
+                × (0 < length three.0.start.view.pools) × (0 < length three.1.start.view.pools) }
             ensures { result.0.lock ≡ two.0.lock }
         { by_four(&rt, lock, two, three) },
     );
