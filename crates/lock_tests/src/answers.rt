@@ -152,8 +152,12 @@ fn tail(rt: HostRuntime) -> Result<(), Fail> {
 
 // The key of the oldest call of the tail, where that is a cancel request.
 fn oldest(journal: &Journal) -> Option<AnyKey> {
-    match journal.tail().next()?.call {
-        Exchange::Cancel(key, _) => Some(key),
+    asked(&journal.tail().next()?.call)
+}
+
+fn asked(call: &Exchange) -> Option<AnyKey> {
+    match call {
+        Exchange::Cancel(key, _) => Some(*key),
         _ => None,
     }
 }

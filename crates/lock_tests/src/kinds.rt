@@ -81,7 +81,7 @@ const WITHOUT_KEYS: &[(CallAnswer, &[u128])] = &[
 // The client of a pass waits for a link, and waits no longer.
 fn cancel_wait<R: Abort + Wait>(rt: &R, shared: &Shared, caller: &mut Caller, pass: &Pass)
     requires own { caller.old.lock ≡ shared.now }
-    ensures { (caller.new.lock ≡ caller.old.lock) × (caller.new.start ≡ caller.old.start) }
+    ensures { caller.new.lock ≡ caller.old.lock }
 {
     assert!(rt; waits(shared.acquire(rt, caller, pass)));
     let order = ordered(shared.cancel(rt, caller, pass.key()));
@@ -101,7 +101,7 @@ fn take_back<R: Abort + Wait>(
     lease: Lease<Stream>,
 )
     requires own { caller.old.lock ≡ shared.now }
-    ensures { (caller.new.lock ≡ caller.old.lock) × (caller.new.start ≡ caller.old.start) }
+    ensures { caller.new.lock ≡ caller.old.lock }
 {
     let ticket = served(shared.cancel(rt, caller, pass.key()), SERVER).expect(rt, "a ticket");
     let released = shared.release(rt, caller, lease);
@@ -116,7 +116,7 @@ fn take_back<R: Abort + Wait>(
 fn two_clients<R: Abort + Wait>(rt: &R, shared: &Shared, caller: &mut Caller, kind: Kind)
     requires own { caller.old.lock ≡ shared.now }
     requires database { 0 < length caller.old.start.view.pools }
-    ensures { (caller.new.lock ≡ caller.old.lock) × (caller.new.start ≡ caller.old.start) }
+    ensures { caller.new.lock ≡ caller.old.lock }
 {
     let first = login(rt, shared, caller, 1, kind).expect(rt, "a slot");
     let second = login(rt, shared, caller, 5, kind).expect(rt, "another slot");
