@@ -23,7 +23,11 @@ pub(crate) fn assert_all(
     key: Kind,
     wanted: &[(CallAnswer, &[u128])],
 ) {
-    for &(answer, sums) in wanted {
-        assert_sums(rt, tally, CallKind { answer, key }, sums);
+    for (answer, sums) in wanted {
+        let kind = CallKind {
+            answer: *answer,
+            key,
+        };
+        assert_sums(rt, tally, kind, sums);
     }
 }
