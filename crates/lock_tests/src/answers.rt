@@ -1,6 +1,6 @@
 //! The calls of one caller: replies, counts, and sums of numbers.
 use crate::nodes::{Journal, Shared, key, left, node, ordered, stray};
-use crate::sums::{assert_all, assert_sums};
+use crate::sums::{assert_short, assert_sums};
 use locked_node::{CallAnswer, CallKind, Cancel};
 use node_core::{DatabaseNo, Exchange, JoinRefusal, LeaveReply, Pass};
 use pg_ids::{AnyKey, Kind, Secret};
@@ -14,24 +14,27 @@ fn trims(rt: HostRuntime) -> Result<(), Fail> {
     for _i in 0..5000u32 {
         ordered(journal.call(Cancel(key())));
     }
-    let forwarded = CallKind::short(CallAnswer::Forwarded);
     let number = 0x0008_0000_0000_0007;
     assert_eq!(rt; journal.calls(), 5000);
-    assert_eq!(rt; journal.trimmed().calls(forwarded), 904);
-    assert_eq!(rt; journal.totals().calls(forwarded), 5000);
+    assert_eq!(rt; journal.trimmed().calls(forwarded()), 904);
+    assert_eq!(rt; journal.totals().calls(forwarded()), 5000);
     assert_sums(
         &rt,
         journal.trimmed(),
-        forwarded,
+        &forwarded(),
         &[1808, 904 * number, 904 * number - 904],
     );
     assert_sums(
         &rt,
         &journal.totals(),
-        forwarded,
+        &forwarded(),
         &[10000, 5000 * number, 5000 * number - 5000],
     );
     Ok(())
+}
+
+fn forwarded() -> CallKind {
+    CallKind::short(CallAnswer::Forwarded)
 }
 
 // Two requests with the same long key, which are sent on with it: the peer, the key that came, and
@@ -45,7 +48,7 @@ fn long_requests(rt: HostRuntime) -> Result<(), Fail> {
     assert_sums(
         &rt,
         &journal.totals(),
-        CallKind::long(CallAnswer::Forwarded),
+        &CallKind::long(CallAnswer::Forwarded),
         &[4, 2 * number, 516, 6, 2 * number - 2, 516, 6],
     );
     Ok(())
@@ -90,7 +93,7 @@ fn answers(rt: HostRuntime) -> Result<(), Fail> {
     let first = left(shared.leave(&rt, &mut caller, first));
     assert!(rt; full);
     assert_eq!(rt; (stale, first), (LeaveReply::Stale, LeaveReply::Left));
-    assert_all(&rt, caller.tally(), Kind::Short, ANSWERED);
+    assert_short(&rt, caller.tally(), ANSWERED);
     assert_eq!(rt; caller.allowance(), (1 << 127) - 4);
     Ok(())
 }
@@ -129,7 +132,7 @@ fn total_of_others(rt: HostRuntime) -> Result<(), Fail> {
     ordered(shared.cancel(&rt, &mut first, key()));
     ordered(shared.cancel(&rt, &mut first, stray()));
     ordered(shared.cancel(&rt, &mut part, key()));
-    assert_eq!(rt; part.calls(CallKind::short(CallAnswer::Forwarded)), 1);
+    assert_eq!(rt; part.calls(forwarded()), 1);
     assert_eq!(rt; shared.total_calls(part), 3);
     Ok(())
 }

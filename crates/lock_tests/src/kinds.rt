@@ -4,7 +4,7 @@ ghost use Rattle.std.specs.Prelude.{◌≡◌, ◌<◌, length};
 
 use crate::nodes::{Caller, Shared, Stream, ordered};
 use crate::steps::{got, is_cancelled, leave, login, one_link, open, served, stayed, waits};
-use crate::sums::assert_all;
+use crate::sums::{assert_long, assert_short};
 use cancel_router::RouteRefusal;
 use locked_node::CallAnswer;
 use node_core::{CancelRefusal, EndedReply, Lease, Order, Pass, ReleaseReply, RestartReply};
@@ -113,13 +113,13 @@ fn take_back<R: Abort + Wait>(
 }
 
 // Seventeen calls.
-fn two_clients<R: Abort + Wait>(rt: &R, shared: &Shared, caller: &mut Caller, kind: Kind)
+fn two_clients<R: Abort + Wait>(rt: &R, shared: &Shared, caller: &mut Caller, kind: &Kind)
     requires own { caller.old.lock ≡ shared.now }
     requires database { 0 < length caller.old.start.view.pools }
     ensures { caller.new.lock ≡ caller.old.lock }
 {
-    let first = login(rt, shared, caller, 1, kind).expect(rt, "a slot");
-    let second = login(rt, shared, caller, 5, kind).expect(rt, "another slot");
+    let first = login(rt, shared, caller, 1, *kind).expect(rt, "a slot");
+    let second = login(rt, shared, caller, 5, *kind).expect(rt, "another slot");
     let lease = open(rt, shared, caller, &first, 7, SERVER).expect(rt, "a link");
     let first = stayed(shared.leave(rt, caller, first)).expect(rt, "the pass");
     cancel_wait(rt, shared, caller, &second);
@@ -134,9 +134,9 @@ fn two_clients<R: Abort + Wait>(rt: &R, shared: &Shared, caller: &mut Caller, ki
 #[test]
 fn short_keys(rt: HostRuntime) -> Result<(), Fail> {
     let (shared, mut caller) = Shared::new(rt.alloc(), one_link(rt.alloc())?)?;
-    two_clients(&rt, &shared, &mut caller, Kind::Short);
-    assert_all(&rt, caller.tally(), Kind::Short, WITH_SHORT_KEYS);
-    assert_all(&rt, caller.tally(), Kind::Short, WITHOUT_KEYS);
+    two_clients(&rt, &shared, &mut caller, &Kind::Short);
+    assert_short(&rt, caller.tally(), WITH_SHORT_KEYS);
+    assert_short(&rt, caller.tally(), WITHOUT_KEYS);
     assert_eq!(rt; shared.total_calls(caller), 17);
     Ok(())
 }
@@ -144,9 +144,9 @@ fn short_keys(rt: HostRuntime) -> Result<(), Fail> {
 #[test]
 fn long_keys(rt: HostRuntime) -> Result<(), Fail> {
     let (shared, mut caller) = Shared::new(rt.alloc(), one_link(rt.alloc())?)?;
-    two_clients(&rt, &shared, &mut caller, Kind::Long);
-    assert_all(&rt, caller.tally(), Kind::Long, WITH_LONG_KEYS);
-    assert_all(&rt, caller.tally(), Kind::Short, WITHOUT_KEYS);
+    two_clients(&rt, &shared, &mut caller, &Kind::Long);
+    assert_long(&rt, caller.tally(), WITH_LONG_KEYS);
+    assert_short(&rt, caller.tally(), WITHOUT_KEYS);
     assert_eq!(rt; shared.total_calls(caller), 17);
     Ok(())
 }

@@ -273,7 +273,7 @@ impl Desk {
                 Ok(self.cancel(long_key(first, boot, serial))?)
             }
             Act::CancelOf(pass) => self.cancel_of(pass),
-            Act::Cancels(count, key) => Ok(self.cancels(count, AnyKey::from_short_bytes(key))),
+            Act::Cancels(count, key) => Ok(self.cancels(count, &AnyKey::from_short_bytes(key))),
             Act::Ended(ticket) => self.ended(ticket),
             Act::Failed(ticket) => self.failed(ticket),
             Act::Restart(boot) => Ok(Said::Restart(self.core.restart(Boot(boot)))),
@@ -399,10 +399,10 @@ impl Desk {
         }
     }
 
-    fn cancels(&mut self, count: u32, key: AnyKey) -> Said {
+    fn cancels(&mut self, count: u32, key: &AnyKey) -> Said {
         let mut served = 0u32;
         for _ in 0..count {
-            if let Order::Serve(ticket, _database, _key) = self.core.cancel(key) {
+            if let Order::Serve(ticket, _database, _key) = self.core.cancel(*key) {
                 let _details = ticket.forfeit();
                 served = served.saturating_add(1);
             }
