@@ -11,7 +11,7 @@ use Rattle.pg_ids.specs.AnyKey.{short_of, long_part_of}
 use Rattle.pg_ids.specs.declared.{any_key.AnyKey.AnyKey, client_key.ClientKey.ClientKey}
 use Rattle.pg_ids.specs.declared.long_part.LongPart.{LongPart}
 use Rattle.startup.specs.CancelPacket.{packet_bytes}
-use Rattle.startup.specs.declared.packet.Packet.{Packet}
+use Rattle.startup.specs.declared.packet.Packet.{Packet as CancelPacket}
 use Rattle.lease.specs.declared.ticket.TicketRecord.{TicketRecord}
 use Rattle.node_core.specs.Refusals.{cancel_number}
 use Rattle.node_core.specs.declared.exchange.Order.{Order}
@@ -41,7 +41,7 @@ abbrev pub serve_text : List ℕ → List ℕ
 serve_text key = codes "serve " ++ encode_lower key ++ codes "\n"
 
 -- a request that goes on to a peer
-abbrev pub forward_text : ℕ → Packet → List ℕ
+abbrev pub forward_text : ℕ → CancelPacket → List ℕ
 forward_text peer packet = codes "forward " ++ decimal peer ++ codes " "
     ++ encode_lower (packet_bytes packet) ++ codes "\n"
 

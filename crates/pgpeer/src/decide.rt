@@ -1,5 +1,5 @@
 //! `pgpeer decide`: what a pooler does with the first packet of a connection.
-ghost use Rattle.std.specs.Prelude.{◌≡◌, IfErr, IfOk, MatchResult, length, string_bytes};
+ghost use Rattle.std.specs.Prelude.{◌≡◌, ℕ, List, IfErr, IfOk, length, take, true, string_bytes};
 ghost use Rattle.pg_ids.specs.AnyKey.{IsAnyKey, any_key_bytes};
 ghost use Rattle.startup.specs.CancelPacket.{cancel_packet, packet_bytes};
 ghost use Rattle.startup.specs.FirstPacket.{Cancel, IsOutcome};
@@ -41,27 +41,41 @@ fn cancel_key(alloc: Global, packet: &[u8]) -> Result<AnyKey, Fault>
         × (packet.now ≡ packet_bytes (cancel_packet key))) }
     ensures fault { IfErr result (λ fault. IsPacketFault packet.now fault) }
 {
-    match Opening::new(alloc).read(packet, true) {
-        Ok(First::Cancel { key }) => whole_request(alloc, packet, key),
-        Ok(_) => Err(Fault::NotACancel),
-        Err(StartupError::Memory) => Err(Fault::Memory),
-        Err(refusal) => Err(Fault::Packet(refusal.number())),
+    let first = match Opening::new(alloc).read(packet, true) {
+        Ok(first) => first,
+        Err(StartupError::Memory) => return Err(Fault::Memory),
+        Err(refusal) => return Err(Fault::Packet(refusal.number())),
+    };
+    match &first {
+        First::Cancel { key } => whole_request(alloc, packet, key),
+        _ => Err(Fault::NotACancel),
     }
 }
 
 // The key of a packet that begins with its CancelRequest, where nothing follows that.
-fn whole_request(alloc: Global, packet: &[u8], key: AnyKey) -> Result<AnyKey, Fault>
-    requires { IsOutcome none_seen packet.now true (Cancel (any_key_bytes key)) }
+fn whole_request(alloc: Global, packet: &[u8], key: &AnyKey) -> Result<AnyKey, Fault>
+    requires { IsOutcome none_seen packet.now true (Cancel (any_key_bytes key.now)) }
     ensures key { IfOk result (λ key. IsAnyKey key
         × (packet.now ≡ packet_bytes (cancel_packet key))) }
     ensures fault { IfErr result (λ fault. IsPacketFault packet.now fault) }
 {
-    let request = write_cancel(key);
-    let length = request.as_slice().len();
+    let length = request_length(*key);
     match packet.len().saturating_sub(length) {
-        0 => Ok(key),
+        0 => Ok(*key),
         more => Err(longer_packet(alloc, length, more)),
     }
+}
+
+// How many bytes the CancelRequest of a key has.
+fn request_length(key: AnyKey) -> usize
+    ensures length { result ≡ length (packet_bytes (cancel_packet key)) }
+    ensures key { IsAnyKey key }
+    // Bytes that are read as a request with this key begin with it.
+    ensures begins { (text : List ℕ) → IsOutcome none_seen text true (Cancel (any_key_bytes key))
+        → take result text ≡ packet_bytes (cancel_packet key) }
+{
+    let request = write_cancel(key);
+    request.as_slice().len()
 }
 
 // The line that names an order.
