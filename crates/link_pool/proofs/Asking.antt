@@ -137,7 +137,7 @@ pub served : (v : PoolView) (at : LinkPlace) (p : Place) (slot : ℕ) (c : Claim
 served v at p slot c whole free within = served_by (slice_get v.claims slot) v at p slot c refl whole free within
 
 -- the next free place stays so
-next_unqueued : (v : PoolView) (slot : ℕ) (at : LinkPlace) → IsNextFree v at → IsNextFree (unqueued v slot) at
+pub next_unqueued : (v : PoolView) (slot : ℕ) (at : LinkPlace) → IsNextFree v at → IsNextFree (unqueued v slot) at
 next_unqueued v slot at is = record {
   free = place_unqueued v slot at ∙ is.free;
   next = ap (λ (x : PoolView). top (free_at x at.database)) (kept_unqueued v slot) ∙ is.next;
@@ -154,7 +154,7 @@ opened v slot n permit whole some free at left next says =
     let more : IsPool w = given_more v v.next_link n v.next_ticket whole (omega arith) (omega (arith, next)) l (omega (arith, next, left)) t in
     let number : permit.number ≡ v.next_permit = ap (λ (p : PermitRecord). p.number) says in
     let last = ap (λ (x : PoolView). x.next_permit) (kept_unqueued w slot) in
-    kept_for (unqueued w slot) permit slot (whole_unqueued w slot more) (next_unqueued w slot permit.at at) (nothing_unqueued w slot some free)
+    kept_for (unqueued w slot) permit slot (whole_unqueued w slot more) (next_unqueued w slot permit.at (record { free = at.free; next = at.next })) (nothing_unqueued w slot some free)
     (says
     ∙ ap {B = PermitRecord} (λ (x : ℕ). record { peer = v.peer; incarnation = v.incarnation; number = x; at = permit.at }) (sym number)
     ∙ ap {B = PermitRecord} (λ (x : PoolView). record { peer = x.peer; incarnation = x.incarnation; number = permit.number; at = permit.at }) (sym (kept_unqueued w slot)))

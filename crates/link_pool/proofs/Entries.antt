@@ -11,13 +11,10 @@ use Rattle.link_pool.specs.Stacks.{put_on}
 use Rattle.link_pool.specs.Streams.{stream_there, stored_in, stored_at, has_stream, Moves}
 use Rattle.link_pool.proofs.Places.{slice_get-set_same, slice_get-set_other, set_same}
 use Rattle.link_pool.proofs.Changes.{changed_here, changed_there, changed_is_set, wrote, was_read, one_place}
-use Rattle.slot_queues.proofs.Times.{eq_yes}
 use Rattle.link_pool.specs.declared.entry.Entry.{Entry}
 use Rattle.link_pool.specs.declared.entry.Entry.TheVariants as entry
 use Rattle.link_pool.specs.declared.place.Place.{Place}
 use Rattle.link_pool.specs.declared.place.Place.TheVariants as place
-use Rattle.quarantine.specs.OpenTickets.{OpenTickets}
-use Rattle.link_pool.specs.OnePlace.{given_by}
 use Rattle.link_pool.specs.Entries.{Entries, place_of, stream_of, idle_entry, free_entry, pool_in, streams_in, put_at, with_entry}
 use Rattle.link_pool.specs.PoolStep.{is_idle}
 use Rattle.link_pool.specs.Parts.{is_taken, Stores}
@@ -62,16 +59,9 @@ idle_one (Some (entry.Held details key hold slot)) h = absurd (cc)
 idle_one (Some (entry.Idle link key)) h = record { link = link; key = key; is = refl }
 idle_one (Some (entry.Quarantined link key hold giver)) h = absurd (cc)
 
--- a quarantined link that the client of the slot gave back
-pub record IsGivenEntry {S : Type 0} (o : Option (Entry S)) (slot : ℕ) : Type 0 where
-  pub link : LinkValue S
-  pub key : List ℕ
-  pub hold : OpenTickets
-  pub is : o ≡ Some (entry.Quarantined link key hold (Some slot))
-
-given_entry : {S : Type 0} (o : Option (Entry S)) (slot : ℕ) → given_by slot (option_map place_of o) ≡ true → IsGivenEntry o slot
-given_entry (Some (entry.Quarantined link key hold (Some other))) slot h = record { link = link; key = key; hold = hold; is = ap (λ (s : ℕ). Some (entry.Quarantined link key hold (Some s))) (eq_yes other slot h) }
-given_entry o slot h = absurd (cc)
+pub free_one : {S : Type 0} (o : Option (Entry S)) → free_entry o ≡ true → o ≡ Some entry.Free
+free_one (Some entry.Free) h = refl
+free_one o h = absurd (cc)
 
 -- what is at a place of the pools
 abbrev pub entry_in : {S : Type 0} → Option (Entries S) → ℕ → Option (Entry S)
@@ -189,8 +179,8 @@ entry_of (Some e) p h = record { was = e; is = refl; same = same_Some (place_of 
 pub entry_seen : {S : Type 0} (pools : List (Entries S)) (at : LinkPlace) (p : Place) → place_in (slice_get (map pool_in pools) at.database) at.index ≡ Some p → IsEntry (entry_at pools at) p
 entry_seen pools at p h = entry_of (entry_at pools at) p (sym (seen_at pools at) ∙ h)
 
-pub given_seen : {S : Type 0} (pools : List (Entries S)) (at : LinkPlace) (slot : ℕ) → given_by slot (place_in (slice_get (map pool_in pools) at.database) at.index) ≡ true → IsGivenEntry (entry_at pools at) slot
-given_seen pools at slot h = given_entry (entry_at pools at) slot (ap (given_by slot) (sym (seen_at pools at)) ∙ h)
+pub free_seen : {S : Type 0} (pools : List (Entries S)) (at : LinkPlace) → place_in (slice_get (map pool_in pools) at.database) at.index ≡ Some place.Free → entry_at pools at ≡ Some entry.Free
+free_seen pools at h = free_is (entry_at pools at) (sym (seen_at pools at) ∙ h)
 
 pub taken_seen : {S : Type 0} (pools : List (Entries S)) (at : LinkPlace) → is_taken (place_in (slice_get (map pool_in pools) at.database) at.index) ≡ true → IsTakenEntry (entry_at pools at)
 taken_seen pools at h = taken_entry (entry_at pools at) (ap is_taken (sym (seen_at pools at)) ∙ h)

@@ -91,8 +91,8 @@ of_nothing : (v : PoolView) (at : LinkPlace) (slot : ℕ) (p : Place) → place_
 of_nothing v at slot p there had none = record { there = there; had = had; within = slice_get_within v.claims slot claim.Nothing had; alone = alone_nothing at slot p none }
 
 -- a client no longer has its place, which is free
-pub vacated : {was : Place} {claimed : Claim} (v : PoolView) (at : LinkPlace) (slot : ℕ) → is_free (Some was) ≡ false → IsPool v → IsOf v at slot was claimed → IsPool (give_back v at slot place.Free)
-vacated v at slot out whole of = moved v at slot place.Free claim.Nothing out whole of (alone_nothing at slot place.Free (λ s. refl)) tt (λ n h. absurd (cc)) (λ n h. absurd (cc))
+pub vacated : {was : Place} {claimed : Claim} (v : PoolView) (at : LinkPlace) (slot : ℕ) → IsPool v → IsOf v at slot was claimed → is_free (Some was) ≡ false → IsPool (give_back v at slot place.Free)
+vacated v at slot whole of out = moved v at slot place.Free claim.Nothing whole of out (alone_nothing at slot place.Free (λ s. refl)) tt (λ n h. absurd (cc)) (λ n h. absurd (cc))
 
 -- what is at a link's place fits
 fits_of : (v : PoolView) (at : LinkPlace) (link : Link) → IsPool v → place_at v at ≡ Some (place.Link link) → LinkFits v at link
@@ -103,7 +103,7 @@ restated : {claimed : Claim} (v : PoolView) (at : LinkPlace) (slot : ℕ) (link 
     → IsPool (with_claim (with_place v at (place.Link (in_state x link))) slot claim)
 restated v at slot link x claim whole of alone state =
     let fits = fits_of v at link whole of.there in
-    moved v at slot (place.Link (in_state x link)) claim refl whole of alone (record { says = fits.says; given = fits.given; tickets = fits.tickets; state = state }) (λ n h. inl h) (λ n h. absurd (cc))
+    moved v at slot (place.Link (in_state x link)) claim whole of refl alone (record { says = fits.says; given = fits.given; tickets = fits.tickets; state = state }) (λ n h. inl h) (λ n h. absurd (cc))
 
 pub rested : (v : PoolView) (lease : LinkRecord) (link : Link) (slot : ℕ) → IsPool v → IsHeld lease link slot v → (link.hold.tickets ≡ 0) × (link.hold.condemned ≡ false) → IsPool (give_back v lease.at slot (place.Link (in_state state.Idle link)))
 rested v lease link slot whole held clear =
@@ -135,7 +135,7 @@ no_other (Some (place.Link link)) number h e = h link refl (same_Some link.detai
 pub occupied : (v : PoolView) (permit : PermitRecord) (slot : ℕ) (link : Link) → IsPool v → place_at v permit.at ≡ Some (place.Open permit slot) → LinkFits v permit.at link → link.state ≡ state.Held slot
     → ((at : LinkPlace) (other : Link) → place_at v at ≡ Some (place.Link other) → other.details.link ≢ link.details.link) → IsPool (with_claim (with_place v permit.at (place.Link link)) slot (claim.Link permit.at))
 occupied v permit slot link whole was fits held new =
-    moved v permit.at slot (place.Link link) (claim.Link permit.at) refl whole (of_open v permit slot whole was) (alone_held permit.at slot link held) fits
+    moved v permit.at slot (place.Link link) (claim.Link permit.at) whole (of_open v permit slot whole was) refl (alone_held permit.at slot link held) fits
     (λ n h. inr (λ k e. no_other (place_at v k) n (λ other x y. new k other x (y ∙ sym (same_Some link.details.link n h))) e)) (λ n h. absurd (cc))
 
 -- a link that there is says its place
@@ -171,7 +171,7 @@ held_on v at link hold whole was few state =
 unquarantined : (giver : Option ℕ) (v : PoolView) (at : LinkPlace) (link : Link) (p : Place) → IsPool v → place_at v at ≡ Some (place.Link link) → link.state ≡ state.Quarantined giver → ((s : ℕ) → tells s (Some p) ≡ silent) → Fits v at (Some p)
     → IsNew link_number v (place.Link link) p → IsNew permit_number v (place.Link link) p → IsPool (nothing_for giver (with_place v at p))
 unquarantined None v at link p whole was is none fits number permit = stayed v at (place.Link link) p refl whole was fits (λ s. none s ∙ sym (ap (state_tells s) is)) number permit
-unquarantined (Some slot) v at link p whole was is none fits number permit = moved v at slot p claim.Nothing refl whole (of_given v at link slot whole was is) (alone_nothing at slot p none) fits number permit
+unquarantined (Some slot) v at link p whole was is none fits number permit = moved v at slot p claim.Nothing whole (of_given v at link slot whole was is) refl (alone_nothing at slot p none) fits number permit
 
 -- a quarantined link is free for others
 pub cleared : (giver : Option ℕ) (v : PoolView) (at : LinkPlace) (link : Link) (hold : OpenTickets) → IsPool v → place_at v at ≡ Some (place.Link link) → link.state ≡ state.Quarantined giver → (hold.tickets ≡ 0) × (hold.condemned ≡ false) → IsPool (nothing_for giver (with_place v at (place.Link (in_state state.Idle (with_hold link hold)))))

@@ -1,5 +1,5 @@
 -- A pool's stacks, once a place has changed.
-use Rattle.std.proofs.Common.{◌≡◌, ◌≢◌, ℕ, zero, suc, ◌+◌, ◌<◌, ◌≤◌, ◌==◌, Bool, true, false, List, [], ◌∷◌, ◌++◌, Option, None, Some, IfNone, length, replicate, refl, ap, subst, sym, ◌∙◌, arith, length-append, ⊎_elim, if◌then◌else◌}
+use Rattle.std.proofs.Common.{◌≡◌, ◌≢◌, ℕ, zero, suc, ◌+◌, ◌-◌, ◌<◌, ◌≤◌, ◌==◌, Bool, true, false, List, [], ◌∷◌, ◌++◌, Option, None, Some, IfNone, length, replicate, take, refl, ap, subst, sym, ◌∙◌, arith, length-append, append_assoc, ⊎_elim, if◌then◌else◌}
 use Rattle.std.proofs.Math.ListN.{set}
 use Rattle.std.specs.List.{slice_get}
 use Rattle.std.proofs.lemmas.Option.{slice_get_within, slice_get-get_or}
@@ -114,11 +114,14 @@ relisted kind xs stack s old new was out keeps = relisted_by kind xs stack s old
 pub top_split : (stack : List ℕ) (s : ℕ) → top stack ≡ Some s → stack ≡ under_top stack ++ s ∷ []
 top_split [] s h = absurd (cc)
 top_split (x ∷ []) s h = let e : x ≡ s = cc in ap (λ (y : ℕ). y ∷ []) e
-top_split (x ∷ y ∷ rest) s h = ap (λ (ys : List ℕ). x ∷ ys) (top_split (y ∷ rest) s h)
+top_split (x ∷ y ∷ rest) s h =
+    let n : length (x ∷ y ∷ rest) - 1 ≡ suc (length (y ∷ rest) - 1) = omega arith in
+    let below : top (y ∷ rest) ≡ Some s = ap (slice_get (x ∷ y ∷ rest)) (sym n) ∙ h in
+    subst (λ (k : ℕ). x ∷ y ∷ rest ≡ take k (x ∷ y ∷ rest) ++ s ∷ []) (sym n) (ap (λ (ys : List ℕ). x ∷ ys) (top_split (y ∷ rest) s below))
 
 no_top : (stack : List ℕ) → top stack ≡ None → length stack ≡ 0
 no_top [] h = refl
-no_top (x ∷ rest) h = absurd (cc (slice_get-get_or (x ∷ rest) (length rest) x (omega arith)))
+no_top (x ∷ rest) h = absurd (cc (slice_get-get_or (x ∷ rest) (length (x ∷ rest) - 1) x (omega arith)))
 
 pub none_next : {X : Type 0} (kind : Option X → Bool) (xs : List X) (stack : List ℕ) (o : Option ℕ) → IsStack kind xs stack → o ≡ top stack → IfNone o ((i : ℕ) → kind (slice_get xs i) ≡ false)
 none_next kind xs stack None keeps e = none_listed kind xs stack keeps (no_top stack (sym e))
@@ -139,7 +142,7 @@ all_past i (suc n) past = let none = all_past i n (omega (arith, past)) in rw (e
 all_within : (i n : ℕ) → i < n → times i (all_places n) ≡ 1
 all_within i zero within = absurd (omega (arith, within))
 all_within i (suc n) within = ⊎_elim
-    (λ same. let none = all_past i n (omega (arith, same)) in rw (same, eq_self n) (let e : times n (all_places n) ≡ 0 = subst (λ (j : ℕ). times j (all_places n) ≡ 0) same none in omega (arith, e)))
+    (λ same. let none = all_past n n (omega arith) in subst (λ (j : ℕ). times j (all_places (suc n)) ≡ 1) (sym same) (rw (eq_self n) (omega (arith, none))))
     (λ apart. let one_is = all_within i n (omega (arith, within, apart)) in rw (eq_no n i (λ t. apart (sym t))) (omega (arith, one_is)))
     (cases_eq i n)
 
@@ -154,14 +157,21 @@ none_past x (suc n) zero past = absurd (omega (arith, past))
 none_past x (suc n) (suc i) past = none_past x n i (omega (arith, past))
 
 all_counted : {X : Type 0} (kind : Option X → Bool) (x : X) (n : ℕ) → kind (Some x) ≡ true → length (all_places n) ≡ how_many kind (replicate n x)
-all_counted kind x zero yes = refl
-all_counted kind x (suc n) yes = let e = all_counted kind x n yes in rw yes (omega (arith, e))
+all_counted kind x zero is = refl
+all_counted kind x (suc n) is = let e = all_counted kind x n is in rw is (omega (arith, e))
 
 pub all_stacked : {X : Type 0} (kind : Option X → Bool) (x : X) (n : ℕ) → kind None ≡ false → kind (Some x) ≡ true → IsStack kind (replicate n x) (all_places n)
-all_stacked kind x n no yes = record {
+all_stacked kind x n out is = record {
   once = λ i. ⊎_elim
-      (λ within. all_within i n within ∙ sym (ap (λ o. one (kind o)) (each_within x n i within) ∙ ap one yes))
-      (λ past. all_past i n past ∙ sym (ap (λ o. one (kind o)) (none_past x n i past) ∙ ap one no))
+      (λ within. all_within i n within ∙ sym (ap (λ o. one (kind o)) (each_within x n i within) ∙ ap one is))
+      (λ past. all_past i n past ∙ sym (ap (λ o. one (kind o)) (none_past x n i past) ∙ ap one out))
       (cases_lt i n);
-  counted = all_counted kind x n yes;
+  counted = all_counted kind x n is;
 }
+
+-- one more of all places is put on a stack
+pub all_step : (stack : List ℕ) (i : ℕ) → 0 < i → (stack ++ (i - 1) ∷ []) ++ all_places (i - 1) ≡ stack ++ all_places i
+all_step stack zero some = absurd (omega (arith, some))
+all_step stack (suc i) some =
+    let e : suc i - 1 ≡ i = omega arith in
+    subst (λ (k : ℕ). (stack ++ k ∷ []) ++ all_places k ≡ stack ++ all_places (suc i)) (sym e) (append_assoc stack (i ∷ []) (all_places i))

@@ -1,5 +1,5 @@
 -- What is true of every node's pools stays true.
-use Rattle.std.proofs.Common.{◌≡◌, ◌≢◌, ℕ, ◌≤◌, ◌<◌, Bool, false, List, [], ◌∷◌, option_map, unwrap_or, get_or, Option, Some, None, length, refl, ap, sym, subst, ◌∙◌, arith, ⊎_elim, ◌⊎◌, inl, inr}
+use Rattle.std.proofs.Common.{◌≡◌, ◌≢◌, ℕ, ◌≤◌, ◌<◌, Bool, true, false, List, [], ◌∷◌, option_map, unwrap_or, get_or, Option, Some, None, length, refl, ap, sym, subst, ◌∙◌, arith, ⊎_elim, ◌⊎◌, inl, inr}
 use Rattle.std.proofs.Math.ListN.{set}
 use Rattle.std.specs.List.{slice_get}
 use Rattle.std.proofs.lemmas.Option.{slice_get_within, slice_get-map, unwrap_or-slice_get}
@@ -14,7 +14,7 @@ use Rattle.link_pool.specs.OnePlace.{Fits, has_link, has_permit, has_given, held
 use Rattle.slot_queues.specs.Queues.{times}
 use Rattle.link_pool.proofs.Places.{slice_get-set_same, slice_get-set_other}
 use Rattle.link_pool.proofs.Changes.{one_place, changed_here, changed_there, changed_long, place_here, place_there}
-use Rattle.link_pool.proofs.Stacking.{relisted, topped}
+use Rattle.link_pool.proofs.Stacking.{relisted, of_top, topped}
 
 -- what fits one view fits one with more numbers given
 pub fits_more : (v w : PoolView) (at : LinkPlace) (o : Option Place) → v.peer ≡ w.peer → v.incarnation ≡ w.incarnation → v.next_link ≤ w.next_link → v.next_permit ≤ w.next_permit → Fits v at o → Fits w at o
@@ -144,6 +144,18 @@ restacked v at p f whole stack d = ⊎_elim
     (λ apart. subst IsStacked (sym (changed_there v.pools at.database d _ apart)) (whole.stacks d))
     (cases_eq d at.database)
 
+-- the place that is taken next is free
+free_place : (o : Option Place) → is_free o ≡ true → o ≡ Some place.Free
+free_place (Some place.Free) h = refl
+free_place o h = absurd (cc)
+
+next_in : (o : Option DatabasePool) (i : ℕ) → IsStacked o → top (free_in o) ≡ Some i → place_in o i ≡ Some place.Free
+next_in None i stack h = absurd (cc)
+next_in (Some pool) i stack h = free_place (slice_get pool.places i) (of_top is_free pool.places pool.free i stack h)
+
+pub next_is_free : (v : PoolView) (at : LinkPlace) → IsPool v → top (free_at v at.database) ≡ Some at.index → place_at v at ≡ Some place.Free
+next_is_free v at whole h = next_in (slice_get v.pools at.database) at.index (whole.stacks at.database) h
+
 -- a place that wasn't free is put on the stack, if it is free now; and the next free one is taken off
 put_back : (v : PoolView) (at : LinkPlace) (old p : Place) → IsPool v → place_at v at ≡ Some old → is_free (Some old) ≡ false → Restacks v at p (put_on (is_free (Some p)) at.index)
 put_back v at old p whole there out pool is =
@@ -183,9 +195,9 @@ moved_by {old} {was} v at slot p claim f whole of alone fits link permit stack =
     }
 
 -- where the place wasn't free
-pub moved : {old : Place} {was : Claim} (v : PoolView) (at : LinkPlace) (slot : ℕ) (p : Place) (claim : Claim) → is_free (Some old) ≡ false → IsPool v → IsOf v at slot old was → Alone at slot p claim → Fits v at (Some p)
+pub moved : {old : Place} {was : Claim} (v : PoolView) (at : LinkPlace) (slot : ℕ) (p : Place) (claim : Claim) → IsPool v → IsOf v at slot old was → is_free (Some old) ≡ false → Alone at slot p claim → Fits v at (Some p)
     → IsNew link_number v old p → IsNew permit_number v old p → IsPool (with_claim (with_place v at p) slot claim)
-moved {old} v at slot p claim out whole of alone fits link permit =
+moved {old} v at slot p claim whole of out alone fits link permit =
     moved_by v at slot p claim (put_on (is_free (Some p)) at.index) whole of alone fits link permit (put_back v at old p whole of.there out)
 
 -- after a change at one place, by which nobody has more or less

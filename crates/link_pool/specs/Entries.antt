@@ -1,4 +1,5 @@
--- What a database's pool keeps at its places: the places of the view, and the streams that lie there.
+-- What a database's pool keeps at its places: the places of the view, and the streams that lie
+-- there.
 use Rattle.std.specs.Prelude.{ℕ, ◌≡◌, Bool, List, length, map, replicate, Option, None, Some, option_map, slice_get, slice_set}
 use Rattle.lease.specs.LinkValue.{LinkValue}
 use Rattle.lease.specs.declared.link_place.LinkPlace.{LinkPlace}
@@ -136,7 +137,8 @@ abbrev pub with_entry : {S : Type 0} → ℕ → Entry S → Entries S → Entri
 with_entry index entry pool = put_at index entry (put_on (free_entry (Some entry)) index) pool
 
 -- an idle link is with the client of the slot from now on
-pub record TakesIdle {S : Type 0} (slot : ℕ) (lease : LinkValue S) (old new : Entries S) : Type 0 where
+pub record TakesIdle {S : Type 0} (slot : ℕ) (lease : LinkValue S)
+    (old new : Entries S) : Type 0 where
   pub index : ℕ
   pub key : List ℕ
   pub was : slice_get old.entries index ≡ Some (entry.Idle lease key)

@@ -1,4 +1,5 @@
--- What is true of every node's links (own): each is in one place, and each client has one thing at most.
+-- What is true of every node's links (own): each is in one place, and each client has at most one
+-- thing.
 use Rattle.std.specs.Prelude.{ℕ, ◌≡◌, ◌==◌, ◌&&◌, ◌+◌, ◌<◌, ◌≤◌, ◌^◌, Bool, false, List, [], ◌∷◌, Option, Some, None, length, map, slice_get, slice_index, if◌then◌else◌}
 use Rattle.lease.specs.declared.link_place.LinkPlace.{LinkPlace}
 use Rattle.slot_queues.specs.Queues.{times}
@@ -92,7 +93,8 @@ given_by slot (Some place.Free) = false
 given_by slot (Some (place.Open permit other)) = false
 given_by slot (Some (place.Link link)) = is_from slot link.state
 
--- an idle link has no open ticket and isn't condemned; a quarantined one has an open ticket and isn't condemned
+-- an idle link has no open ticket and isn't condemned; a quarantined one has an open ticket and
+-- isn't condemned
 abbrev pub StateFits : LinkState → OpenTickets → Type 0
 StateFits state.Idle hold = (hold.tickets ≡ 0) × (hold.condemned ≡ false)
 StateFits (state.Held slot) hold = Unit {0}
@@ -162,8 +164,8 @@ pub record IsPool (v : PoolView) : Type 0 where
   -- a client has a permit exactly where its place is kept for it
   pub permits : (slot : ℕ) (at : LinkPlace)
       → has_permit at (slice_get v.claims slot) ≡ open_for slot (place_at v at)
-  -- a client claims to have given a link back exactly where that link is quarantined and was given back
-  -- by it
+  -- a client claims to have given a link back exactly where that link is quarantined and was given
+  -- back by it
   pub given : (slot : ℕ) (at : LinkPlace)
       → has_given at (slice_get v.claims slot) ≡ given_by slot (place_at v at)
   -- a client waits exactly where it stands in that queue, and it stands there once
@@ -172,7 +174,8 @@ pub record IsPool (v : PoolView) : Type 0 where
   -- no two links have one number, and no two permits
   pub link_once : (at other : LinkPlace) (number : ℕ) → link_number (place_at v at) ≡ Some number
       → link_number (place_at v other) ≡ Some number → at ≡ other
-  pub permit_once : (at other : LinkPlace) (number : ℕ) → permit_number (place_at v at) ≡ Some number
+  pub permit_once : (at other : LinkPlace) (number : ℕ)
+      → permit_number (place_at v at) ≡ Some number
       → permit_number (place_at v other) ≡ Some number → at ≡ other
   -- the numbers that are left
   pub numbers : (v.next_link ≤ 2 ^ 64) × (v.next_permit ≤ 2 ^ 64) × (v.next_ticket ≤ 2 ^ 64)
@@ -193,4 +196,5 @@ sizes pools = map (λ pool. length pool.places) pools
 
 -- links and permits of each database are at most its pool size
 abbrev pub WithinSizes : List ℕ → PoolView → Type 0
-WithinSizes sizes v = (database : ℕ) → used_in (slice_get v.pools database) ≤ slice_index sizes database
+WithinSizes sizes v = (database : ℕ)
+    → used_in (slice_get v.pools database) ≤ slice_index sizes database

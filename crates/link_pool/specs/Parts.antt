@@ -36,12 +36,14 @@ abbrev pub with_client : {S : Type 0} → PoolView → LinkPlace → ℕ → Ent
 with_client v at slot entry = with_claim (with_place v at (place_of entry)) slot (claim_of at entry)
 
 -- what is stored with an entry is stored at its place, and nothing else
-abbrev pub Stores : {S : Type 0} → LinkPlace → Option S → List (List (Option S)) → List (List (Option S)) → Type 0
+abbrev pub Stores : {S : Type 0} → LinkPlace → Option S → List (List (Option S))
+    → List (List (Option S)) → Type 0
 Stores at None old new = new ≡ old
 Stores at (Some stream) old new = Puts at stream old new
 
 -- a stream that leaves its place is taken from there, and nothing else
-abbrev pub Leaves : {S : Type 0} → LinkPlace → Option S → List (List (Option S)) → List (List (Option S)) → Type 0
+abbrev pub Leaves : {S : Type 0} → LinkPlace → Option S → List (List (Option S))
+    → List (List (Option S)) → Type 0
 Leaves at None old new = new ≡ old
 Leaves at (Some stream) old new = Takes at stream old new
 

@@ -12,14 +12,14 @@ use Rattle.link_pool.specs.declared.place.Claim.{Claim}
 use Rattle.link_pool.specs.declared.place.Claim.TheVariants as claim
 use Rattle.link_pool.specs.Stacks.{put_on, under_top}
 
--- The pool of one database: its places, as many as its pool size, and the stack of the free ones, of
--- which the last is taken next.
+-- The pool of one database: its places, as many as its pool size, and the stack of the free ones,
+-- of which the last is taken next.
 pub record DatabasePool : Type 0 where
   pub places : List Place
   pub free : List ℕ
 
--- The pools of a node: its number and incarnation; by database its pool, and the slots that wait for it,
--- in order; by slot what its client has; the numbers that are given next.
+-- The pools of a node: its number and incarnation; by database its pool, and the slots that wait
+-- for it, in order; by slot what its client has; the numbers that are given next.
 pub record PoolView : Type 0 where
   pub peer : ℕ
   pub incarnation : ℕ

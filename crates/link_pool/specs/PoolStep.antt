@@ -1,5 +1,5 @@
--- The steps of a node's pools (own; PgBouncer manual, transaction pooling): which reply a call may get, and
--- what it leaves. Free is which idle link is got, and nothing else.
+-- The steps of a node's pools (own; PgBouncer manual, transaction pooling): which reply a call may
+-- get, and what it leaves. Free is which idle link is got, and nothing else.
 use Rattle.std.specs.Prelude.{ℕ, ◌≡◌, ◌≢◌, ◌==◌, ◌+◌, ◌-◌, ◌<◌, ◌^◌, Bool, true, false, List, [], ◌∷◌, Option, Some, None, ◌⊎◌, length, map, slice_get, replicate}
 use Rattle.lease.specs.declared.link_place.LinkPlace.{LinkPlace}
 use Rattle.lease.specs.declared.link_record.LinkRecord.{LinkRecord}
@@ -158,9 +158,10 @@ AcquireStep slot database (acquire.Open permit) old new =
 -- none is idle and none can be opened, or somebody waits before it
 AcquireStep slot database acquire.Waiting old new =
     (may_ask (slice_get old.claims slot) ≡ true)
-    × ((is_first slot (queue_at old database) ≡ false) ⊎ (NoIdle database old × NoneFree database old))
+    × ((is_first slot (queue_at old database) ≡ false)
+    ⊎ (NoIdle database old × NoneFree database old))
     × (new ≡ queued old slot database)
--- its wait was cancelled, which is answered once
+-- its wait was cancelled, which is returned once
 AcquireStep slot database acquire.Cancelled old new =
     (slice_get old.claims slot ≡ Some claim.Cancelled) × (new ≡ with_claim old slot claim.Nothing)
 AcquireStep slot database acquire.Holding old new =
@@ -189,7 +190,8 @@ abbrev pub new_link : LinkRecord → List ℕ → Link
 new_link lease key = record { details = lease; key = key; state = state.Idle; hold = new_hold }
 
 -- a link at the permit's place, with the client of the slot
-pub record GoesUp (permit : PermitRecord) (key : List ℕ) (lease : LinkRecord) (old new : PoolView) : Type 0 where
+pub record GoesUp (permit : PermitRecord) (key : List ℕ) (lease : LinkRecord)
+    (old new : PoolView) : Type 0 where
   pub slot : ℕ
   pub kept : IsOpen permit slot old
   pub left : old.next_link < 2 ^ 64
@@ -199,13 +201,17 @@ pub record GoesUp (permit : PermitRecord) (key : List ℕ) (lease : LinkRecord) 
     link = old.next_link;
     at = permit.at;
   }
-  pub after : new ≡ record (lend old permit.at slot (new_link lease key)) { next_link = old.next_link + 1 }
+  pub after : new ≡ record (lend old permit.at slot (new_link lease key)) {
+    next_link = old.next_link + 1;
+  }
 
 -- a link is open
-abbrev pub UpStep : {S : Type 0} → PermitRecord → List ℕ → UpReply LinkRecord PermitRecord S → PoolView → PoolView → Type 0
+abbrev pub UpStep : {S : Type 0} → PermitRecord → List ℕ → UpReply LinkRecord PermitRecord S
+    → PoolView → PoolView → Type 0
 UpStep permit key (up.Up lease) old new = GoesUp permit key lease old new
 UpStep permit key (up.Exhausted again stream) old new =
-    (again ≡ permit) × ((slot : ℕ) × IsOpen permit slot old) × (old.next_link ≡ 2 ^ 64) × (new ≡ old)
+    (again ≡ permit) × ((slot : ℕ) × IsOpen permit slot old) × (old.next_link ≡ 2 ^ 64)
+    × (new ≡ old)
 UpStep permit key (up.Stale stream) old new = StalePermit permit old × (new ≡ old)
 -- the pools come to no end
 UpStep permit key (up.AtEnd stream) old new = ⊥
@@ -248,7 +254,8 @@ ReleaseStep lease (release.Exhausted stream) old new = ⊥
 -- a link is closed
 abbrev pub CloseStep : {S : Type 0} → LinkRecord → CloseReply S → PoolView → PoolView → Type 0
 CloseStep lease (close.Closed stream) old new =
-    (link : Link) × (slot : ℕ) × IsHeld lease link slot old × (new ≡ give_back old lease.at slot place.Free)
+    (link : Link) × (slot : ℕ) × IsHeld lease link slot old
+    × (new ≡ give_back old lease.at slot place.Free)
 CloseStep lease (close.Stale stream) old new = StaleLease lease old × (new ≡ old)
 -- no number is needed
 CloseStep lease (close.Exhausted stream) old new = ⊥
@@ -260,7 +267,8 @@ LeaveStep slot leave.Left old new =
 LeaveStep slot leave.Holding old new =
     (is_holding (slice_get old.claims slot) ≡ true) × (new ≡ old)
 
--- the wait of a slot's client is cancelled, if it waits: it leaves the queue, and is owed `Cancelled`
+-- the wait of a slot's client is cancelled, if it waits: it leaves the queue, and its next
+-- `acquire` returns `Cancelled`
 abbrev pub UnwaitStep : ℕ → PoolView → PoolView → Type 0
 UnwaitStep slot old new = new ≡ unwaited old slot
 
@@ -278,7 +286,8 @@ abbrev pub one_more : OpenTickets → OpenTickets
 one_more hold = record hold { tickets = hold.tickets + 1 }
 
 -- one more ticket is open, of the very link that the client has
-pub record Serves (slot : ℕ) (ticket : TicketRecord) (database : ℕ) (key : List ℕ) (old new : PoolView) : Type 0 where
+pub record Serves (slot : ℕ) (ticket : TicketRecord) (database : ℕ) (key : List ℕ)
+    (old new : PoolView) : Type 0 where
   pub at : LinkPlace
   pub link : Link
   pub has : HasLink slot at link old
@@ -339,7 +348,8 @@ EndedStep ticket ended.Freed old new =
     (link : Link) × IsTicket ticket link old × (is_quarantined link.state ≡ true)
     × (link.hold.tickets ≡ 1)
     × (new ≡ nothing_for (giver_of link.state)
-    (with_place old ticket.at (place.Link (in_state state.Idle (with_hold link (one_less link.hold))))))
+    (with_place old ticket.at
+    (place.Link (in_state state.Idle (with_hold link (one_less link.hold))))))
 EndedStep ticket ended.Counted old new =
     (link : Link) × IsTicket ticket link old
     × ((is_quarantined link.state ≡ false) ⊎ (1 < link.hold.tickets))

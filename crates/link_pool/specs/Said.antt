@@ -1,5 +1,5 @@
--- What is told of an answer once its values are in a client's hands: what a lease or a permit says, and of a stream
--- nothing (own).
+-- What a reply says once its values are in a client's hands: what its lease or permit carries, and
+-- of a stream nothing (own).
 use Rattle.lease.specs.LinkValue.{LinkValue}
 use Rattle.lease.specs.declared.link_record.LinkRecord.{LinkRecord}
 use Rattle.lease.specs.declared.permit.PermitRecord.{PermitRecord}

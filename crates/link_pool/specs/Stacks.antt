@@ -8,7 +8,8 @@ how_many kind [] = 0
 how_many kind (x ∷ xs) = (if kind (Some x) then 1 else 0) + how_many kind xs
 
 -- the stack has the place of each of this kind once, and no other
-pub record IsStack {X : Type 0} (kind : Option X → Bool) (xs : List X) (stack : List ℕ) : Type 0 where
+pub record IsStack {X : Type 0} (kind : Option X → Bool) (xs : List X)
+    (stack : List ℕ) : Type 0 where
   pub once : (i : ℕ) → times i stack ≡ (if kind (slice_get xs i) then 1 else 0)
   pub counted : length stack ≡ how_many kind xs
 

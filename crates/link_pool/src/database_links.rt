@@ -15,8 +15,8 @@ use quarantine::Hold;
 use std::alloc::{AllocError, Global};
 use std::marker::Model;
 
-/// The links of one database. `free` has its free places, and `idle` those with an idle link; of each
-/// the last is taken next.
+/// The links of one database. `free` has its free places and `idle` those with an idle link; the
+/// last of each is taken next.
 #[derive(Drop)]
 pub(crate) struct DatabaseLinks<S> {
     entries: Vec<Entry<S>>,
@@ -57,15 +57,14 @@ fn stack_all(stack: &mut Vec<u16>, size: u16)
     ensures places { stack.new.items ≡ all_places size }
     ensures capacity { vec_capacity stack.new ≡ vec_capacity stack.old }
 {
-    let mut rest = size;
-    while rest > 0 {
-        rest -= 1;
-        stack.push_reserved(rest);
+    for index in (0..size).rev() {
+        stack.push_reserved(index);
     }
 }
 
 impl<S: Drop> DatabaseLinks<S> {
-    // As many free places as the size, at most 65,535. It takes all the memory that the database needs.
+    // As many free places as the size, at most 65,535. All the memory that the database needs is
+    // taken here.
     pub(crate) fn new(alloc: Global, size: u16) -> Result<DatabaseLinks<S>, AllocError>
         ensures { IfOk result (λ links. links ≡ new_links size) }
     {
@@ -104,12 +103,13 @@ impl<S: Drop> DatabaseLinks<S> {
     // The free place that is taken next, if one is free.
     pub(crate) fn next_free(&self) -> Option<u16>
         ensures next { result ≡ top self.now.free }
-        ensures none { IfNone result ((i : ℕ) → slice_get self.now.entries i ≢ Some entry.Free) }
+        ensures none { IfNone result ((i : ℕ) → free_entry (slice_get self.now.entries i) ≡ false) }
     {
         self.free.last().copied()
     }
 
-    // The place that is taken next is kept for the link that the client of a slot opens by a permit.
+    // The place that is taken next is kept for the link that the client of a slot opens by a
+    // permit.
     pub(crate) fn keep(&mut self, index: u16, permit: PermitRecord, slot: SlotNo)
         requires { top self.old.free ≡ Some index }
         ensures { self.new ≡ put_at index (entry.Open permit slot) under_top self.old }
@@ -163,13 +163,15 @@ impl<S: Drop> DatabaseLinks<S> {
         list(place, index, &mut self.idle, &mut self.free);
     }
 
-    // The link of a place, which isn't idle, has these tickets. The stream of one that leaves the place is returned.
+    // The link of a place, which isn't idle, has these tickets. The stream of a link that leaves
+    // the place is returned.
     pub(crate) fn settle(&mut self, index: u16, hold: Hold) -> Option<S>
         requires there { index < length self.old.entries }
         requires not_idle { idle_entry (slice_get self.old.entries index) ≡ false }
         requires not_free { free_entry (slice_get self.old.entries index) ≡ false }
         ensures { (was : EntryOf S) → slice_get self.old.entries index ≡ Some was
-            → (result ≡ leaving hold was) × (self.new ≡ with_entry index (settled hold was) self.old) }
+            → (result ≡ leaving hold was)
+            × (self.new ≡ with_entry index (settled hold was) self.old) }
     {
         let entry = &mut self.entries[index as usize];
         let stream = entry.settle(hold);

@@ -92,7 +92,7 @@ impl<S: Drop> Entry<S> {
         }
     }
 
-    // The client of a slot gets the link, if no client has it. The tickets of a quarantined one stay
+    // The client of a slot gets the link, if no client has it. A quarantined link's tickets stay
     // open.
     pub(crate) fn lend(&mut self, slot: SlotNo) -> Option<Lease<S>>
         ensures lease { result ≡ stored_link self.old }
@@ -139,8 +139,8 @@ impl<S: Drop> Entry<S> {
         }
     }
 
-    // The link has these tickets. If it is quarantined, then it is free for others once none is open, and it leaves
-    // its place once it is condemned: its stream is returned.
+    // The link has these tickets. If it is quarantined, then it is idle once none is open, and it
+    // leaves its place once it is condemned: its stream is returned.
     pub(crate) fn settle(&mut self, to: Hold) -> Option<S>
         ensures stream { result ≡ leaving to self.old }
         ensures entry { self.new ≡ settled to self.old }

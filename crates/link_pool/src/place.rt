@@ -16,15 +16,15 @@ pub enum LinkState {
     Idle,
     /// With the client of this slot.
     Held(SlotNo),
-    /// Given back while a cancel request for it was on its way; by the client of this slot, until that
-    /// leaves.
+    /// Given back while a cancel request for it was on its way, by the client of this slot, unless
+    /// that has left.
     Quarantined(Option<SlotNo>),
 }
 
 /// An open link.
 #[derive(Clone, Copy, Debug, PartialEq, Eq)]
 pub struct Link {
-    /// The node, incarnation, number and place, as its lease says them.
+    /// The node, incarnation, number and place, as its lease carries them.
     pub details: LinkRecord,
     /// The key by which its server cancels.
     pub key: ServerKey,
@@ -98,7 +98,7 @@ pub enum Place {
 pub enum Claim {
     /// Nothing.
     Nothing,
-    /// Nothing. Its wait was cancelled, which its next `acquire` answers.
+    /// Nothing. Its wait was cancelled, which its next `acquire` returns.
     Cancelled,
     /// A place in the queue of this database.
     Waiting(DatabaseNo),

@@ -51,8 +51,8 @@ impl<S> Model for Pool<S> {
 }
 
 impl<S: Drop> Pool<S> {
-    /// The pools of a node with this number: one of each size, by database, for so many slots, with no link.
-    /// They take all the memory that they need.
+    /// The pools of the node with this number: one of each size, by database, for so many slots,
+    /// with no link. They take all the memory that they need.
     pub fn new(
         alloc: Global,
         me: PeerNo,
@@ -97,7 +97,7 @@ impl<S: Drop> Pool<S> {
         self.claims.get(slot.get() as usize).copied()
     }
 
-    /// The number of times that the pools were started anew, and so what their values carry.
+    /// How often the pools were started again, which their leases, permits and tickets carry.
     pub fn incarnation(&self) -> u64
         ensures value { result ≡ self.now.view.incarnation }
         ensures whole { IsPool self.now.view }
@@ -120,11 +120,12 @@ impl<S: Drop> Pool<S> {
         pool.put(at.index, entry);
     }
 
-    // The place of a permit, which is the one of its database that is taken next, is kept for the client
-    // of a slot.
+    // The place of a permit, the one of its database that is taken next, is kept for the client of
+    // a slot.
     fn keep(&mut self, slot: SlotNo, permit: &PermitRecord)
         requires slot { slot < length self.old.view.claims }
-        requires next { top (free_at self.old.view permit.now.at.database) ≡ Some permit.now.at.index }
+        requires next { top (free_at self.old.view permit.now.at.database)
+            ≡ Some permit.now.at.index }
         requires whole { IsPool (keep self.old.view slot permit.now) }
         ensures view { self.new.view ≡ keep self.old.view slot permit.now }
         ensures streams { self.new.stored ≡ self.old.stored }
@@ -135,8 +136,8 @@ impl<S: Drop> Pool<S> {
         pool.keep(permit.at.index, *permit, slot);
     }
 
-    /// A new start: the next incarnation, in which nobody has anything. The streams of idle and quarantined links
-    /// are dropped; numbers go on.
+    /// Starts the pools again, in the next incarnation, in which nobody has anything. The streams
+    /// of idle and quarantined links are dropped; numbers go on.
     pub fn restart(&mut self) -> RestartReply
         ensures step { RestartStep result self.old.view self.new.view }
         ensures streams { RestartStreams result self.old.stored self.new.stored }

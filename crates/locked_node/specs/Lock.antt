@@ -118,9 +118,11 @@ no_journal = record {
     me = 0;
     peers = [];
     pools = [];
-    keys = record { peer = 0; secrets = []; next = None };
+    keys = record { peer = 0; entries = []; next = None };
     clients = [];
     next_pass = 0;
+    boot = 0;
+    next_serial = 0;
     links = record {
       peer = 0;
       incarnation = 0;

@@ -119,7 +119,7 @@ struct Carried {
     reads: u32,
 }
 
-const fn carried(outcome: Outcome, written: usize, writes: u32, reads: u32) -> Carried {
+fn carried(outcome: Outcome, written: usize, writes: u32, reads: u32) -> Carried {
     Carried {
         outcome,
         written,
@@ -143,46 +143,41 @@ fn assert_carried(rt: &impl Abort, wire: &mut Wire, packet: &Packet, expected: &
 // Streams, the length of the packets that are carried over them, and what comes of it. The packet
 // is taken by calls of all its bytes, of a few and of one, and then the input ends, a byte comes or
 // the read fails; or a write fails or takes nothing before the whole packet is taken.
-const STREAMS: [(usize, usize, usize, Full, Reply, Carried); 16] = [
+const STREAMS: [(usize, usize, usize, Full, Reply, Outcome, usize, u32, u32); 16] = [
     (
         16,
         16,
         16,
         Full::Fails,
         Reply::End,
-        carried(Outcome::Ended, 16, 1, 1),
-    ),
-    (
+        Outcome::Ended,
         16,
-        3,
-        16,
-        Full::Fails,
-        Reply::End,
-        carried(Outcome::Ended, 16, 6, 1),
+        1,
+        1,
     ),
+    (16, 3, 16, Full::Fails, Reply::End, Outcome::Ended, 16, 6, 1),
     (
         16,
         1,
         16,
         Full::Fails,
         Reply::End,
-        carried(Outcome::Ended, 16, 16, 1),
-    ),
-    (
+        Outcome::Ended,
         16,
         16,
-        7,
-        Full::Fails,
-        Reply::End,
-        carried(Outcome::Failed, 7, 2, 0),
+        1,
     ),
+    (16, 16, 7, Full::Fails, Reply::End, Outcome::Failed, 7, 2, 0),
     (
         16,
         16,
         5,
         Full::TakesNothing,
         Reply::End,
-        carried(Outcome::Failed, 5, 2, 0),
+        Outcome::Failed,
+        5,
+        2,
+        0,
     ),
     (
         16,
@@ -190,7 +185,10 @@ const STREAMS: [(usize, usize, usize, Full, Reply, Carried); 16] = [
         16,
         Full::Fails,
         Reply::Byte(0x4e),
-        carried(Outcome::Failed, 16, 1, 1),
+        Outcome::Failed,
+        16,
+        1,
+        1,
     ),
     (
         16,
@@ -198,7 +196,10 @@ const STREAMS: [(usize, usize, usize, Full, Reply, Carried); 16] = [
         16,
         Full::Fails,
         Reply::Byte(0),
-        carried(Outcome::Failed, 16, 1, 1),
+        Outcome::Failed,
+        16,
+        1,
+        1,
     ),
     (
         16,
@@ -206,7 +207,10 @@ const STREAMS: [(usize, usize, usize, Full, Reply, Carried); 16] = [
         16,
         Full::Fails,
         Reply::Fails,
-        carried(Outcome::Failed, 16, 1, 1),
+        Outcome::Failed,
+        16,
+        1,
+        1,
     ),
     (
         32,
@@ -214,23 +218,22 @@ const STREAMS: [(usize, usize, usize, Full, Reply, Carried); 16] = [
         32,
         Full::Fails,
         Reply::End,
-        carried(Outcome::Ended, 32, 1, 1),
-    ),
-    (
+        Outcome::Ended,
         32,
-        5,
-        32,
-        Full::Fails,
-        Reply::End,
-        carried(Outcome::Ended, 32, 7, 1),
+        1,
+        1,
     ),
+    (32, 5, 32, Full::Fails, Reply::End, Outcome::Ended, 32, 7, 1),
     (
         32,
         1,
         32,
         Full::Fails,
         Reply::End,
-        carried(Outcome::Ended, 32, 32, 1),
+        Outcome::Ended,
+        32,
+        32,
+        1,
     ),
     (
         32,
@@ -238,7 +241,10 @@ const STREAMS: [(usize, usize, usize, Full, Reply, Carried); 16] = [
         23,
         Full::Fails,
         Reply::End,
-        carried(Outcome::Failed, 23, 2, 0),
+        Outcome::Failed,
+        23,
+        2,
+        0,
     ),
     (
         32,
@@ -246,7 +252,10 @@ const STREAMS: [(usize, usize, usize, Full, Reply, Carried); 16] = [
         16,
         Full::TakesNothing,
         Reply::End,
-        carried(Outcome::Failed, 16, 2, 0),
+        Outcome::Failed,
+        16,
+        2,
+        0,
     ),
     (
         32,
@@ -254,7 +263,10 @@ const STREAMS: [(usize, usize, usize, Full, Reply, Carried); 16] = [
         32,
         Full::Fails,
         Reply::Byte(0x4e),
-        carried(Outcome::Failed, 32, 1, 1),
+        Outcome::Failed,
+        32,
+        1,
+        1,
     ),
     (
         32,
@@ -262,7 +274,10 @@ const STREAMS: [(usize, usize, usize, Full, Reply, Carried); 16] = [
         32,
         Full::Fails,
         Reply::Byte(0),
-        carried(Outcome::Failed, 32, 1, 1),
+        Outcome::Failed,
+        32,
+        1,
+        1,
     ),
     (
         32,
@@ -270,13 +285,17 @@ const STREAMS: [(usize, usize, usize, Full, Reply, Carried); 16] = [
         32,
         Full::Fails,
         Reply::Fails,
-        carried(Outcome::Failed, 32, 1, 1),
+        Outcome::Failed,
+        32,
+        1,
+        1,
     ),
 ];
 
 #[test]
 fn outcomes(rt: HostRuntime) -> Result<(), Fail> {
-    for (length, at_once, room, full, reply, expected) in STREAMS {
+    for (length, at_once, room, full, reply, outcome, written, writes, reads) in STREAMS {
+        let expected = carried(outcome, written, writes, reads);
         for packet in &PACKETS {
             if packet.as_slice().len() == length {
                 let mut wire = Wire::new(rt.alloc(), at_once, room, full, reply)?;
@@ -364,7 +383,7 @@ impl ReadCalls for Interrupted {
 }
 
 // A stream whose call with this number is interrupted.
-const fn interrupted(alloc: Global, at: usize) -> Interrupted {
+fn interrupted(alloc: Global, at: usize) -> Interrupted {
     Interrupted {
         at,
         calls: Vec::new(alloc),

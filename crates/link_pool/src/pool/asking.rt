@@ -46,7 +46,8 @@ impl<S: Drop> Pool<S> {
         requires nothing { slice_get self.old.view.claims slot ≡ Some claim.Nothing }
         requires database { database < length self.old.view.pools }
         ensures view { self.new.view
-            ≡ with_claim (with_queue self.old.view database (behind slot)) slot (claim.Waiting database) }
+            ≡ with_claim (with_queue self.old.view database (behind slot)) slot
+            (claim.Waiting database) }
         ensures streams { self.new.stored ≡ self.old.stored }
         ensures whole { IsPool self.new.view }
     {
@@ -82,8 +83,8 @@ impl<S: Drop> Pool<S> {
         true
     }
 
-    /// The wait of a slot's client is cancelled, if it waits: it leaves the queue, and its next
-    /// `acquire` answers `Cancelled`.
+    /// Cancels the wait of a slot's client, if it waits: it leaves the queue, and its next
+    /// `acquire` returns `Cancelled`.
     pub fn unwait(&mut self, slot: SlotNo)
         ensures step { UnwaitStep slot self.old.view self.new.view }
         ensures streams { self.new.stored ≡ self.old.stored }
@@ -142,9 +143,9 @@ impl<S: Drop> Pool<S> {
         lease
     }
 
-    /// The client of a slot leaves, if it has no link and no permit: it no longer waits, and a
-    /// cancelled wait is forgotten. A link that it gave back, if it is still quarantined, stays so until
-    /// its last cancel request ends.
+    /// The client of a slot leaves, unless it has a link or a permit. It no longer waits, a
+    /// cancelled wait is forgotten, and it can't get back a link that it gave back and that is
+    /// still quarantined.
     pub fn leave(&mut self, slot: SlotNo) -> LeaveReply
         ensures step { LeaveStep slot result self.old.view self.new.view }
         ensures streams { self.new.stored ≡ self.old.stored }
@@ -163,13 +164,16 @@ impl<S: Drop> Pool<S> {
         LeaveReply::Left
     }
 
-    // The client of a slot, which has nothing or waits for this database, gets an idle link of it, if one is idle.
+    // The client of a slot, which has nothing or waits, gets an idle link of the database, if one
+    // is idle.
     fn take_idle(&mut self, slot: SlotNo, database: DatabaseNo) -> Option<Lease<S>>
         requires slot { slot < length self.old.view.claims }
         requires database { database < length self.old.view.pools }
         requires free { may_ask (slice_get self.old.view.claims slot) ≡ true }
-        ensures got { IfSome result (λ lease. Gets slot database lease.details self.old.view self.new.view) }
-        ensures stream { IfSome result (λ lease. Takes lease.details.at lease.stream self.old.stored self.new.stored) }
+        ensures got { IfSome result
+            (λ lease. Gets slot database lease.details self.old.view self.new.view) }
+        ensures stream { IfSome result
+            (λ lease. Takes lease.details.at lease.stream self.old.stored self.new.stored) }
         ensures none { IfNone result (NoIdle database self.old.view) }
         ensures same { IfNone result (self.new ≡ self.old) }
         ensures whole { IsPool self.new.view }
@@ -186,11 +190,15 @@ impl<S: Drop> Pool<S> {
     // The free place of the database that is taken next, if one is free.
     fn next_free(&self, database: DatabaseNo) -> Option<LinkPlace>
         requires { database < length self.now.view.pools }
-        ensures free { IfSome result (λ at. IsNextFree self.now.view at × (at.database ≡ database)) }
+        ensures free { IfSome result
+            (λ at. IsNextFree self.now.view at × (at.database ≡ database)) }
         ensures none { IfNone result (NoneFree database self.now.view) }
         ensures whole { IsPool self.now.view }
     {
-        let index = self.pools[database.get() as usize].next_free()?;
+        let pool = &self.pools[database.get() as usize];
+        let Some(index) = pool.next_free() else {
+            return None;
+        };
         Some(LinkPlace { database, index })
     }
 
@@ -219,8 +227,8 @@ impl<S: Drop> Pool<S> {
         }
     }
 
-    // The client of a slot, which has nothing or waits for this database, gets an idle link of it, if
-    // nobody waits before it; else the leave to open one, if a place is free; else it waits.
+    // The client of a slot, which has nothing or waits, gets an idle link of the database, if
+    // nobody waits before it; else a permit, if a place is free; else it waits.
     fn ask(&mut self, slot: SlotNo, database: DatabaseNo) -> AcquireReply<Lease<S>, Permit>
         requires slot { slot < length self.old.view.claims }
         requires database { database < length self.old.view.pools }
@@ -254,10 +262,10 @@ impl<S: Drop> Pool<S> {
         AcquireReply::Open(permit)
     }
 
-    /// The client of a slot, which waits for no other database, asks for a link of this one. If its
-    /// wait was cancelled, then that is answered, once. Else it gets the link that it gave back, if
-    /// that is still quarantined, also where others wait. Else it gets an idle one, if nobody waits
-    /// before it; else the leave to open one, if a place is free; else it waits.
+    /// The client of a slot asks for a link of a database. `Cancelled` is returned first, once, if
+    /// its wait was cancelled. Otherwise the client gets the link that it gave back, if that is
+    /// still quarantined, even if others wait; an idle one, if nobody waits before it; a permit, if
+    /// no link is idle and a place is free. Otherwise it waits, or goes on waiting where it does.
     pub fn acquire(&mut self, slot: SlotNo, database: DatabaseNo) -> AcquireReply<Lease<S>, Permit>
         requires slot { slot < length self.old.view.claims }
         requires database { database < length self.old.view.pools }

@@ -20,15 +20,17 @@ use pg_ids::SlotNo;
 use quarantine::{Hold, HoldState};
 
 impl<S: Drop> Pool<S> {
-    // A link that isn't idle has these tickets. If it is quarantined, then it is idle once none is open, and it
-    // leaves the pool once it is condemned: its stream is returned. Then its giver can't get it back.
+    // A link that isn't idle has these tickets. If it is quarantined, then it is idle once none is
+    // open, and it leaves the pool once it is condemned: its stream is returned. In both cases the
+    // client that gave it back can't get it back.
     fn settle(&mut self, link: &Link, hold: Hold) -> Option<S>
         requires was { place_at self.old.view link.now.details.at ≡ Some (place.Link link.now) }
         requires not_idle { link.now.state ≢ state.Idle }
         requires few { hold.tickets ≤ 65535 }
         ensures view { self.new.view
             ≡ nothing_for (settled_giver link.now.state hold)
-            (with_place self.old.view link.now.details.at (settled_place hold (place.Link link.now))) }
+            (with_place self.old.view link.now.details.at
+            (settled_place hold (place.Link link.now))) }
         ensures streams { Leaves link.now.details.at result self.old.stored self.new.stored }
         ensures leaves { is_some result ≡ is_leaving hold (place.Link link.now) }
         ensures whole { IsPool self.new.view }
@@ -40,7 +42,8 @@ impl<S: Drop> Pool<S> {
 
     // The link of a ticket, if it has an open ticket.
     fn of_ticket(&self, ticket: &TicketRecord) -> Option<Link>
-        ensures found { IfSome result (λ link. IsTicket ticket.now link self.now.view × LinkFits self.now.view ticket.now.at link) }
+        ensures found { IfSome result (λ link. IsTicket ticket.now link self.now.view
+            × LinkFits self.now.view ticket.now.at link) }
         ensures stale { IfNone result (StaleTicket ticket.now self.now.view) }
         ensures whole { IsPool self.now.view }
     {
@@ -98,7 +101,8 @@ impl<S: Drop> Pool<S> {
     // The link of a place, if there is one.
     fn link_at(&self, at: LinkPlace) -> Option<Link>
         ensures link { IfSome result (λ link. place_at self.now.view at ≡ Some (place.Link link)) }
-        ensures none { IfNone result ((link : LinkOf) → place_at self.now.view at ≢ Some (place.Link link)) }
+        ensures none { IfNone result
+            ((link : LinkOf) → place_at self.now.view at ≢ Some (place.Link link)) }
     {
         let Some(Place::Link(link)) = self.place(at) else {
             return None;
@@ -109,7 +113,8 @@ impl<S: Drop> Pool<S> {
     // The link that the client of a slot has.
     fn lent(&self, slot: SlotNo) -> Option<Link>
         ensures lent { IfSome result (λ link. IsLent slot link.details.at link self.now.view) }
-        ensures none { IfNone result ((at : LinkPlaceOf) → slice_get self.now.view.claims slot ≢ Some (claim.Link at)) }
+        ensures none { IfNone result
+            ((at : LinkPlaceOf) → slice_get self.now.view.claims slot ≢ Some (claim.Link at)) }
         ensures whole { IsPool self.now.view }
     {
         let Some(claim) = self.claim(slot) else {
@@ -124,7 +129,7 @@ impl<S: Drop> Pool<S> {
         Some(link)
     }
 
-    // What the ticket with this number says of a link.
+    // What the ticket with this number carries, for this link.
     fn ticket(&self, number: u64, link: &Link) -> TicketRecord
         ensures { result ≡ record {
           peer = self.now.view.peer;
@@ -143,7 +148,8 @@ impl<S: Drop> Pool<S> {
         }
     }
 
-    /// A cancel request for the client of a slot: it goes to the server of the link that this very client has.
+    /// A cancel request for the client of a slot. It goes to the server of the link that this very
+    /// client has.
     pub fn serve(&mut self, slot: SlotNo) -> ServeReply<Ticket>
         ensures step { ServeStep slot result self.old.view self.new.view }
         ensures streams { self.new.stored ≡ self.old.stored }

@@ -1,9 +1,9 @@
 use Rattle.std.proofs.Common.{◌≡◌, false, Some, slice_get, sym, ap, subst, arith, ◌∙◌, refl}
 use Rattle.std.proofs.lemmas.Option.{slice_get_within, same_Some}
 use Rattle.link_pool.specs.declared.entry.Entry.TheVariants as entry
-use Rattle.link_pool.specs.Entries.{idle_entry, stored_link, IsQuarantined}
+use Rattle.link_pool.specs.Entries.{idle_entry, free_entry, stored_link, IsQuarantined}
 use Rattle.link_pool.proofs.Changes.{was_read}
-use Rattle.link_pool.proofs.Stacking.{relisted, below}
+use Rattle.link_pool.proofs.Stacking.{relisted}
 use Rattle.link_pool.proofs.database_links.DatabaseLinks.take_back.Goals as goal
 
 pub invariant_of-self : goal.invariant_of-self
@@ -18,7 +18,8 @@ invariant_of-self g c =
       c.self.invariant.0,
       c.self.invariant.1,
       relisted idle_entry entries c.self.inside.idle.items c.args.index was now q.is (refl {a = false}) c.self.invariant.2,
-      below entries c.args.index c.self.inside.lowest c.self.inside.lowest now within (omega arith) (λ e. absurd (cc)) c.self.invariant.3,
+      c.self.invariant.3,
+      relisted free_entry entries c.self.inside.free.items c.args.index was now q.is (refl {a = false}) c.self.invariant.4,
     )
 
 pub returns : goal.returns
@@ -27,4 +28,6 @@ returns g c = λ was h.
     let there : slice_get entries c.args.index ≡ Some was = subst (λ p. slice_get p.entries c.args.index ≡ Some was) (sym c.self.view_is) h in
     let read = was_read entries c.args.index c.args.index c.index_mut-entry.result.now refl (slice_get_within entries c.args.index was there) c.index_mut-entry.ensures.value in
     let is : c.index_mut-entry.result.now ≡ was = same_Some c.index_mut-entry.result.now was (sym read ∙ there) in
-    (c.lend.ensures.lease ∙ ap stored_link is, rw (c.lend.ensures.entry, is, ← c.self.view_is) refl)
+    let q : IsQuarantined (slice_get entries c.args.index) = subst (λ p. IsQuarantined (slice_get p.entries c.args.index)) (sym c.self.view_is) c.requires.quarantined in
+    let quarantined : was ≡ entry.Quarantined q.link q.key q.hold q.giver = same_Some was (entry.Quarantined q.link q.key q.hold q.giver) (sym there ∙ q.is) in
+    (c.lend.ensures.lease ∙ ap stored_link is, rw (c.lend.ensures.entry, is, quarantined, ← c.self.view_is) refl)

@@ -1,4 +1,4 @@
-use Rattle.std.proofs.Common.{◌≡◌, sym, subst, ap, ◌∙◌}
+use Rattle.std.proofs.Common.{◌≡◌, refl, sym, subst, ap, ◌∙◌}
 use Rattle.link_pool.specs.declared.place.Place.TheVariants as place
 use Rattle.link_pool.specs.Pool.{give_back, quarantine}
 use Rattle.link_pool.specs.OnePlace.{IsPool}
@@ -38,4 +38,4 @@ change-requires-in-Condemned-clause-slot g c =
 
 pub change-requires-in-Condemned-clause-whole : goal.change-requires-in-Condemned-clause-whole
 change-requires-in-Condemned-clause-whole g c =
-    vacated c.args.self.now.view c.details-details.result.at c.in-Some.field-0.slot c.held.ensures.whole (of_held c.args.self.now.view c.details-details.result c.in-Some.field-0.link c.in-Some.field-0.slot c.held.ensures.whole c.in-Some.ensures.held)
+    vacated c.args.self.now.view c.details-details.result.at c.in-Some.field-0.slot c.held.ensures.whole (of_held c.args.self.now.view c.details-details.result c.in-Some.field-0.link c.in-Some.field-0.slot c.held.ensures.whole c.in-Some.ensures.held) refl

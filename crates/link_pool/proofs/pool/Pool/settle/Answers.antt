@@ -21,8 +21,7 @@ invariant_of-self g c =
     let e = entry_seen pools at (place.Link c.args.link.now) was in
     let there = read_at pools at c.get.result c.index_mut-pool.result.now e.was c.get.ensures e.is c.index_mut-pool.ensures.value in
     let done = c.settle.ensures e.was (read_entry pools at c.index_mut-pool.result.now e.was there e.is) in
-    let seen = wrote_place pools at c.get.result c.index_mut-pool.result.now c.settle.new.self (settled c.args.hold e.was) c.get.ensures there done.1 in
-    (
+    let seen = wrote_place pools at c.get.result c.index_mut-pool.result.now c.settle.new.self (settled c.args.hold e.was) c.get.ensures there done.1 in (
       rw (seen, settled_at c.args.hold e.was, e.same, c.clear_claim.ensures, c.freed_giver.ensures) (settled_whole (pool_of c.self.inside).view at c.args.link.now c.args.hold c.requires.not_idle c.self.invariant.0 was c.requires.few),
       c.self.invariant.1 ∙ sym (ap length c.clear_claim.ensures ∙ claims_without-long c.freed_giver.result c.self.inside.claims.items),
     )

@@ -1,4 +1,4 @@
-use Rattle.std.proofs.Common.{◌≡◌, ℕ, Some, slice_get}
+use Rattle.std.proofs.Common.{◌≡◌, ◌∙◌, ℕ, Some, slice_get}
 use Rattle.link_pool.specs.declared.place.Claim.TheVariants as claim
 use Rattle.link_pool.specs.Pool.{PoolView}
 use Rattle.link_pool.proofs.Asking.{cancelled_whole, cancelled_after}

@@ -3,7 +3,7 @@ use Rattle.locked_node.specs.declared.tally.Row.{Row}
 use Rattle.locked_node.specs.CallNumbers.{numbers_of}
 use Rattle.locked_node.specs.Totals.{SumsUp}
 use Rattle.locked_node.proofs.Tallies.{with_calls, with_sums}
-use Rattle.locked_node.proofs.Widths.{wide}
+use Rattle.locked_node.proofs.Widths.{narrow}
 use Rattle.locked_node.proofs.tally.Row.count.Goals as goal
 
 pub returns-clause-calls : goal.returns-clause-calls
@@ -11,7 +11,7 @@ returns-clause-calls c = ap (λ (row : Row). row.calls) c.add.ensures ∙ with_c
 
 pub returns-clause-sums : goal.returns-clause-sums
 returns-clause-sums c =
-    let long : length c.args.self.now.sums ≡ 11 = search rules in
-    let most = (wide c.args.call.now).1 in
+    let long : length c.args.self.now.sums ≡ 12 = search rules in
+    let most = narrow c.args.call.now in
     subst (λ (row : Row). SumsUp c.args.self.now.sums (numbers_of c.args.call.now) row.sums) (sym c.add.ensures)
     (with_sums _ (numbers_of c.args.call.now) (omega (arith, long, most)))
