@@ -40,8 +40,6 @@ has_lengths (client ∷ clients) (had ∷ claims) has =
 pub record MayAsk (v : NodeView) (slot : ℕ) (client : Client) : Type 0 where
   pub within : slot < length v.links.claims
   pub database : client.database < length v.links.pools
-  pub waits : (other : ℕ) → slice_get v.links.claims slot ≡ Some (Claim.Waiting other)
-      → other ≡ client.database
 
 pub may_ask : (v : NodeView) (slot : ℕ) (client : Client) → IsNode v → IsClient v slot client
     → MayAsk v slot client
@@ -54,7 +52,6 @@ may_ask v slot client node there =
     record {
       within = omega (arith, below, slots);
       database = omega (arith, few, pools);
-      waits = λ other e. rw (there, e) at (node.has slot);
     }
 
 -- a slot has an entry in the table exactly where it has a client

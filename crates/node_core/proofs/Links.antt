@@ -1,5 +1,6 @@
 -- What is known of a node stays so through the steps of its links.
 use Rattle.std.proofs.Common.{◌≡◌, ℕ, zero, suc, true, false, ◌<◌, ◌⊎◌, inl, inr, List, [], ◌∷◌, Option, Some, None, length, refl, ap, ◌∙◌, length-set}
+use Rattle.std.specs.Prelude.{slice_set}
 use Rattle.std.specs.List.{slice_get}
 use Rattle.std.proofs.lemmas.List.{length-replicate}
 use Rattle.std.proofs.lemmas.Option.{slice_get-get_or}
@@ -9,7 +10,7 @@ use Rattle.link_pool.specs.declared.place.{Place.Place, Claim.Claim}
 use Rattle.link_pool.specs.declared.replies.{AcquireReply.AcquireReply, UpReply.UpReply, UpFailedReply.UpFailedReply}
 use Rattle.link_pool.specs.declared.replies.{ReleaseReply.ReleaseReply, CloseReply.CloseReply, ServeReply.ServeReply}
 use Rattle.link_pool.specs.declared.replies.{EndedReply.EndedReply, FailedReply.FailedReply}
-use Rattle.link_pool.specs.Pool.{DatabasePool, PoolView, place_at, changed, with_place, with_queue, with_claim, give_back, quarantine, nothing_for, out_of_queue, unqueued, without_giver, departed_by, departed, unwaited_by, unwaited, in_queue, others, behind}
+use Rattle.link_pool.specs.Pool.{DatabasePool, PoolView, place_at, changed, placed, with_place, with_queue, with_claim, give_back, quarantine, nothing_for, out_of_queue, unqueued, without_giver, departed_by, departed, unwaited_by, unwaited, in_queue, others, behind}
 use Rattle.link_pool.specs.OnePlace.{IsPool, sizes, has_link, held_by, has_permit, open_for}
 use Rattle.link_pool.specs.PoolStep.{is_holding, emptied, empty_pools, AcquireStep, UpStep, UpFailedStep, ReleaseStep, CloseStep, ServeStep, EndedStep, FailedStep}
 use Rattle.std.proofs.lemmas.Bool.{eq-eqb}
@@ -58,11 +59,15 @@ kept node links peer sized has = record {
   numbers = node.numbers;
 }
 
--- what is at a place changes
+-- what is at a place changes, and the stack of free places
+placed_kept : {v : NodeView} → IsNode v → (at : LinkPlace) (p : Place)
+    (restack : List ℕ → List ℕ) → IsNode (with_links v (placed v.links at p restack))
+placed_kept {v} node at p restack = kept node _ refl
+    (sizes_changed v.links.pools at.database _ (λ pool. length-set pool.places at.index p)) node.has
+
 place_kept : {v : NodeView} → IsNode v → (at : LinkPlace) (p : Place)
     → IsNode (with_links v (with_place v.links at p))
-place_kept {v} node at p = kept node _ refl
-    (sizes_changed v.links.pools at.database _ (λ pool. length-set pool.places at.index p)) node.has
+place_kept node at p = placed_kept node at p _
 
 -- a queue changes
 queue_kept : {v : NodeView} → IsNode v → (d : ℕ) (change : List ℕ → List ℕ)
@@ -150,7 +155,7 @@ nothing_as v slot None e within free =
     absurd (cc (slice_get-get_or v.claims slot Claim.Nothing within))
 nothing_as v slot (Some Claim.Nothing) e within free = e
 nothing_as v slot (Some (Claim.Gave at)) e within free =
-    ap (λ (cs : List Claim). slice_get (set cs slot Claim.Nothing) slot)
+    ap (λ (cs : List Claim). slice_get (slice_set cs slot Claim.Nothing) slot)
     (same_claims v at (place_at v at)) ∙ slice_get-set_same v.claims slot Claim.Nothing within
 nothing_as v slot (Some (Claim.Open at)) e within free = absurd (cc)
 nothing_as v slot (Some (Claim.Link at)) e within free = absurd (cc)
@@ -200,7 +205,7 @@ acquire_kept new slot client (AcquireReply.Got lease) node there (inr step) = rw
     (own_kept (place_kept (unqueued_kept node slot) lease.at _) slot client
     (Claim.Link lease.at) there step.1.of)
 acquire_kept new slot client (AcquireReply.Open permit) node there step = rw step.2.after
-    (numbered (own_kept (place_kept (unqueued_kept node slot) permit.at _) slot client
+    (numbered (own_kept (placed_kept (unqueued_kept node slot) permit.at _ _) slot client
     (Claim.Open permit.at) there step.2.of) _ _ _)
 acquire_kept {v} new slot client AcquireReply.Waiting node there step =
     rw step.2 (in_kept node slot client there (slice_get v.links.claims slot))

@@ -1,6 +1,6 @@
 //! Clients that log in, and leave.
 ghost use Rattle.std.specs.Prelude.{◌≡◌, ◌<◌, ◌≤◌, ◌^◌, IfSome, IfNone, IfOk, IfErr, length};
-ghost use Rattle.pg_ids.specs.declared.any_key.Kind.TheVariants as kind;
+ghost use Rattle.pg_ids.specs.declared.any_key.Kind.TheVariants.{Long};
 ghost use Rattle.node_core.specs.declared.exchange.Exchange.TheVariants as call;
 ghost use Rattle.node_core.specs.declared.refusal.JoinRefusal.TheVariants as join;
 ghost use Rattle.node_core.specs.NodeStep.{IsStep, IsPass, StalePass, HasSerial, part_of, serial_after};
@@ -32,7 +32,7 @@ impl<S: Drop> NodeCore<S> {
     fn next_part(&self, kind: Kind) -> Result<Option<LongPart>, JoinRefusal>
         ensures part { IfOk result (λ part. part ≡ part_of kind self.now.view) }
         ensures left { IfOk result (λ _. HasSerial kind self.now.view.next_serial) }
-        ensures none { IfErr result (λ refusal. (refusal ≡ join.Exhausted) × (kind ≡ kind.Long)
+        ensures none { IfErr result (λ refusal. (refusal ≡ join.Exhausted) × (kind ≡ Long)
             × (self.now.view.next_serial ≡ 2 ^ 64)) }
     {
         match kind {

@@ -21,5 +21,6 @@ invariant_of-self-2 g c =
     let given = c.in-Some-give.ensures.given in
     let key = c.in-Ok.ensures in
     let known = rw (← c.self.view_is) at c.requires in
-    rw c.get.ensures (joined_view _ _ _ _ _ _ _ c.self.invariant next.free (sym next.value)
-    key.issued key.next known given.0 given.2 (omega (arith, given)))
+    let serial = c.advance.ensures.within c.self.invariant.numbers.1 in
+    rw c.get.ensures (joined_view _ _ _ _ _ _ _ _ _ c.self.invariant next.free (sym next.value)
+    key.issued key.next known given.0 given.2 (omega (arith, given), serial))

@@ -1,4 +1,4 @@
-use Rattle.std.proofs.Common.{rules, ◌≡◌, ◌∙◌, ℕ, ap, sym, None, replicate, length, vec_len}
+use Rattle.std.proofs.Common.{rules, ◌≡◌, ◌∙◌, ℕ, ap, sym, None, replicate, length, vec_len, arith}
 use Rattle.std.specs.Option.{is_some}
 use Rattle.std.proofs.lemmas.List.{length-map}
 use Rattle.link_pool.specs.declared.place.Claim.{Claim}
@@ -23,4 +23,5 @@ invariant_of-self g c =
     none_view _ slots (clear.peer ∙ known.own.0) (rw step known.own.1) clear.next
     (clear.free ∙ ap (λ (n : ℕ). replicate n None) entries) free
     (rw step (ap (λ (n : ℕ). replicate n Claim.Nothing) claims))
-    (rw step (sizes_emptied node.links.pools ∙ known.sized)) known.numbers
+    (rw step (sizes_emptied node.links.pools ∙ known.sized))
+    (known.numbers.0, let zero_is = c.new-self-inside.ensures in omega (arith, zero_is))
