@@ -183,11 +183,11 @@ fn command<'a>(alloc: Global, name: CommandName) -> Result<Command<'a>, AllocErr
 }
 
 fn key_command<'a>(alloc: Global) -> Result<Command<'a>, AllocError> {
-    let key = Arg::new(alloc, "HEX16|HEX48")
-        .required(true)
-        .help("The key's eight bytes in 16 hexadecimal digits, or a long key's 24 in 48");
+    let key = Arg::new(alloc, "HEX16|HEX48").required(true).help(KEY);
     command(alloc, CommandName::Key)?.arg(key)
 }
+
+const KEY: &str = "The key's eight bytes in 16 hexadecimal digits, or a long key's 24 in 48";
 
 const AFTER_KEY: &str = "\
 Examples:
@@ -211,9 +211,7 @@ fn decide_command<'a>(alloc: Global) -> Result<Command<'a>, AllocError> {
         .long("live")
         .value_name("C,C..")
         .help(LIVE);
-    let packet = Arg::new(alloc, "HEX")
-        .required(true)
-        .help("A connection's first packet, in hexadecimal digits; a cancel request has 16 or 32 bytes");
+    let packet = Arg::new(alloc, "HEX").required(true).help(PACKET);
     command(alloc, CommandName::Decide)?
         .override_usage("pgpeer decide --me <N> [--peers <P,P..>] [--live <C,C..>] <HEX>")
         .arg(me)?
@@ -221,6 +219,9 @@ fn decide_command<'a>(alloc: Global) -> Result<Command<'a>, AllocError> {
         .arg(live)?
         .arg(packet)
 }
+
+const PACKET: &str =
+    "A connection's first packet, in hexadecimal digits; a cancel request has 16 or 32 bytes";
 
 const LIVE: &str = "\
 Its clients in the order of their logins, at most 65535, each by its secret,
