@@ -1,5 +1,5 @@
 -- A client that asks for a link: its view once it has left the queue.
-use Rattle.std.proofs.Common.{◌≡◌, ◌≢◌, ℕ, ◌+◌, ◌^◌, ◌<◌, true, false, arith, List, Option, Some, None, length, map, refl, ap, sym, ◌∙◌, subst}
+use Rattle.std.proofs.Common.{◌≡◌, ℕ, ◌+◌, ◌^◌, ◌<◌, true, arith, List, Option, Some, None, length, map, refl, ap, sym, ◌∙◌, subst}
 use Rattle.std.proofs.lemmas.List.{set-set}
 use Rattle.std.specs.Prelude.{slice_set}
 use Rattle.std.specs.List.{slice_get}
@@ -10,11 +10,11 @@ use Rattle.link_pool.specs.declared.place.Place.{Place}
 use Rattle.link_pool.specs.declared.place.Place.TheVariants as place
 use Rattle.link_pool.specs.declared.place.Claim.{Claim}
 use Rattle.link_pool.specs.declared.place.Claim.TheVariants as claim
-use Rattle.link_pool.specs.Pool.{PoolView, place_at, free_at, queue_at, with_place, with_queue, with_claim, keep, out_of_queue, unqueued, departed_by, departed, unwaited_by, unwaited}
+use Rattle.link_pool.specs.Pool.{PoolView, place_at, free_at, queue_at, with_place, with_queue, with_claim, keep, out_of_queue, unqueued, unwaited_by, unwaited}
 use Rattle.link_pool.specs.Stacks.{top}
 use Rattle.slot_queues.specs.Queues.{others}
 use Rattle.link_pool.specs.OnePlace.{Fits, PermitFits, IsPool}
-use Rattle.link_pool.specs.PoolStep.{is_holding, may_ask, IsNextFree}
+use Rattle.link_pool.specs.PoolStep.{may_ask, IsNextFree}
 use Rattle.link_pool.proofs.Places.{slice_get-set_same}
 use Rattle.link_pool.proofs.Queues.{left, all_stay, all_left}
 use Rattle.link_pool.proofs.Whole.{reclaimed}
@@ -41,29 +41,6 @@ nothing_out (Some (claim.Waiting d)) v slot e within h = slice_get-set_same v.cl
 nothing_out (Some (claim.Open k)) v slot e within h = absurd (cc)
 nothing_out (Some (claim.Link k)) v slot e within h = absurd (cc)
 nothing_out (Some (claim.Gave k)) v slot e within h = absurd (cc)
-
--- who has neither a link nor a permit, is owed no answer and gave no link back has nothing, or waits
-pub asks : (o : Option Claim) → is_holding o ≡ false → o ≢ Some claim.Cancelled → ((at : LinkPlace) → o ≢ Some (claim.Gave at)) → may_ask o ≡ true
-asks None h c g = refl
-asks (Some claim.Nothing) h c g = refl
-asks (Some claim.Cancelled) h c g = absurd (c refl)
-asks (Some (claim.Waiting d)) h c g = refl
-asks (Some (claim.Open k)) h c g = absurd (cc)
-asks (Some (claim.Link k)) h c g = absurd (cc)
-asks (Some (claim.Gave k)) h c g = absurd (g k refl)
-
--- and so it leaves its queue, if it waits, and nothing else
-departed_out : (o : Option Claim) (v : PoolView) (slot : ℕ) → may_ask o ≡ true → departed_by o v slot ≡ out_of_queue o v slot
-departed_out None v slot h = refl
-departed_out (Some claim.Nothing) v slot h = refl
-departed_out (Some claim.Cancelled) v slot h = absurd (cc)
-departed_out (Some (claim.Waiting d)) v slot h = refl
-departed_out (Some (claim.Open k)) v slot h = absurd (cc)
-departed_out (Some (claim.Link k)) v slot h = absurd (cc)
-departed_out (Some (claim.Gave k)) v slot h = absurd (cc)
-
-pub departed_unqueued : (v : PoolView) (slot : ℕ) → may_ask (slice_get v.claims slot) ≡ true → departed v slot ≡ unqueued v slot
-departed_unqueued v slot h = departed_out (slice_get v.claims slot) v slot h
 
 -- the client has nothing
 pub nothing_unqueued : (v : PoolView) (slot : ℕ) → slot < length v.claims → may_ask (slice_get v.claims slot) ≡ true → slice_get (unqueued v slot).claims slot ≡ Some claim.Nothing

@@ -126,7 +126,7 @@ new_stored S sizes at = none_stored S (λ size. size) sizes at.database at.index
 pub freed_stored : {S : Type 0} (pools : List (Entries S)) → NothingStored (map streams_in (map freed pools))
 freed_stored {S} pools at = none_stored S (λ (pool : Entries S). length pool.entries) pools at.database at.index
 
--- the first so many of a list are changed
+-- the first items of a list are changed
 pub get_mapped : {X : Type 0} (f : X → X) (old : List X) (i : ℕ) (d : X) → i < length old → get_or (map f (take i old) ++ drop i old) i d ≡ get_or old i d
 get_mapped f [] i d h = absurd (omega arith)
 get_mapped f (x ∷ xs) zero d h = refl

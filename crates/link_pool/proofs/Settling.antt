@@ -17,7 +17,7 @@ use Rattle.link_pool.specs.declared.place.Claim.{Claim}
 use Rattle.link_pool.specs.declared.place.Claim.TheVariants as claim
 use Rattle.link_pool.specs.Pool.{PoolView, place_at, with_place, claims_without, nothing_for}
 use Rattle.link_pool.specs.OnePlace.{StateFits, IsPool}
-use Rattle.link_pool.specs.PoolStep.{is_idle_state, with_hold}
+use Rattle.link_pool.specs.PoolStep.{with_hold}
 use Rattle.link_pool.specs.Parts.{quarantined_place, settled_link, settled_place, freed_giver, settled_giver, is_leaving, Leaves}
 use Rattle.link_pool.proofs.Entries.{entry_at, with_stream, stays, moves}
 use Rattle.link_pool.proofs.Handing.{of_given, held_on, cleared, dropped}
@@ -113,13 +113,3 @@ settled_slot v at link hold whole was = settled_slot_in link.state v at link hol
 pub claims_without-long : (giver : Option ℕ) (claims : List Claim) → length (claims_without giver claims) ≡ length claims
 claims_without-long None claims = refl
 claims_without-long (Some slot) claims = length-set claims slot claim.Nothing
-
-pub not_idle_state : (x : LinkState) → x ≢ state.Idle → is_idle_state x ≡ false
-not_idle_state state.Idle n = absurd (n refl)
-not_idle_state (state.Held slot) n = refl
-not_idle_state (state.Quarantined giver) n = refl
-
--- no stream leaves
-pub nothing_left : {S : Type 0} (at : LinkPlace) (o : Option S) (old new : List (List (Option S))) → is_some o ≡ false → Leaves at o old new → new ≡ old
-nothing_left at None old new e l = l
-nothing_left at (Some stream) old new e l = absurd (cc)

@@ -2,7 +2,8 @@
 use Rattle.std.proofs.Common.{◌≡◌, ◌≢◌, ℕ, zero, suc, ◌+◌, ◌-◌, ◌<◌, ◌≤◌, ◌==◌, Bool, true, false, List, [], ◌∷◌, ◌++◌, Option, None, Some, IfNone, length, replicate, take, refl, ap, subst, sym, ◌∙◌, arith, length-append, append_assoc, ⊎_elim, if◌then◌else◌}
 use Rattle.std.proofs.Math.ListN.{set}
 use Rattle.std.specs.List.{slice_get}
-use Rattle.std.proofs.lemmas.Option.{slice_get_within, slice_get-get_or}
+use Rattle.std.proofs.lemmas.List.{length-replicate, get_or-replicate}
+use Rattle.std.proofs.lemmas.Option.{slice_get_within, slice_get_past, slice_get-get_or}
 use Rattle.std.proofs.lemmas.Bool.{cases_eq, cases_lt}
 use Rattle.slot_queues.specs.Queues.{times}
 use Rattle.link_pool.specs.Stacks.{how_many, IsStack, put_on, top, under_top, all_places}
@@ -147,14 +148,12 @@ all_within i (suc n) within = ⊎_elim
     (cases_eq i n)
 
 each_within : {X : Type 0} (x : X) (n i : ℕ) → i < n → slice_get (replicate n x) i ≡ Some x
-each_within x zero i within = absurd (omega (arith, within))
-each_within x (suc n) zero within = refl
-each_within x (suc n) (suc i) within = each_within x n i (omega (arith, within))
+each_within x n i within =
+    let long = length-replicate n x in
+    slice_get-get_or (replicate n x) i x (omega (arith, within, long)) ∙ ap Some (get_or-replicate n i x x within)
 
 none_past : {X : Type 0} (x : X) (n i : ℕ) → n ≤ i → slice_get (replicate n x) i ≡ None
-none_past x zero i past = refl
-none_past x (suc n) zero past = absurd (omega (arith, past))
-none_past x (suc n) (suc i) past = none_past x n i (omega (arith, past))
+none_past x n i past = let long = length-replicate n x in slice_get_past (replicate n x) i (omega (arith, past, long))
 
 all_counted : {X : Type 0} (kind : Option X → Bool) (x : X) (n : ℕ) → kind (Some x) ≡ true → length (all_places n) ≡ how_many kind (replicate n x)
 all_counted kind x zero is = refl

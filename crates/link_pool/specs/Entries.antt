@@ -152,7 +152,7 @@ pool_in pool = record { places = map place_of pool.entries; free = pool.free }
 abbrev pub streams_in : {S : Type 0} → Entries S → List (Option S)
 streams_in pool = map stream_of pool.entries
 
--- so many free places
+-- the entries of a pool of this size, all free
 abbrev pub new_links : {S : Type 0} → ℕ → Entries S
 new_links size = record { entries = replicate size entry.Free; free = all_places size }
 

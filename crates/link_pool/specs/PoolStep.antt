@@ -213,7 +213,7 @@ UpStep permit key (up.Exhausted again stream) old new =
     (again ≡ permit) × ((slot : ℕ) × IsOpen permit slot old) × (old.next_link ≡ 2 ^ 64)
     × (new ≡ old)
 UpStep permit key (up.Stale stream) old new = StalePermit permit old × (new ≡ old)
--- the pools come to no end
+-- only a node returns this
 UpStep permit key (up.AtEnd stream) old new = ⊥
 
 -- a link couldn't be opened

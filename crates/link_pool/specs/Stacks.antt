@@ -26,7 +26,7 @@ top stack = slice_get stack (length stack - 1)
 abbrev pub under_top : List ℕ → List ℕ
 under_top stack = take (length stack - 1) stack
 
--- so many places, of which the first is taken first
+-- all places of a pool of this size, of which the first is taken first
 abbrev pub all_places : ℕ → List ℕ
 all_places zero = []
 all_places (suc size) = size ∷ all_places size

@@ -39,7 +39,7 @@ impl<S> Model for DatabaseLinks<S> {
         × IsStack free_entry p.entries.items p.free.items };
 }
 
-// So many free places.
+// As many free places as the size.
 fn free_places<S: Drop>(entries: &mut Vec<Entry<S>>, size: u16)
     requires none { entries.old.items ≡ [] }
     requires room { size ≤ vec_capacity entries.old }
@@ -50,7 +50,7 @@ fn free_places<S: Drop>(entries: &mut Vec<Entry<S>>, size: u16)
     }
 }
 
-// So many places are on the stack, of which the first is taken first.
+// Puts all places of a pool of this size on the stack, of which the first is taken first.
 fn stack_all(stack: &mut Vec<u16>, size: u16)
     requires none { stack.old.items ≡ [] }
     requires room { size ≤ vec_capacity stack.old }

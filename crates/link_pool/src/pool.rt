@@ -51,8 +51,8 @@ impl<S> Model for Pool<S> {
 }
 
 impl<S: Drop> Pool<S> {
-    /// The pools of the node with this number: one of each size, by database, for so many slots,
-    /// with no link. They take all the memory that they need.
+    /// The pools of the node with this number: one of each size, by database, for this number of
+    /// slots, with no link. They take all the memory that they need.
     pub fn new(
         alloc: Global,
         me: PeerNo,

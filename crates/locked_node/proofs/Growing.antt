@@ -1,6 +1,8 @@
 -- A step keeps what the settings fix, and the incarnation and the next numbers grow by what it makes.
-use Rattle.std.proofs.Common.{◌≡◌, ℕ, ◌+◌, ◌≤◌, List, Option, Some, None, Ok, Err, refl, sym, ap, ◌∙◌, subst, ◌*◌, ⊎_elim, arith}
+use Rattle.std.proofs.Common.{◌≡◌, ◌≢◌, ℕ, ◌+◌, ◌≤◌, List, Option, Some, None, Ok, Err, refl, sym, ap, ◌∙◌, subst, ◌*◌, ⊎_elim, arith}
 use Rattle.std.specs.Prelude.{if◌then◌else◌, ◌==◌, slice_get}
+use Rattle.std.proofs.Common.{eq-eqb, ne_eqb}
+use Rattle.std.proofs.lemmas.Bool.{cases_eq}
 use Rattle.lease.specs.declared.ticket.TicketRecord.{TicketRecord}
 use Rattle.link_pool.specs.declared.place.Claim.{Claim}
 use Rattle.link_pool.specs.declared.place.Claim.TheVariants as claim
@@ -15,7 +17,9 @@ use Rattle.link_pool.specs.declared.replies.RestartReply.TheVariants as restart
 use Rattle.link_pool.specs.declared.place.Place.{Place}
 use Rattle.link_pool.specs.declared.place.Place.TheVariants as place
 use Rattle.lease.specs.declared.link_place.LinkPlace.{LinkPlace}
-use Rattle.link_pool.specs.Pool.{PoolView, place_at, out_of_queue, unqueued, without_giver, departed_by, departed, unwaited_by, unwaited, nothing_for, in_queue, queued}
+use Rattle.link_pool.specs.declared.place.LinkState.TheVariants as state
+use Rattle.link_pool.specs.PoolStep.{giver_of, with_hold, one_less}
+use Rattle.link_pool.specs.Pool.{PoolView, place_at, with_place, in_state, out_of_queue, unqueued, without_giver, departed_by, departed, unwaited_by, unwaited, nothing_for, in_queue, queued}
 use Rattle.cancel_router.specs.declared.refusal.RouteRefusal.TheVariants as route
 use Rattle.cancel_router.specs.declared.decision.Route.{Route}
 use Rattle.cancel_router.specs.declared.decision.Route.TheVariants as route_to
@@ -46,8 +50,14 @@ one answer call = if answer_index (answer_of call) == answer_index answer then 1
 by_key : (k : Kind) (a n : ℕ)
     → (if 2 * a + key_index k == 2 * n + 0 then 1 else 0) + (if 2 * a + key_index k == 2 * n + 1 then 1 else 0)
     ≡ (if a == n then 1 else 0)
-by_key Short a n = TODO
-by_key Long a n = TODO
+by_key Short a n = ⊎_elim
+    (λ (e : a ≡ n). rw (eq-eqb (2 * a + 0) (2 * n + 0) (omega (arith, e)), ne_eqb (2 * a + 0) (2 * n + 1) (λ h. absurd (omega (arith, h))), eq-eqb a n e) refl)
+    (λ (ne : a ≢ n). rw (ne_eqb (2 * a + 0) (2 * n + 0) (λ h. ne (omega (arith, h))), ne_eqb (2 * a + 0) (2 * n + 1) (λ h. absurd (omega (arith, h))), ne_eqb a n ne) refl)
+    (cases_eq a n)
+by_key Long a n = ⊎_elim
+    (λ (e : a ≡ n). rw (ne_eqb (2 * a + 1) (2 * n + 0) (λ h. absurd (omega (arith, h))), eq-eqb (2 * a + 1) (2 * n + 1) (omega (arith, e)), eq-eqb a n e) refl)
+    (λ (ne : a ≢ n). rw (ne_eqb (2 * a + 1) (2 * n + 0) (λ h. absurd (omega (arith, h))), ne_eqb (2 * a + 1) (2 * n + 1) (λ h. ne (omega (arith, h))), ne_eqb a n ne) refl)
+    (cases_eq a n)
 
 pub by_kinds : (answer : CallAnswer) (call : Exchange)
     → (if is_of (index_of (short answer)) call then 1 else 0) + (if is_of (index_of (long answer)) call then 1 else 0)
@@ -162,6 +172,11 @@ still old new e = unmoved old new (ap fixed_of e) (ap (λ (v : NodeView). v.next
 linked : (old new : NodeView) (links : PoolView) → numbers links ≡ numbers old.links → new.links ≡ links → new ≡ record old { links = new.links } → Grows 0 0 0 0 0 old new
 linked old new links same e after = unmoved old new (ap fixed_of after) (ap (λ (v : NodeView). v.next_pass) after) (ap numbers e ∙ same)
 
+-- a step of the links, after which a client that gave a link back has nothing any more
+taking : (old new : NodeView) (giver : Option ℕ) (v : PoolView) → new.links ≡ nothing_for giver v
+    → new ≡ record old { links = new.links } → numbers v ≡ numbers old.links → Grows 0 0 0 0 0 old new
+taking old new giver v e after same = linked old new (nothing_for giver v) (taken_over giver v ∙ same) e after
+
 -- a cancel request that isn't sent to a server
 forwarded : (slot : ℕ) (r : Route) (to : ℕ) (packet : Packet) (old new : NodeView) → Orders slot r (order.Forward to packet) old new → Grows 0 0 0 0 0 old new
 forwarded slot (route_to.Forward peer key) to packet old new o = still old new o.2
@@ -240,12 +255,15 @@ step_grows old (Cancel key (order.Refused (cancel.Route route.NoPeer))) new step
 step_grows old (Cancel key (order.Refused (cancel.Route route.NoLink))) new step = refused _ _ (cancel.Route route.NoLink) old new step
 step_grows old (Cancel key (order.Refused cancel.Busy)) new step = refused _ _ cancel.Busy old new step
 step_grows old (Cancel key (order.Refused cancel.Exhausted)) new step = refused _ _ cancel.Exhausted old new step
-step_grows old (Ended ticket ended.Freed) new step = linked old new _ (taken_over _ _) step.0.4 step.1
+step_grows old (Ended ticket ended.Freed) new step =
+    let link = step.0.0 in
+    taking old new (giver_of link.state) (with_place old.links ticket.at (place.Link (in_state state.Idle (with_hold link (one_less link.hold))))) step.0.4 step.1 refl
 step_grows old (Ended ticket ended.Counted) new step = linked old new _ refl step.0.3 step.1
 step_grows old (Ended ticket ended.Stale) new step = linked old new _ refl step.0.1 step.1
 step_grows old (Ended ticket ended.Exhausted) new step = absurd step.0
 step_grows old (Failed ticket failed.Condemned) new step = linked old new _ refl step.0.4 step.1
-step_grows old (Failed ticket (failed.Closed stream)) new step = linked old new _ (taken_over _ _) step.0.3 step.1
+step_grows old (Failed ticket (failed.Closed stream)) new step =
+    taking old new (giver_of step.0.0.state) (with_place old.links ticket.at place.Free) step.0.3 step.1 refl
 step_grows old (Failed ticket failed.Stale) new step = linked old new _ refl step.0.1 step.1
 step_grows old (Failed ticket failed.Exhausted) new step = absurd step.0
 step_grows old (Restart boot restart.Restarted) new step = let e = step.after in

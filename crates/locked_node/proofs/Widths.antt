@@ -1,8 +1,8 @@
 -- A kind fixes how many numbers its calls have.
 use Rattle.std.proofs.Common.{◌≡◌, ℕ, ◌+◌, ◌*◌, ◌≤◌, Bool, true, false, List, [], ◌∷◌, length, None, Some, Ok, Err, refl, sym, ap, ◌∙◌, subst, arith}
-use Rattle.std.specs.Prelude.{slice_index, if◌then◌else◌}
+use Rattle.std.specs.Prelude.{slice_index, ◌==◌, if◌then◌else◌}
 use Rattle.std.proofs.lemmas.List.{length-append}
-use Rattle.pg_ids.specs.AnyKey.{any_key, any_bytes, any_lowered, kind_of}
+use Rattle.pg_ids.specs.AnyKey.{any_key, any_lowered, kind_of, short_of, peer_of, slot_of}
 use Rattle.pg_ids.specs.declared.client_key.ClientKey.{ClientKey}
 use Rattle.pg_ids.specs.declared.any_key.AnyKey.{AnyKey}
 use Rattle.pg_ids.specs.declared.any_key.AnyKey.TheVariants as key
@@ -10,8 +10,9 @@ use Rattle.pg_ids.specs.declared.any_key.Kind.{Kind}
 use Rattle.pg_ids.specs.declared.any_key.Kind.TheVariants.{Short, Long}
 use Rattle.startup.specs.CancelPacket.{cancel_packet}
 use Rattle.startup.specs.declared.packet.Packet.{Packet}
-use Rattle.cancel_router.specs.Route.{served, route}
-use Rattle.key_table.specs.Slots.{Slots}
+use Rattle.std.specs.List.{list_any}
+use Rattle.cancel_router.specs.Route.{served, at_home, away, route}
+use Rattle.key_table.specs.Slots.{Slots, names}
 use Rattle.cancel_router.specs.declared.refusal.RouteRefusal.TheVariants as lost
 use Rattle.cancel_router.specs.declared.table_view.Standing.{Standing}
 use Rattle.cancel_router.specs.declared.table_view.Standing.TheVariants as standing
@@ -61,7 +62,7 @@ issued_kind Short v first = refl
 issued_kind Long v first = refl
 
 -- a key that goes on by this way is of the request's kind
-SentAs : AnyKey → Route → Type 0
+abbrev SentAs : AnyKey → Route → Type 0
 SentAs k (way.Forward to sent) = kind_of sent ≡ kind_of k
 SentAs k (way.Send link) = Unit {0}
 SentAs k (way.Unwait slot) = Unit {0}
@@ -94,7 +95,9 @@ sent_by false false home out k at_home away = away
 sent_as : (me : ℕ) (peers : List ℕ) (slots : Slots) (stands : ℕ → Standing) (k : AnyKey)
     → SentAs k (route me peers slots stands k)
 sent_as me peers slots stands k =
-    sent_by _ _ _ _ k (sent_home _ _ _ k) (sent_away _ _ _ k)
+    sent_by ((short_of k).hops == 0) (peer_of k == me) (at_home slots stands k (slot_of k))
+    (away peers k) k (sent_home (names slots k) (slot_of k) (stands (slot_of k)) k)
+    (sent_away ((short_of k).hops == 1) (list_any (λ peer. peer == peer_of k) peers) (peer_of k) k)
 
 forwarded_wide : (slot : ℕ) (r : Route) (to : ℕ) (packet : Packet) (k : AnyKey)
     (old new : NodeView) → SentAs k r → Orders slot r (order.Forward to packet) old new
@@ -118,8 +121,8 @@ wide old new (Join database secret asked (Ok pass)) step =
     let k = key_wide pass.key in
     let same = ap key_width (ap kind_of step.slot.key ∙ issued_kind asked old _) in
     omega (arith, k, same)
-wide old new (Join database secret asked (Err join.Full)) step = refl
-wide old new (Join database secret asked (Err join.Exhausted)) step = refl
+wide old new (Join database secret asked (Err join.Full)) step = omega arith
+wide old new (Join database secret asked (Err join.Exhausted)) step = omega arith
 wide old new (Leave pass (leave.Holding again)) step =
     let k = key_wide pass.key in
     let other = key_wide again.key in

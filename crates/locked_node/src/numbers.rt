@@ -1,5 +1,5 @@
 //! The numbers in a call with its answer, as they are added to the sums of its kind.
-ghost use Rattle.std.specs.Prelude.{◌≡◌, ◌+◌, ◌≤◌, ◌<◌, length};
+ghost use Rattle.std.specs.Prelude.{◌≡◌, ◌+◌, ◌≤◌, ◌<◌, drop, length};
 ghost use Rattle.locked_node.specs.CallNumbers as call;
 ghost use Rattle.locked_node.specs.CallNumbers.{WIDEST, numbers_of};
 ghost use Rattle.locked_node.specs.Totals.{with_number, with_numbers};
@@ -16,6 +16,14 @@ use startup::Packet;
 
 /// How many numbers a call has at most.
 pub const WIDEST: usize = 12;
+
+// The number that eight bytes from this place on are, big-endian.
+fn eight_from(bytes: &[u8], place: usize) -> u64
+    requires { place + 8 ≤ length bytes.now }
+    ensures { result ≡ call.key_number (drop place bytes.now) }
+{
+    BigEndian::read_u64(bytes.split_at(place).1)
+}
 
 // Each adds to the sums from a position on, and returns the position behind.
 impl Row {
@@ -103,12 +111,12 @@ impl Row {
     {
         match packet {
             Packet::Short(bytes) => {
-                self.number(at, BigEndian::read_u64(&bytes[8..]));
+                self.number(at, eight_from(bytes, 8));
             }
             Packet::Long(bytes) => {
-                let at = self.number(at, BigEndian::read_u64(&bytes[8..]));
-                let at = self.number(at, BigEndian::read_u64(&bytes[16..]));
-                self.number(at, BigEndian::read_u64(&bytes[24..]));
+                let at = self.number(at, eight_from(bytes, 8));
+                let at = self.number(at, eight_from(bytes, 16));
+                self.number(at, eight_from(bytes, 24));
             }
         }
     }

@@ -1,4 +1,4 @@
-use Rattle.std.proofs.Common.{◌≡◌, ◌-◌, List, ℕ, [], ◌∷◌, ◌++◌, length, length-append, ap, ◌∙◌, arith}
+use Rattle.std.proofs.Common.{◌-◌, List, ℕ, [], ◌∷◌, ◌++◌, length, length-append, ap, ◌∙◌, arith}
 use Rattle.link_pool.specs.Stacks.{all_places}
 use Rattle.link_pool.proofs.Stacking.{all_step}
 use Rattle.link_pool.proofs.database_links.stack_all.Goals as goal

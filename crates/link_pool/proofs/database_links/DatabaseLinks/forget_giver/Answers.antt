@@ -1,4 +1,4 @@
-use Rattle.std.proofs.Common.{◌≡◌, false, None, Some, slice_get, sym, subst, arith, ◌∙◌, refl}
+use Rattle.std.proofs.Common.{◌≡◌, false, None, Some, slice_get, sym, subst, ◌∙◌, refl}
 use Rattle.std.proofs.lemmas.Option.{slice_get_within, same_Some}
 use Rattle.link_pool.specs.declared.entry.Entry.TheVariants as entry
 use Rattle.link_pool.specs.Entries.{idle_entry, free_entry, IsQuarantined}

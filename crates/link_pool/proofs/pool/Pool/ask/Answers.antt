@@ -1,10 +1,9 @@
-use Rattle.std.proofs.Common.{◌≡◌, ◌<◌, true, Some, length, slice_get, ap, subst, sym, ◌∙◌, arith, refl}
+use Rattle.std.proofs.Common.{◌≡◌, ◌<◌, true, length, slice_get, ap, subst, sym, ◌∙◌, arith, refl}
 use Rattle.lease.specs.declared.link_place.LinkPlace.{LinkPlace}
 use Rattle.lease.specs.declared.permit.PermitRecord.{PermitRecord}
-use Rattle.link_pool.specs.Pool.{PoolView, free_at}
+use Rattle.link_pool.specs.Pool.{PoolView}
 use Rattle.link_pool.specs.PoolOf.{pool_of}
 use Rattle.link_pool.specs.PoolStep.{may_ask, IsNextFree}
-use Rattle.link_pool.specs.Stacks.{top}
 use Rattle.link_pool.proofs.Asking.{kept_unqueued, next_unqueued, opened}
 use Rattle.link_pool.proofs.pool.Pool.ask.Goals as goal
 

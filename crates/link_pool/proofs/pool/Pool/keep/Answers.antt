@@ -1,9 +1,8 @@
-use Rattle.std.proofs.Common.{rules, ◌≡◌, None, Some, length, slice_get, vec_len, sym, ap, subst, arith, ◌∙◌, refl, length-set}
+use Rattle.std.proofs.Common.{rules, ◌≡◌, None, Some, length, vec_len, sym, ap, subst, arith, ◌∙◌, refl, length-set}
 use Rattle.lease.specs.declared.link_place.LinkPlace.{LinkPlace}
 use Rattle.link_pool.specs.declared.entry.Entry.TheVariants as entry
-use Rattle.link_pool.specs.declared.place.Place.TheVariants as place
 use Rattle.link_pool.specs.declared.place.Claim.TheVariants as claim
-use Rattle.link_pool.specs.Pool.{PoolView, place_at, free_in, free_at, keep}
+use Rattle.link_pool.specs.Pool.{PoolView, free_in, free_at, keep}
 use Rattle.link_pool.specs.Stacks.{top, under_top}
 use Rattle.link_pool.specs.OnePlace.{IsPool}
 use Rattle.link_pool.specs.PoolOf.{pool_of}

@@ -42,8 +42,7 @@ invariant_of-self g c =
     let there = read_at pools at c.get.result c.index_mut-pool.result.now was c.get.ensures e.is c.index_mut-pool.ensures.value in
     let now = entry.Quarantined e.lease e.key e.hold None in
     let done = c.forget_giver.ensures was (read_entry pools at c.index_mut-pool.result.now was there e.is) in
-    let after = wrote_place pools at c.get.result c.index_mut-pool.result.now c.forget_giver.new.self now c.get.ensures there done in
-    (
+    let after = wrote_place pools at c.get.result c.index_mut-pool.result.now c.forget_giver.new.self now c.get.ensures there done in (
       rw (after, c.get-2.ensures) (left_there (pool_of c.self.inside).view at _ c.args.slot c.self.invariant.0 e.seen refl),
       c.self.invariant.1 ∙ sym (length-set c.self.inside.claims.items c.get-2.result claim.Nothing),
     )
