@@ -1,5 +1,5 @@
 -- A step keeps what the settings fix, and the incarnation and the next numbers grow by what it makes.
-use Rattle.std.proofs.Common.{◌≡◌, ◌≢◌, ℕ, ◌+◌, ◌≤◌, List, Option, Some, None, Ok, Err, refl, sym, ap, ◌∙◌, subst, ◌*◌, ⊎_elim, arith}
+use Rattle.std.proofs.Common.{◌≡◌, ◌≢◌, ℕ, ◌+◌, ◌≤◌, List, Option, Some, None, Ok, Err, refl, ap, ◌∙◌, ◌*◌, ⊎_elim, arith}
 use Rattle.std.specs.Prelude.{if◌then◌else◌, ◌==◌, slice_get}
 use Rattle.std.proofs.Common.{eq-eqb, ne_eqb}
 use Rattle.std.proofs.lemmas.Bool.{cases_eq}
@@ -19,7 +19,7 @@ use Rattle.link_pool.specs.declared.place.Place.TheVariants as place
 use Rattle.lease.specs.declared.link_place.LinkPlace.{LinkPlace}
 use Rattle.link_pool.specs.declared.place.LinkState.TheVariants as state
 use Rattle.link_pool.specs.PoolStep.{giver_of, with_hold, one_less}
-use Rattle.link_pool.specs.Pool.{PoolView, place_at, with_place, in_state, out_of_queue, unqueued, without_giver, departed_by, departed, unwaited_by, unwaited, nothing_for, in_queue, queued}
+use Rattle.link_pool.specs.Pool.{PoolView, place_at, with_place, in_state, out_of_queue, unqueued, without_giver, departed_by, departed, unwaited_by, nothing_for, in_queue, queued}
 use Rattle.cancel_router.specs.declared.refusal.RouteRefusal.TheVariants as route
 use Rattle.cancel_router.specs.declared.decision.Route.{Route}
 use Rattle.cancel_router.specs.declared.decision.Route.TheVariants as route_to

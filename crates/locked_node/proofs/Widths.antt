@@ -1,5 +1,5 @@
 -- A kind fixes how many numbers its calls have.
-use Rattle.std.proofs.Common.{◌≡◌, ℕ, ◌+◌, ◌*◌, ◌≤◌, Bool, true, false, List, [], ◌∷◌, length, None, Some, Ok, Err, refl, sym, ap, ◌∙◌, subst, arith}
+use Rattle.std.proofs.Common.{◌≡◌, ℕ, ◌+◌, ◌*◌, ◌≤◌, Bool, true, false, List, [], ◌∷◌, length, Ok, Err, refl, ap, ◌∙◌, arith}
 use Rattle.std.specs.Prelude.{slice_index, ◌==◌, if◌then◌else◌}
 use Rattle.std.proofs.lemmas.List.{length-append}
 use Rattle.pg_ids.specs.AnyKey.{any_key, any_lowered, kind_of, short_of, peer_of, slot_of}
@@ -148,7 +148,7 @@ wide old new (Cancel asked (order.Serve ticket database server)) step =
 wide old new (Cancel asked (order.Forward to packet)) step =
     let k = key_wide asked in
     let sent = forwarded_wide _ _ to packet asked old new
-        (sent_as old.me old.peers old.keys (standing_in old) asked) step in
+    (sent_as old.me old.peers old.keys (standing_in old) asked) step in
     let joined = length-append (key_numbers asked) (packet_numbers packet) in
     omega (arith, k, sent, joined)
 wide old new (Cancel asked (order.Unwait slot)) step = let k = key_wide asked in omega (arith, k)

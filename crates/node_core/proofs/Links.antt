@@ -1,5 +1,5 @@
 -- What is known of a node stays so through the steps of its links.
-use Rattle.std.proofs.Common.{◌≡◌, ℕ, zero, suc, true, false, ◌<◌, ◌⊎◌, inl, inr, List, [], ◌∷◌, Option, Some, None, length, refl, ap, ◌∙◌, length-set}
+use Rattle.std.proofs.Common.{◌≡◌, ℕ, zero, suc, true, false, ◌<◌, inl, inr, List, [], ◌∷◌, Option, Some, None, length, refl, ap, ◌∙◌, length-set}
 use Rattle.std.specs.Prelude.{slice_set}
 use Rattle.std.specs.List.{slice_get}
 use Rattle.std.proofs.lemmas.List.{length-replicate}
@@ -10,7 +10,7 @@ use Rattle.link_pool.specs.declared.place.{Place.Place, Claim.Claim}
 use Rattle.link_pool.specs.declared.replies.{AcquireReply.AcquireReply, UpReply.UpReply, UpFailedReply.UpFailedReply}
 use Rattle.link_pool.specs.declared.replies.{ReleaseReply.ReleaseReply, CloseReply.CloseReply, ServeReply.ServeReply}
 use Rattle.link_pool.specs.declared.replies.{EndedReply.EndedReply, FailedReply.FailedReply}
-use Rattle.link_pool.specs.Pool.{DatabasePool, PoolView, place_at, changed, placed, with_place, with_queue, with_claim, give_back, quarantine, nothing_for, out_of_queue, unqueued, without_giver, departed_by, departed, unwaited_by, unwaited, in_queue, others, behind}
+use Rattle.link_pool.specs.Pool.{DatabasePool, PoolView, place_at, changed, placed, with_place, with_queue, with_claim, give_back, nothing_for, out_of_queue, unqueued, without_giver, departed_by, departed, unwaited_by, unwaited, in_queue, others, behind}
 use Rattle.link_pool.specs.OnePlace.{IsPool, sizes, has_link, held_by, has_permit, open_for}
 use Rattle.link_pool.specs.PoolStep.{is_holding, emptied, empty_pools, AcquireStep, UpStep, UpFailedStep, ReleaseStep, CloseStep, ServeStep, EndedStep, FailedStep}
 use Rattle.std.proofs.lemmas.Bool.{eq-eqb}

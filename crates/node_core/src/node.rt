@@ -48,11 +48,7 @@ impl<S: Drop> NodeCore<S> {
     /// order, the pool size of each database, and a slot for each client. Its long keys have this
     /// boot, which no other start of the node may have had. It takes all the memory that the node
     /// needs.
-    pub fn new(
-        alloc: Global,
-        settings: &Settings,
-        boot: Boot,
-    ) -> Result<NodeCore<S>, AllocError>
+    pub fn new(alloc: Global, settings: &Settings, boot: Boot) -> Result<NodeCore<S>, AllocError>
         ensures fresh { IfOk result (λ core. IsFresh settings.now boot core.view) }
         ensures streams { IfOk result (λ core. NothingStored core.stored) }
     {

@@ -1,4 +1,4 @@
-use Rattle.std.proofs.Common.{◌≡◌, ◌+◌, ◌*◌, refl, sym, ap, ◌∙◌}
+use Rattle.std.proofs.Common.{◌+◌, ◌*◌, refl, sym, ap, ◌∙◌}
 use Rattle.std.specs.Prelude.{slice_index}
 use Rattle.locked_node.specs.declared.call_kind.CallKind.{CallKind}
 use Rattle.locked_node.specs.declared.call_kind.TheConstants.{REST, KEYS}

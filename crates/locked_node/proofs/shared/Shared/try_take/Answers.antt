@@ -1,12 +1,9 @@
-use Rattle.std.proofs.Common.{◌≢◌, ◌<◌, ℕ, sym, ◌∙◌, subst, arith, eqb}
+use Rattle.std.proofs.Common.{◌≢◌, ℕ, sym, ◌∙◌, arith, eqb}
 use mathlib.Core.Option.{none}
 use prog.Atomic.{either}
-use Rattle.atomic_table.specs.Table.{Me, step}
+use Rattle.atomic_table.specs.Table.{step}
 use Rattle.atomic_table.proofs.Lists.{exchanged}
-use Rattle.locked_node.specs.declared.rule.Share.{Share}
-use Rattle.locked_node.specs.Journal.{JournalView}
-use Rattle.locked_node.specs.Lock.{Took}
-use Rattle.locked_node.proofs.Locking.{lock_takes, took_holds}
+use Rattle.locked_node.proofs.Locking.{lock_takes}
 use Rattle.locked_node.proofs.shared.Shared.try_take.Goals as goal
 
 pub compare_exchange-requires : goal.compare_exchange-requires

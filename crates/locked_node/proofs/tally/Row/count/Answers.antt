@@ -1,4 +1,4 @@
-use Rattle.std.proofs.Common.{rules, ◌≡◌, ℕ, List, length, sym, ap, ◌∙◌, subst, arith}
+use Rattle.std.proofs.Common.{rules, ◌≡◌, length, sym, ap, ◌∙◌, subst, arith}
 use Rattle.locked_node.specs.declared.tally.Row.{Row}
 use Rattle.locked_node.specs.CallNumbers.{numbers_of}
 use Rattle.locked_node.specs.Totals.{SumsUp}
