@@ -67,6 +67,33 @@ fn retired(rt: HostRuntime) -> Result<(), Fail> {
     assert_eq!(rt; table.find(&key), None);
     assert_eq!(rt; table.next_slot(), Some(SlotNo(0)));
     assert_eq!(rt; Full.number(), 30);
+
+    // The slot is given again, with a new key.
+    let again = table.issue(Secret(8), None)?;
+    assert_eq!(rt; table.find(&again), Some(SlotNo(0)));
+    assert_eq!(rt; table.find(&key), None);
+    assert_eq!(rt; table.issue(Secret(9), None), Err(Full));
+    Ok(())
+}
+
+#[test]
+fn each_slot_once(rt: HostRuntime) -> Result<(), Fail> {
+    let (mut table, first, second) = two_live(rt.alloc(), 3)?;
+    let third = table.issue(Secret(6), None)?;
+    assert_eq!(rt; table.issue(Secret(7), None), Err(Full));
+    assert_eq!(rt; table.find(&first), Some(SlotNo(0)));
+    assert_eq!(rt; table.find(&second), Some(SlotNo(1)));
+    assert_eq!(rt; table.find(&third), Some(SlotNo(2)));
+    Ok(())
+}
+
+#[test]
+fn largest(rt: HostRuntime) -> Result<(), Fail> {
+    let (mut table, first, second) = two_live(rt.alloc(), 65_536)?;
+    assert_eq!(rt; table.next_slot(), Some(SlotNo(2)));
+    table.clear();
+    assert_eq!(rt; table.find(&first), table.find(&second));
+    assert_eq!(rt; table.next_slot(), Some(SlotNo(0)));
     Ok(())
 }
 
