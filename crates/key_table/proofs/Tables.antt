@@ -1,12 +1,12 @@
 -- What the slab of a table says of its slots, and what each step keeps.
-use Rattle.std.proofs.Common.{◌≡◌, ◌≢◌, ℕ, zero, suc, ◌-◌, ◌<◌, ◌≤◌, List, [], ◌∷◌, Option, Some, None, false, length, get_or, cond, nat_lt, is_some, count_by, ap, sym, subst, ◌∙◌, arith, length-set, ⊎_elim}
+use Rattle.std.proofs.Common.{◌≡◌, ◌≢◌, ℕ, zero, suc, ◌-◌, ◌<◌, ◌≤◌, List, [], ◌∷◌, Option, Some, None, length, get_or, cond, nat_lt, is_some, count_by, ap, sym, subst, ◌∙◌, arith, length-set, ⊎_elim}
 use Rattle.std.proofs.Math.ListN.{set, replicate}
 use Rattle.std.specs.List.{slice_get}
-use Rattle.std.proofs.lemmas.Bool.{cases_lt, cases_eq, lt-ltb, le-ltb, ltb-true, cond-true, cond-false}
+use Rattle.std.proofs.lemmas.Bool.{cases_lt, cases_eq, lt-ltb, le-ltb, cond-true, cond-false}
 use Rattle.std.proofs.lemmas.List.{get_or-set_same, get_or-set_other, length-replicate, get_or-replicate}
 use Rattle.std.proofs.lemmas.List.FromFn.{length-map-range_with_len, get_or-map-range_with_len, fill_by_all}
 use Rattle.std.proofs.lemmas.List.Sums.{sum_by-cons}
-use Rattle.std.proofs.lemmas.Option.{slice_get-get_or, slice_get_within, slice_get_past, same_Some, none-some, cond_some}
+use Rattle.std.proofs.lemmas.Option.{slice_get-get_or, slice_get_within, slice_get_past, same_Some, none-some}
 use Rattle.slab.specs.Slab.{Slab, get, slab_len, Updates}
 use Rattle.pg_ids.specs.declared.any_key.AnyKey.{AnyKey}
 use Rattle.key_table.specs.Slots.{IsNext, is_opened}
@@ -29,28 +29,16 @@ slab_at s slot x found =
     let inside = slice_get_within (slots_of s) slot x found in
     same_Some (get s slot) x (sym (slot_at s slot (omega (arith, inside, length_slots s))) ∙ found)
 
--- what the slab has under a key, its slot has
-pub live_at : (s : Slab Entry) (slot : ℕ) (x : Entry) → IsTable s → get s slot ≡ Some x → slice_get (slots_of s) slot ≡ Some (Some x)
-live_at s slot x kept found = ⊎_elim
-    (λ within. slot_at s slot within ∙ ap Some found)
-    (λ past. absurd (none-some x (sym (kept.none_past slot past) ∙ found)))
-    (cases_lt slot s.capacity)
-
--- where it has nothing, no key opens the slot
-pub not_opened : (s : Slab Entry) (slot : ℕ) (key : AnyKey) → get s slot ≡ None → is_opened (slice_get (slots_of s) slot) key ≡ false
-not_opened s slot key none = ⊎_elim
-    (λ within. ap (λ (o : Option (Option Entry)). is_opened o key) (slot_at s slot within ∙ ap Some none))
-    (λ past. ap (λ (o : Option (Option Entry)). is_opened o key) (slice_get_past (slots_of s) slot (omega (arith, length_slots s))))
+-- a key opens a slot where it opens what the slab has there
+pub opened_at : (s : Slab Entry) (slot : ℕ) (key : AnyKey) → IsTable s → is_opened (slice_get (slots_of s) slot) key ≡ is_opened (Some (get s slot)) key
+opened_at s slot key kept = ⊎_elim
+    (λ within. ap (λ (o : Option (Option Entry)). is_opened o key) (slot_at s slot within))
+    (λ past. ap (λ (o : Option (Option Entry)). is_opened o key) (slice_get_past (slots_of s) slot (omega (arith, length_slots s))) ∙ sym (ap (λ (o : Option Entry). is_opened (Some o) key) (kept.none_past slot past)))
     (cases_lt slot s.capacity)
 
 -- a slab with nothing: each slot is free
 pub all_free : (s : Slab Entry) → s.slots ≡ [] → slots_of s ≡ replicate s.capacity None
 all_free s none = sym (fill_by_all (get s) (replicate s.capacity None) s.capacity None (length-replicate s.capacity None) (λ key within. get_or-replicate s.capacity key None None within ∙ sym (ap (λ (slots : List (Option Entry)). get_or slots key None) none)))
-
-pub at_first : (s : Slab Entry) → s.slots ≡ [] → s.vacant_key ≡ 0 → s.capacity ≤ 65536 → IsTable s
-at_first s none first room =
-    let has_none : (key : ℕ) → get s key ≡ None = λ key. ap (λ (slots : List (Option Entry)). get_or slots key None) none in
-    record { room = room; none_past = λ key past. has_none key; within = λ some. omega arith; vacant = λ some. has_none s.vacant_key }
 
 -- a step that changes one slot
 pub written : (old new : Slab Entry) (slot : ℕ) (x : Option Entry) → Updates old new slot x → new.capacity ≡ old.capacity → slots_of new ≡ set (slots_of old) slot x
@@ -61,15 +49,6 @@ written old new slot x updates same = sym (fill_by_all (get new) (set (slots_of 
         (λ (is : key ≡ slot). ap (λ (n : ℕ). get_or (set (slots_of old) slot x) n None) is ∙ get_or-set_same (slots_of old) slot x None (omega (arith, length_slots old)) ∙ sym updates.changed ∙ ap (get new) (sym is))
         (λ (other : key ≢ slot). get_or-set_other (slots_of old) slot key x None other ∙ get_or-map-range_with_len (get old) 0 old.capacity key key None (omega arith) (omega arith) ∙ sym (updates.others key other))
         (cases_eq key slot)
-
-pub after : (old new : Slab Entry) (slot : ℕ) (x : Option Entry) → IsTable old → Updates old new slot x → slot < old.capacity → new.capacity ≡ old.capacity → (slab_len new < new.capacity → new.vacant_key < new.capacity) → (slab_len new < new.capacity → get new new.vacant_key ≡ None) → IsTable new
-after old new slot x kept updates inside same within vacant =
-    record {
-      room = omega (arith, kept.room);
-      none_past = λ key past. updates.others key (λ is. omega arith) ∙ kept.none_past key (omega arith);
-      within = within;
-      vacant = vacant;
-    }
 
 -- an entry under the next key, and then one under the key after, which is taken back
 pub and_back : (old one two new : Slab Entry) (slot next : ℕ) (x y : Option Entry) → Updates old one slot x → Updates one two next y → Updates two new next None → get one next ≡ None → Updates old new slot x
@@ -100,15 +79,15 @@ full (Some x ∷ rest) n zero none many before found = none-some x (sym found)
 full (Some x ∷ rest) n (suc key) none many before found =
     full rest (n - 1) key (λ key past. none (suc key) (omega arith)) (omega (arith, sum_by-cons (λ o. cond (is_some o) 1 0) (Some x) rest)) (omega arith) found
 
--- the slot that is given next is free, and there is none only where each is live
+-- so no slot is free where no room is left
+pub none_free : (s : Slab Entry) → IsTable s → s.capacity ≤ slab_len s → (slot : ℕ) → slice_get (slots_of s) slot ≢ Some None
+none_free s kept no_room slot free =
+    let inside = slice_get_within (slots_of s) slot None free in
+    full s.slots s.capacity slot kept.none_past no_room (omega (arith, inside, length_slots s)) (slab_at s slot None free)
+
+-- the slot that is given next is free, and there is none only where none is free
 pub is_next : (s : Slab Entry) → IsTable s → IsNext (slots_of s) (next_of s)
 is_next s kept = ⊎_elim
     (λ some. subst (IsNext (slots_of s)) (sym (cond-true (nat_lt (slab_len s) s.capacity) (Some s.vacant_key) None (lt-ltb (slab_len s) s.capacity some))) (slot_at s s.vacant_key (kept.within some) ∙ ap Some (kept.vacant some)))
-    (λ no_more. subst (IsNext (slots_of s)) (sym (cond-false (nat_lt (slab_len s) s.capacity) (Some s.vacant_key) None (le-ltb (slab_len s) s.capacity no_more))) (λ slot free. full s.slots s.capacity slot kept.none_past no_more (let inside = slice_get_within (slots_of s) slot None free in omega (arith, inside, length_slots s)) (slab_at s slot None free)))
+    (λ no_room. subst (IsNext (slots_of s)) (sym (cond-false (nat_lt (slab_len s) s.capacity) (Some s.vacant_key) None (le-ltb (slab_len s) s.capacity no_room))) (none_free s kept no_room))
     (cases_lt (slab_len s) s.capacity)
-
--- where one is given, there is room
-pub given : (s : Slab Entry) (slot : ℕ) → next_of s ≡ Some slot → (slab_len s < s.capacity) × (s.vacant_key ≡ slot)
-given s slot is =
-    let parts = cond_some (nat_lt (slab_len s) s.capacity) s.vacant_key slot is in
-    (ltb-true (slab_len s) s.capacity parts.0, parts.1)

@@ -79,6 +79,7 @@ impl KeyTable {
         Ok(issued.key)
     }
 
+    #[tactic(auto, using(crate::proofs::Tables::opened_at))]
     /// The slot that the key names: the peer is this table's, and the slot is live with a key of this
     /// kind, this secret and, if the key is long, this part.
     pub fn find(&self, key: &AnyKey) -> Option<SlotNo>
