@@ -67,12 +67,18 @@ fn retired(rt: HostRuntime) -> Result<(), Fail> {
     assert_eq!(rt; table.find(&key), None);
     assert_eq!(rt; table.next_slot(), Some(SlotNo(0)));
     assert_eq!(rt; Full.number(), 30);
+    Ok(())
+}
 
-    // The slot is given again, with a new key.
+#[test]
+fn given_again(rt: HostRuntime) -> Result<(), Fail> {
+    let peer = PeerNo::new(0).ok_or("no peer 0")?;
+    let mut table = KeyTable::new(rt.alloc(), peer, 1)?;
+    let key = table.issue(Secret(7), None)?;
+    table.retire(key.short().slot);
     let again = table.issue(Secret(8), None)?;
     assert_eq!(rt; table.find(&again), Some(SlotNo(0)));
     assert_eq!(rt; table.find(&key), None);
-    assert_eq!(rt; table.issue(Secret(9), None), Err(Full));
     Ok(())
 }
 
