@@ -40,7 +40,7 @@ impl KeyTable {
         ensures next { IfOk result (λ t. IsNext t.entries t.next) }
     {
         let live = Slab::with_capacity(alloc, limit as usize)?;
-        // There are as many slots as the slab has room for, and it may take more than it is asked for.
+        // The slab may take more room than it is asked for, and each place is a slot.
         if live.capacity() != limit as usize {
             return Err(AllocError);
         }
@@ -113,8 +113,8 @@ impl KeyTable {
     }
 }
 
-// Stores the entry in the next slot. The slab tells a key's range only as it gives the key, so where
-// a slot is left, the key after is given too, and taken back.
+// Stores the entry in the next slot. The slab tells a key's range only as it gives the key, so
+// where a slot is left, the key after is given too, and taken back.
 fn fill_next(live: &mut Slab<Entry>, entry: Entry)
     requires table { IsTable live.old }
     requires room { HasRoomFor live.old 1 }
