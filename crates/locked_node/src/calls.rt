@@ -35,6 +35,7 @@ impl<S: Drop> Shared<S> {
     ghost use Rattle.locked_node.specs.Lock.{Counted, Somewhere};
 
     // Makes a call of any step.
+    #[inline(always)]
     fn call<R: Wait, C: Call<S>>(&self, rt: &R, caller: &mut Caller<S>, call: C) -> C::Reply
         requires own { caller.old.lock ≡ self.now }
         requires can { C.can_make caller.old.start.view.pools call }

@@ -102,6 +102,7 @@ impl<S: Drop> Journal<S> {
 
     // Makes a call of any step, which hands this in, where one is left, and keeps it with its
     // reply.
+    #[inline(always)]
     pub(crate) fn make<C: Call<S>>(&mut self, call: C, details: &C::Details) -> C::Reply
         requires details { C.handed call ≡ details.now }
         requires room { log_all self.old.log < CALL_LIMIT }

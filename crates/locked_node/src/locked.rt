@@ -23,6 +23,7 @@ impl<S: Drop> Locked<S> {
     ghost use Rattle.locked_node.specs.Lock.{Somewhere};
 
     /// Makes a call of any step, which hands this in, where one is left.
+    #[inline(always)]
     pub(crate) fn make<C: Call<S>>(&mut self, call: C, details: &C::Details) -> C::Reply
         requires details { C.handed call ≡ details.now }
         requires room { log_all self.old.log < CALL_LIMIT }

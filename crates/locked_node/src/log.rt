@@ -117,6 +117,7 @@ impl Log {
     }
 
     /// Puts a call behind the tail. The oldest one leaves it where it is full.
+    #[inline(always)]
     pub(crate) fn append(&mut self, call: Exchange)
         requires { log_all self.old < CALL_LIMIT }
         ensures { Appends self.old call self.new }

@@ -18,6 +18,7 @@ pub const WIDEST: usize = 11;
 // Each adds to the sums from a position on, and returns the position behind.
 impl Row {
     /// The numbers of a call, straight from it: an array in between would be slow to read.
+    #[inline(always)]
     pub(crate) fn add(&mut self, call: &Exchange)
         ensures { self.new ≡ with_numbers self.old 0 (numbers_of call.now) }
     {
@@ -66,6 +67,7 @@ impl Row {
         }
     }
 
+    #[inline(always)]
     #[tactic(auto, unfolding(crate::specs::Totals::with_number))]
     fn number(&mut self, at: usize, number: u64) -> usize
         requires { at < WIDEST }
@@ -77,6 +79,7 @@ impl Row {
     }
 
     // Eight key bytes.
+    #[inline(always)]
     fn key(&mut self, at: usize, bytes: &[u8; 8]) -> usize
         requires { at < WIDEST }
         ensures sums { self.new ≡ with_number self.old at (call.key_number bytes.now) }
@@ -86,6 +89,7 @@ impl Row {
     }
 
     // A place of the pools.
+    #[inline(always)]
     fn place(&mut self, at: usize, place: &LinkPlace) -> usize
         requires { at + 2 ≤ WIDEST }
         ensures sums { self.new ≡ with_numbers self.old at (call.place_numbers place.now) }
@@ -95,6 +99,7 @@ impl Row {
         self.number(at, u64::from(place.index))
     }
 
+    #[inline(always)]
     fn pass(&mut self, at: usize, pass: &PassRecord) -> usize
         requires { at + 3 ≤ WIDEST }
         ensures sums { self.new ≡ with_numbers self.old at (call.pass_numbers pass.now) }
@@ -105,6 +110,7 @@ impl Row {
         self.number(at, pass.number)
     }
 
+    #[inline(always)]
     fn permit(&mut self, at: usize, permit: &PermitRecord) -> usize
         requires { at + 5 ≤ WIDEST }
         ensures sums { self.new ≡ with_numbers self.old at (call.permit_numbers permit.now) }
@@ -116,6 +122,7 @@ impl Row {
         self.place(at, &permit.at)
     }
 
+    #[inline(always)]
     fn link(&mut self, at: usize, lease: &LinkRecord) -> usize
         requires { at + 5 ≤ WIDEST }
         ensures sums { self.new ≡ with_numbers self.old at (call.link_numbers lease.now) }
@@ -127,6 +134,7 @@ impl Row {
         self.place(at, &lease.at)
     }
 
+    #[inline(always)]
     fn ticket(&mut self, at: usize, ticket: &TicketRecord) -> usize
         requires { at + 6 ≤ WIDEST }
         ensures sums { self.new ≡ with_numbers self.old at (call.ticket_numbers ticket.now) }
@@ -140,6 +148,7 @@ impl Row {
     }
 
     // The report of an open link.
+    #[inline(always)]
     fn up(
         &mut self,
         permit: &PermitRecord,
@@ -167,6 +176,7 @@ impl Row {
 
     // A cancel request. The key of a CancelRequest follows its length and its code, of four bytes
     // each.
+    #[inline(always)]
     fn cancel(&mut self, key: &[u8; 8], order: &Order<TicketRecord>)
         ensures { self.new
             ≡ with_numbers self.old 0 (numbers_of (Exchange.Cancel key.now order.now)) }

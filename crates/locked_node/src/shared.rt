@@ -128,6 +128,7 @@ impl<S: Drop> Shared<S> {
     }
 
     // Takes the lock if it is free.
+    #[inline(always)]
     fn try_take(&self, seat: &mut Place<S>) -> bool
         requires own { seat.old.table_id ≡ self.now }
         requires may { 0 < seat.old.me.0.allowance }
@@ -213,6 +214,7 @@ impl<S: Drop> Shared<S> {
     }
 
     // Makes a call of any step, which hands this in, on the journal that the seat holds.
+    #[inline(always)]
     pub(crate) fn make<C: Call<S>>(
         &self,
         seat: &mut Place<S>,
@@ -231,6 +233,7 @@ impl<S: Drop> Shared<S> {
     }
 
     // Gives the lock back, with one call more in the journal.
+    #[inline(always)]
     pub(crate) fn give(&self, seat: &mut Place<S>)
         requires own { seat.old.table_id ≡ self.now }
         requires called { Called seat.old.me }

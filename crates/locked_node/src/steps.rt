@@ -41,14 +41,17 @@ impl<S: Drop> Call<S> for Join {
 
     ghost at_end = { λ _. Err join.Exhausted };
 
+    #[inline(always)]
     fn details(&self) -> Self::Details {
         (self.0, self.1)
     }
 
+    #[inline(always)]
     fn make(self, core: &mut NodeCore<S>) -> Self::Reply {
         core.join(self.0, self.1)
     }
 
+    #[inline(always)]
     fn record(details: &Self::Details, reply: &Self::Reply) -> Exchange {
         let kept = match reply {
             Ok(pass) => Ok(pass.details()),
@@ -76,15 +79,18 @@ impl<S: Drop> Call<S> for Leave {
 
     ghost at_end = { λ _. leave.Exhausted };
 
+    #[inline(always)]
     fn details(&self) -> Self::Details {
         self.0.details()
     }
 
+    #[inline(always)]
     fn make(self, core: &mut NodeCore<S>) -> Self::Reply {
         let Leave(pass) = self;
         core.leave(pass)
     }
 
+    #[inline(always)]
     fn record(details: &Self::Details, reply: &Self::Reply) -> Exchange {
         let kept = match reply {
             LeaveReply::Left => LeaveReply::Left,
@@ -119,14 +125,17 @@ impl<S: Drop> Call<S> for Acquire<'_> {
 
     ghost at_end = { λ _. acquire.Exhausted };
 
+    #[inline(always)]
     fn details(&self) -> Self::Details {
         self.0.details()
     }
 
+    #[inline(always)]
     fn make(self, core: &mut NodeCore<S>) -> Self::Reply {
         core.acquire(self.0)
     }
 
+    #[inline(always)]
     fn record(details: &Self::Details, reply: &Self::Reply) -> Exchange
         ensures { result ≡ call.Acquire details.now (acquire_said reply.now) }
     {
@@ -162,15 +171,18 @@ impl<S: Drop> Call<S> for Up<S> {
 
     ghost at_end = { λ made. up.AtEnd made.1 };
 
+    #[inline(always)]
     fn details(&self) -> Self::Details {
         (self.0.details(), self.2)
     }
 
+    #[inline(always)]
     fn make(self, core: &mut NodeCore<S>) -> Self::Reply {
         let Up(permit, stream, key) = self;
         core.up(permit, stream, key)
     }
 
+    #[inline(always)]
     fn record(details: &Self::Details, reply: &Self::Reply) -> Exchange {
         let kept = match reply {
             UpReply::Up(lease) => UpReply::Up(lease.details()),
@@ -202,15 +214,18 @@ impl<S: Drop> Call<S> for UpFailed {
 
     ghost at_end = { λ _. failing.Exhausted };
 
+    #[inline(always)]
     fn details(&self) -> Self::Details {
         self.0.details()
     }
 
+    #[inline(always)]
     fn make(self, core: &mut NodeCore<S>) -> Self::Reply {
         let UpFailed(permit) = self;
         core.up_failed(permit)
     }
 
+    #[inline(always)]
     fn record(details: &Self::Details, reply: &Self::Reply) -> Exchange {
         Exchange::UpFailed(*details, *reply)
     }
@@ -238,15 +253,18 @@ impl<S: Drop> Call<S> for Release<S> {
 
     ghost at_end = { λ made. release.Exhausted made.0.stream };
 
+    #[inline(always)]
     fn details(&self) -> Self::Details {
         self.0.details()
     }
 
+    #[inline(always)]
     fn make(self, core: &mut NodeCore<S>) -> Self::Reply {
         let Release(lease) = self;
         core.release(lease)
     }
 
+    #[inline(always)]
     fn record(details: &Self::Details, reply: &Self::Reply) -> Exchange {
         let kept = match reply {
             ReleaseReply::Idle => ReleaseReply::Idle,
@@ -280,15 +298,18 @@ impl<S: Drop> Call<S> for Close<S> {
 
     ghost at_end = { λ made. close.Exhausted made.0.stream };
 
+    #[inline(always)]
     fn details(&self) -> Self::Details {
         self.0.details()
     }
 
+    #[inline(always)]
     fn make(self, core: &mut NodeCore<S>) -> Self::Reply {
         let Close(lease) = self;
         core.close(lease)
     }
 
+    #[inline(always)]
     fn record(details: &Self::Details, reply: &Self::Reply) -> Exchange {
         let kept = match reply {
             CloseReply::Closed(_) => CloseReply::Closed(()),
@@ -319,14 +340,17 @@ impl<S: Drop> Call<S> for Cancel<'_> {
 
     ghost at_end = { λ _. order.Refused cancel.Exhausted };
 
+    #[inline(always)]
     fn details(&self) -> Self::Details {
         *self.0
     }
 
+    #[inline(always)]
     fn make(self, core: &mut NodeCore<S>) -> Self::Reply {
         core.cancel(self.0)
     }
 
+    #[inline(always)]
     fn record(details: &Self::Details, reply: &Self::Reply) -> Exchange
         ensures { result ≡ call.Cancel details.now reply.now }
     {
@@ -357,15 +381,18 @@ impl<S: Drop> Call<S> for Ended {
 
     ghost at_end = { λ _. ended.Exhausted };
 
+    #[inline(always)]
     fn details(&self) -> Self::Details {
         self.0.details()
     }
 
+    #[inline(always)]
     fn make(self, core: &mut NodeCore<S>) -> Self::Reply {
         let Ended(ticket) = self;
         core.ended(ticket)
     }
 
+    #[inline(always)]
     fn record(details: &Self::Details, reply: &Self::Reply) -> Exchange {
         Exchange::Ended(*details, *reply)
     }
@@ -393,15 +420,18 @@ impl<S: Drop> Call<S> for Failed {
 
     ghost at_end = { λ _. failed.Exhausted };
 
+    #[inline(always)]
     fn details(&self) -> Self::Details {
         self.0.details()
     }
 
+    #[inline(always)]
     fn make(self, core: &mut NodeCore<S>) -> Self::Reply {
         let Failed(ticket) = self;
         core.failed(ticket)
     }
 
+    #[inline(always)]
     fn record(details: &Self::Details, reply: &Self::Reply) -> Exchange {
         let kept = match reply {
             FailedReply::Condemned => FailedReply::Condemned,
@@ -436,14 +466,17 @@ impl<S: Drop> Call<S> for Restart {
 
     ghost at_end = { λ _. restart.Exhausted };
 
+    #[inline(always)]
     fn details(&self) -> Self::Details {
         ()
     }
 
+    #[inline(always)]
     fn make(self, core: &mut NodeCore<S>) -> Self::Reply {
         core.restart()
     }
 
+    #[inline(always)]
     fn record(details: &Self::Details, reply: &Self::Reply) -> Exchange {
         Exchange::Restart(*reply)
     }

@@ -29,6 +29,7 @@ const NO_CALL: Row = Row {
 
 impl Row {
     // One more call.
+    #[inline(always)]
     fn count(&mut self, call: &Exchange)
         requires { self.old.calls + 1 < 2 ^ 128 }
         ensures calls { self.new.calls ≡ self.old.calls + 1 }
