@@ -127,6 +127,7 @@ impl CallKind {
     ghost use Rattle.locked_node.specs.CallNumbers.{KINDS, WIDEST, kind_of, index_of, numbers_of};
 
     /// The kind of a call.
+    #[inline(always)]
     pub fn of(call: &Exchange) -> CallKind
         ensures { result ≡ kind_of call.now }
     {
@@ -186,6 +187,7 @@ impl CallKind {
     }
 
     /// Its place among the kinds.
+    #[inline(always)]
     pub const fn index(self) -> usize
         ensures value { result ≡ index_of self }
         ensures within { result < KINDS }

@@ -23,8 +23,11 @@ const TAKEN: u64 = 1;
 
 const AWAITED: u64 = 2;
 
-// How often a caller looks at a taken lock before it sleeps.
-const LOOKS: u32 = 100;
+// How often a caller looks at a taken lock before it sleeps, and how often it pauses after each
+// look: a look takes the lock's word from the caller that has the lock.
+const LOOKS: u32 = 10;
+
+const PAUSES: u32 = 10;
 
 /// A node with its journal, behind a lock.
 #[derive(Drop)]
@@ -143,8 +146,8 @@ impl<S: Drop> Shared<S> {
             == FREE
     }
 
-    // What the lock's word says, as soon as the lock is free or somebody sleeps, and after a
-    // hundred looks at most.
+    // What the lock's word says, as soon as the lock is free or somebody sleeps, and after ten
+    // looks at most.
     fn look(&self) -> u64 {
         let shared = &self.table.shared;
         for _ in 0..LOOKS {
@@ -152,13 +155,16 @@ impl<S: Drop> Shared<S> {
             if word != TAKEN {
                 return word;
             }
-            spin_loop();
+            for _ in 0..PAUSES {
+                spin_loop();
+            }
         }
         TAKEN
     }
 
     // Takes the lock. A caller that finds it taken looks at it for a while, and then sleeps until
     // it is given back.
+    #[inline(always)]
     pub(crate) fn take<R: Wait>(&self, rt: &R, seat: &mut Place<S>)
         requires own { seat.old.table_id ≡ self.now }
         requires may { 0 < seat.old.me.0.allowance }
@@ -167,9 +173,22 @@ impl<S: Drop> Shared<S> {
         ensures took { Took seat.old.me seat.new.me }
         ensures holds { Holds seat.new.me }
     {
-        if self.try_take(seat) {
-            return;
+        if !self.try_take(seat) {
+            self.wait(rt, seat);
         }
+    }
+
+    // Takes the lock, which another caller had.
+    #[cold]
+    #[inline(never)]
+    fn wait<R: Wait>(&self, rt: &R, seat: &mut Place<S>)
+        requires own { seat.old.table_id ≡ self.now }
+        requires may { 0 < seat.old.me.0.allowance }
+        requires empty { seat.old.me.1 ≡ [] }
+        ensures own { seat.new.table_id ≡ seat.old.table_id }
+        ensures took { Took seat.old.me seat.new.me }
+        ensures holds { Holds seat.new.me }
+    {
         let shared = &self.table.shared;
         let mut word = self.look();
         if word == FREE && self.try_take(seat) {

@@ -354,12 +354,15 @@ impl<S: Drop> Call<S> for Cancel<'_> {
     fn record(details: &Self::Details, reply: &Self::Reply) -> Exchange
         ensures { result ≡ call.Cancel details.now reply.now }
     {
-        let kept = match reply {
-            Order::Serve(ticket, database, key) => Order::Serve(ticket.details(), *database, *key),
-            Order::Forward(peer, packet) => Order::Forward(*peer, *packet),
-            Order::Refused(refusal) => Order::Refused(*refusal),
-        };
-        Exchange::Cancel(*details, kept)
+        match reply {
+            Order::Serve(ticket, database, key) => {
+                Exchange::Cancel(*details, Order::Serve(ticket.details(), *database, *key))
+            }
+            Order::Forward(peer, packet) => {
+                Exchange::Cancel(*details, Order::Forward(*peer, *packet))
+            }
+            Order::Refused(refusal) => Exchange::Cancel(*details, Order::Refused(*refusal)),
+        }
     }
 
     fn forfeit(self) -> Self::Reply {

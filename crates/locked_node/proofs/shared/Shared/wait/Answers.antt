@@ -5,7 +5,7 @@ use Rattle.locked_node.specs.declared.rule.Share.{Share}
 use Rattle.locked_node.specs.Journal.{JournalView}
 use Rattle.locked_node.specs.Lock.{stake}
 use Rattle.locked_node.proofs.Locking.{lock_takes}
-use Rattle.locked_node.proofs.shared.Shared.take.Goals as goal
+use Rattle.locked_node.proofs.shared.Shared.wait.Goals as goal
 
 pub swap-requires : goal.swap-requires
 swap-requires g c = (

@@ -1,5 +1,5 @@
 use Rattle.std.proofs.Common.{◌≡◌}
-use Rattle.locked_node.proofs.shared.Shared.take.Given as goal
+use Rattle.locked_node.proofs.shared.Shared.wait.Given as goal
 
 -- nothing has changed while the lock was taken by others
 abbrev pub invariant-loop : goal.invariant-loop
