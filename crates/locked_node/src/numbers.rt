@@ -17,7 +17,7 @@ pub const WIDEST: usize = 11;
 
 // Each adds to the sums from a position on, and returns the position behind.
 impl Row {
-    /// The numbers of a call, straight from it: an array in between would be slow to read.
+    /// Adds the numbers of a call, each to its sum.
     #[inline(always)]
     pub(crate) fn add(&mut self, call: &Exchange)
         ensures { self.new ≡ with_numbers self.old 0 (numbers_of call.now) }
