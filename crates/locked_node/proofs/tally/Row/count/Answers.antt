@@ -6,8 +6,8 @@ use Rattle.locked_node.proofs.Tallies.{with_calls, with_sums}
 use Rattle.locked_node.proofs.Widths.{wide}
 use Rattle.locked_node.proofs.tally.Row.count.Goals as goal
 
-pub overflow_add-self-calls : goal.overflow_add-self-calls
-overflow_add-self-calls c =
+pub overflow_add-self : goal.overflow_add-self
+overflow_add-self c =
     let room = c.requires in
     let same : c.add.new.self.calls ≡ c.args.self.now.calls = ap (λ (row : Row). row.calls) c.add.ensures ∙ with_calls _ 0 (numbers_of c.args.call.now) in
     omega (arith, room, same)
