@@ -6,3 +6,4 @@ pub mod LinkEvents
 pub mod CancelEvents
 pub mod WorldRun
 pub mod SafeCancellation
+pub mod Facts

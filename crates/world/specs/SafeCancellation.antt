@@ -28,10 +28,10 @@ NoKeyTwice w = (i j : ℕ) (a b : Taken) → slice_get w.taken i ≡ Some a → 
 
 -- each key was taken for the client to whom it was given, at the node that it names; so no key was
 -- ever taken for two clients
-pub record OneKeyOneClient (w : World) : Type 0 where
-  pub rightly : (place : ℕ) (taken : Taken) → slice_get w.taken place ≡ Some taken
-      → IsRightly w.issues taken
-  pub once : NoKeyTwice w
+abbrev pub OneKeyOneClient : World → Type 0
+OneKeyOneClient w =
+    ((place : ℕ) (taken : Taken) → slice_get w.taken place ≡ Some taken → IsRightly w.issues taken)
+    × NoKeyTwice w
 
 -- a cancel connection to a server is for an arrival at the node that its key names, with hops left;
 -- and who held the link of that server key is the client to whom the request's key was given
