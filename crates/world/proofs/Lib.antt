@@ -1,3 +1,7 @@
 pub mod Lists
 pub mod Settling
 pub mod Connections
+pub mod Forwards
+pub mod Holding
+pub mod Loads
+pub mod Acting
