@@ -5,3 +5,4 @@ pub mod Forwards
 pub mod Holding
 pub mod Loads
 pub mod Acting
+pub mod Nodes
