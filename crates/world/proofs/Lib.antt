@@ -6,3 +6,4 @@ pub mod Holding
 pub mod Loads
 pub mod Acting
 pub mod Nodes
+pub mod Steps
