@@ -7,3 +7,5 @@ pub mod Loads
 pub mod Acting
 pub mod Nodes
 pub mod Steps
+pub mod GivingBack
+pub mod Opening
