@@ -9,3 +9,6 @@ pub mod Nodes
 pub mod Steps
 pub mod GivingBack
 pub mod Opening
+pub mod Backends
+pub mod Waiting
+pub mod Asking

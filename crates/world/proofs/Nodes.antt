@@ -128,6 +128,15 @@ pub record Alters (v u : PoolView) (at : LinkPlace) (slot : ℕ) : Type 0 where
   pub places : (k : LinkPlace) → k ≢ at → place_at u k ≡ place_at v k
   pub claims : (s : ℕ) → s ≢ slot → slice_get u.claims s ≡ slice_get v.claims s
 
+-- only one place changes
+pub record Moves (v u : PoolView) (at : LinkPlace) : Type 0 where
+  pub incarnation : u.incarnation ≡ v.incarnation
+  pub places : (k : LinkPlace) → k ≢ at → place_at u k ≡ place_at v k
+
+pub moves_of : (v u : PoolView) (at : LinkPlace) (slot : ℕ) → Alters v u at slot → Moves v u at
+moves_of v u at slot alters =
+    record { incarnation = alters.incarnation; places = alters.places }
+
 pub alters_not : (v : PoolView) (at : LinkPlace) (slot : ℕ) → Alters v v at slot
 alters_not v at slot = record {
   incarnation = refl;
@@ -210,10 +219,10 @@ which_place a b = ⊎_elim
     (cases_eq a.database b.database)
 
 -- what is at a place once one was written
-pub placed_cases : (v u : PoolView) (at k : LinkPlace) (slot : ℕ) (p : Place) → Alters v u at slot
+pub placed_cases : (v u : PoolView) (at k : LinkPlace) (p : Place) → Moves v u at
     → place_at u k ≡ Some p
     → ((k ≢ at) × (place_at v k ≡ Some p)) ⊎ ((k ≡ at) × (place_at u at ≡ Some p))
-placed_cases v u at k slot p alters there = ⊎_elim
+placed_cases v u at k p alters there = ⊎_elim
     (λ same. inr (same, ap (place_at u) (sym same) ∙ there))
     (λ apart. inl (apart, sym (alters.places k apart) ∙ there))
     (which_place k at)
@@ -293,8 +302,8 @@ link_stands_still {lasts = lasts} view n link b regrips me incarnation h = recor
 
 -- each link stands, if what is at the one place that changed does
 pub links_moved : (group : List NodeSettings) (nodes : List NodeView) (olds news : List Face) (processes : List Process) (lasts : List (Option ℕ)) (was now : List Connection)
-    (q : ℕ) (v : NodeView) (u : PoolView) (at : LinkPlace) (slot : ℕ)
-    → slice_get nodes q ≡ Some v → Alters v.links u at slot
+    (q : ℕ) (v : NodeView) (u : PoolView) (at : LinkPlace)
+    → slice_get nodes q ≡ Some v → Moves v.links u at
     → AllLinksStand group nodes olds processes lasts was
     → ((i : ℕ) (view n : NodeView) (k : LinkPlace) (link : Link) (b : ℕ) → slice_get nodes i ≡ Some view
     → n.me ≡ view.me → n.links.incarnation ≡ view.links.incarnation
@@ -304,7 +313,7 @@ pub links_moved : (group : List NodeSettings) (nodes : List NodeView) (olds news
     → ((link : Link) → place_at u at ≡ Some (Place.Link link)
     → (b : ℕ) × IsProcess group processes v.me link b × LinkStands news lasts now (with_links v u) link b)
     → AllLinksStand group (set nodes q (with_links v u)) news processes lasts now
-links_moved group nodes olds news processes lasts was now q v u at slot there alters old others here i view at_i k link at_k = ⊎_elim
+links_moved group nodes olds news processes lasts was now q v u at there alters old others here i view at_i k link at_k = ⊎_elim
     (λ same. let h = old i view same.1 k link at_k in
     (h.0, h.1, others i view view k link h.0 same.1 refl refl at_k (λ e. absurd (same.0 e)) h.1 h.2))
     (λ new. subst (λ (n : NodeView). (b : ℕ) × IsProcess group processes n.me link b × LinkStands news lasts now n link b)
@@ -312,7 +321,7 @@ links_moved group nodes olds news processes lasts was now q v u at slot there al
     (λ other. let h = old q v there k link other.1 in
     (h.0, h.1, others q v (with_links v u) k link h.0 there refl alters.incarnation other.1 (λ e d. other.0 d) h.1 h.2))
     (λ mine. here link mine.1)
-    (placed_cases v.links u at k slot (Place.Link link) alters
+    (placed_cases v.links u at k (Place.Link link) alters
     (subst (λ (n : NodeView). place_at n.links k ≡ Some (Place.Link link)) new.1 at_k))))
     (set_cases nodes q i view (with_links v u) at_i)
 
@@ -374,8 +383,8 @@ slots_moved nodes olds news q v u there incarnation regrips old elsewhere grips 
     (set_cases nodes q i view (with_links v u) at_i)
 
 -- what is known of links at rest
-pub rest_moved : (nodes : List NodeView) (backends : List Backend) (q : ℕ) (v : NodeView) (u : PoolView) (at : LinkPlace) (slot : ℕ)
-    → Alters v.links u at slot
+pub rest_moved : (nodes : List NodeView) (backends : List Backend) (q : ℕ) (v : NodeView) (u : PoolView) (at : LinkPlace)
+    → Moves v.links u at
     → slice_get nodes q ≡ Some v
     → ((i : ℕ) (view : NodeView) → slice_get nodes i ≡ Some view → AreAtRest backends view)
     → ((link : Link) (j : ℕ) (b : Backend) → place_at u at ≡ Some (Place.Link link)
@@ -383,10 +392,10 @@ pub rest_moved : (nodes : List NodeView) (backends : List Backend) (q : ℕ) (v 
     → b.link ≡ Some link.details → load_of b ≡ 0)
     → (i : ℕ) (view : NodeView) → slice_get (set nodes q (with_links v u)) i ≡ Some view
     → AreAtRest backends view
-rest_moved nodes backends q v u at slot alters there old here i view at_i = ⊎_elim
+rest_moved nodes backends q v u at alters there old here i view at_i = ⊎_elim
     (λ same. old i view same.1)
     (λ new. subst (AreAtRest backends) (sym new.1) (λ k link j b at_k free at_j of. ⊎_elim
     (λ other. old q v there k link j b other.1 free at_j of)
     (λ mine. here link j b mine.1 free at_j of)
-    (placed_cases v.links u at k slot (Place.Link link) alters at_k)))
+    (placed_cases v.links u at k (Place.Link link) alters at_k)))
     (set_cases nodes q i view (with_links v u) at_i)

@@ -15,7 +15,7 @@ use Rattle.world.specs.World.{World, Backend, Connection, Hand, Issue, Session}
 use Rattle.world.specs.Changes.{holding}
 use Rattle.world.specs.Facts.{Process, Grip, grip_of, Face, face_of, processes_of, lasts_of, faces_of, IsOwnGrip, IsClientOf, AreClients, IsIn, GripFits, FitsSlot, FitSlots, AllFitSlots, NumbersLeft, IsProcess, LinkStands, AllLinksStand, is_with_client, load_of, Facts}
 use Rattle.world.proofs.Lists.{set_here, set_there, set_cases, read_map, map_write}
-use Rattle.world.proofs.Nodes.{Grew, one_grew, nodes_grew, issues_grew, numbers_grew, with_links, Alters, Belongs, SameBut, same_face, Regrips, one_regrips, was_in, is_in_still, link_stands_still, links_moved, other_grips, slots_moved, rest_moved}
+use Rattle.world.proofs.Nodes.{Grew, one_grew, nodes_grew, issues_grew, numbers_grew, with_links, Alters, moves_of, Belongs, SameBut, same_face, Regrips, one_regrips, was_in, is_in_still, link_stands_still, links_moved, other_grips, slots_moved, rest_moved}
 
 -- what is known of next numbers, whatever clients have in hand
 pub numbers_regripped : (nodes : List NodeView) (olds news : List Face) (processes : List Process) (connections : List Connection)
@@ -156,7 +156,7 @@ change_kept w p q s v u at hand c f =
           (numbers_grew w.nodes news faces (processes_of w) w.connections grew f.numbers));
       links = subst (λ (fs : List Face). AllLinksStand w.group news fs (processes_of w) (lasts_of w) w.connections) back
           (links_moved w.group w.nodes faces (set faces p (face_of t)) (processes_of w) (lasts_of w) w.connections w.connections
-          q v u at (slot_of s.pass.key) c.node c.alters f.links
+          q v u at c.node (moves_of v.links u at (slot_of s.pass.key) c.alters) f.links
           (λ i view n k link b at_i me incarnation at_k other process stands.
           link_stands_still view n link b regrips me incarnation stands)
           (λ link at_k. let h = c.links link at_k in
@@ -169,7 +169,8 @@ change_kept w p q s v u at hand c f =
             (λ new. c.outstanding place n lease b
             (ap (λ (y : Session). y.hand) (sym new.1) ∙ hand_is) at_b)
             (set_cases w.sessions p i z t at_i);
-        rest = rest_moved w.nodes w.backends q v u at (slot_of s.pass.key) c.alters c.node f.loads.rest c.rest;
+        rest = rest_moved w.nodes w.backends q v u at
+            (moves_of v.links u at (slot_of s.pass.key) c.alters) c.node f.loads.rest c.rest;
       };
       forwards = f.forwards;
       safe = record { struck = f.safe.struck; taken = f.safe.taken; earned = f.safe.earned };
