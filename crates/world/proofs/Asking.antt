@@ -182,14 +182,14 @@ lent_by w p q at s v lease link x y f whole there is live was free says here of 
 pub one_open : (connections : List Connection) (i b : ℕ) (c : Connection)
     → slice_get connections i ≡ Some c → c.backend ≡ b → c.report ≡ None
     → 0 < open_for b connections
-one_open [] i b c there of open = absurd (none-some c there)
-one_open (x ∷ xs) zero b c there of open =
+one_open [] i b c there of none = absurd (none-some c there)
+one_open (x ∷ xs) zero b c there of none =
     let same : x ≡ c = same_Some x c there in
     let first : (x.backend == b) ≡ true = eq-eqb x.backend b (ap (λ (z : Connection). z.backend) same ∙ of) in
-    let second : x.report ≡ None = ap (λ (z : Connection). z.report) same ∙ open in
+    let second : x.report ≡ None = ap (λ (z : Connection). z.report) same ∙ none in
     rw (first, second) (omega arith)
-one_open (x ∷ xs) (suc i) b c there of open =
-    let more = one_open xs i b c there of open in omega (arith, more)
+one_open (x ∷ xs) (suc i) b c there of none =
+    let more = one_open xs i b c there of none in omega (arith, more)
 
 -- nobody has an idle link, nor is anything to come for it
 idle_unclaimed : (w : World) (q at : ℕ) (v : NodeView) (lease : LinkRecord) (link : Link) (x : Backend)

@@ -4,7 +4,8 @@ use Rattle.std.proofs.Math.ListN.{set}
 use Rattle.std.specs.List.{slice_get}
 use Rattle.std.proofs.lemmas.Option.{same_Some, none-some}
 use Rattle.std.proofs.lemmas.Bool.{cases_eq}
-use Rattle.pg_ids.specs.AnyKey.{slot_of}
+use Rattle.pg_ids.specs.AnyKey.{slot_of, short_of, long_part_of}
+use Rattle.key_table.specs.Slots.{entry_of}
 use Rattle.lease.specs.declared.{link_record.LinkRecord.LinkRecord, link_place.LinkPlace.LinkPlace}
 use Rattle.lease.specs.declared.{permit.PermitRecord.PermitRecord, ticket.TicketRecord.TicketRecord, pass.PassRecord.PassRecord}
 use Rattle.link_pool.specs.declared.place.{Place.Place, Link.Link, LinkState.LinkState, Claim.Claim}
@@ -189,11 +190,23 @@ alters_claim v at slot c = record {
   claims = λ s n. set_there v.claims slot s c n;
 }
 
+-- a queue changes
+queue_alters : (v : PoolView) (at : LinkPlace) (slot d : ℕ) (change : List ℕ → List ℕ)
+    → Alters v (with_queue v d change) at slot
+queue_alters v at slot d change = record {
+  incarnation = refl;
+  link = omega arith;
+  ticket = omega arith;
+  places = λ k n. refl;
+  claims = λ s n. refl;
+}
+
 -- a slot leaves its queue
 out_alters : (v : PoolView) (at : LinkPlace) (slot : ℕ) (o : Option Claim)
     → Alters v (out_of_queue o v slot) at slot
 out_alters v at slot (Some (Claim.Waiting d)) =
-    alters_claim (with_queue v d (others slot)) at slot Claim.Nothing
+    alters_twice v (with_queue v d (others slot)) _ at slot (queue_alters v at slot d (others slot))
+    (alters_claim (with_queue v d (others slot)) at slot Claim.Nothing)
 out_alters v at slot other = alters_not v at slot
 
 pub alters_unqueued : (v : PoolView) (at : LinkPlace) (slot : ℕ)
@@ -370,8 +383,13 @@ slots_moved nodes olds news q v u there incarnation regrips old elsewhere grips 
           let from = regrips.from j x at_j in
           let was = h.fits j from.0 from.1 (was_in v (with_links v u) from.0 x from.2 refl incarnation is) in
           record {
-            client = rw (from.2.pass, from.2.database) was.client;
-            entry = rw (from.2.pass) was.entry;
+            client = subst (λ (d : ℕ). IsClient v (slot_of x.pass.key) record { database = d; pass = x.pass.number })
+                (sym from.2.database) (subst (λ (p : PassRecord).
+                IsClient v (slot_of p.key) record { database = from.0.database; pass = p.number })
+                (sym from.2.pass) was.client);
+            entry = subst (λ (p : PassRecord). slice_get v.keys.entries (slot_of p.key)
+                ≡ Some (Some (entry_of (short_of p.key).secret (long_part_of p.key))))
+                (sym from.2.pass) was.entry;
             grip = grips j x at_j is;
           };
       filled = λ slot client live.

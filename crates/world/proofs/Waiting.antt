@@ -52,11 +52,31 @@ claim_waits v slot c was now = record {
   holding = free_set v.claims slot c was now;
 }
 
+-- a queue changes
+queue_waits : (v : PoolView) (d : ℕ) (change : List ℕ → List ℕ) → Waits v (with_queue v d change)
+queue_waits v d change = record {
+  incarnation = refl;
+  link = omega arith;
+  ticket = omega arith;
+  places = λ k. refl;
+  holding = λ s. refl;
+}
+
+waits_twice : (v x u : PoolView) → Waits v x → Waits x u → Waits v u
+waits_twice v x u a b = record {
+  incarnation = b.incarnation ∙ a.incarnation;
+  link = let p = a.link in let q = b.link in omega (arith, p, q);
+  ticket = let p = a.ticket in let q = b.ticket in omega (arith, p, q);
+  places = λ k. b.places k ∙ a.places k;
+  holding = λ s. b.holding s ∙ a.holding s;
+}
+
 -- a client waits
 in_waits : (v : PoolView) (slot d : ℕ) (o : Option Claim) → slice_get v.claims slot ≡ o
     → Waits v (in_queue o v slot d)
 in_waits v slot d (Some Claim.Nothing) e =
-    claim_waits (with_queue v d (behind slot)) slot (Claim.Waiting d) (ap is_holding e) refl
+    waits_twice v (with_queue v d (behind slot)) _ (queue_waits v d (behind slot))
+    (claim_waits (with_queue v d (behind slot)) slot (Claim.Waiting d) (ap is_holding e) refl)
 in_waits v slot d other e = waits_not v
 
 pub queued_waits : (v : PoolView) (slot d : ℕ) → Waits v (queued v slot d)
@@ -66,7 +86,8 @@ queued_waits v slot d = in_waits v slot d (slice_get v.claims slot) refl
 un_waits : (v : PoolView) (slot : ℕ) (o : Option Claim) → slice_get v.claims slot ≡ o
     → Waits v (unwaited_by o v slot)
 un_waits v slot (Some (Claim.Waiting d)) e =
-    claim_waits (with_queue v d (others slot)) slot Claim.Cancelled (ap is_holding e) refl
+    waits_twice v (with_queue v d (others slot)) _ (queue_waits v d (others slot))
+    (claim_waits (with_queue v d (others slot)) slot Claim.Cancelled (ap is_holding e) refl)
 un_waits v slot other e = waits_not v
 
 pub unwaited_waits : (v : PoolView) (slot : ℕ) → Waits v (unwaited v slot)
