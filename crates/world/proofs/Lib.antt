@@ -12,3 +12,4 @@ pub mod Opening
 pub mod Backends
 pub mod Waiting
 pub mod Asking
+pub mod GoingUp
