@@ -13,3 +13,4 @@ pub mod Backends
 pub mod Waiting
 pub mod Asking
 pub mod GoingUp
+pub mod Reporting
