@@ -14,3 +14,4 @@ pub mod Waiting
 pub mod Asking
 pub mod GoingUp
 pub mod Reporting
+pub mod Telling

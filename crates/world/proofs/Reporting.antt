@@ -44,7 +44,7 @@ open_other (x ∷ xs) (suc k) c d b there same apart =
     rw (open_other xs k c d b there same apart) refl
 
 -- a connection to this process is reported
-open_less : (was : List Connection) (k : ℕ) (c d : Connection) (b : ℕ) (how : Report)
+pub open_less : (was : List Connection) (k : ℕ) (c d : Connection) (b : ℕ) (how : Report)
     → slice_get was k ≡ Some c → c.backend ≡ b → c.report ≡ None → d.report ≡ Some how
     → open_for b was ≡ open_for b (set was k d) + 1
 open_less [] k c d b how there of none some = absurd (none-some c there)
@@ -80,7 +80,7 @@ pub record IsReport (w : World) (k q : ℕ) (c d : Connection) (v : NodeView) (u
       → b.link ≡ Some l.details → load_of b ≡ 0
 
 -- a link of another process stands as it stood
-other_stands : (w : World) (k : ℕ) (c d : Connection) (view n : NodeView) (link : Link) (b : ℕ)
+pub other_stands : (w : World) (k : ℕ) (c d : Connection) (view n : NodeView) (link : Link) (b : ℕ)
     → slice_get w.connections k ≡ Some c → Advances c d → c.backend ≢ b
     → n.me ≡ view.me → n.links.incarnation ≡ view.links.incarnation
     → LinkStands (faces_of w) (lasts_of w) w.connections view link b
@@ -96,7 +96,7 @@ other_stands w k c d view n link b there step apart me incarnation h = record {
 }
 
 -- the process of a connection is that of its ticket's link alone
-ticket_link : (w : World) (k q i : ℕ) (c : Connection) (v view : NodeView) (at : LinkPlace) (link : Link)
+pub ticket_link : (w : World) (k q i : ℕ) (c : Connection) (v view : NodeView) (at : LinkPlace) (link : Link)
     → Facts w → AreWhole w.nodes → slice_get w.connections k ≡ Some c
     → IsNode w.nodes c.ticket.peer q v → slice_get w.nodes i ≡ Some view
     → place_at view.links at ≡ Some (Place.Link link)
@@ -190,7 +190,7 @@ free_without (Some slot) claims s free = once claims slot s free
     once (x ∷ xs) (suc slot) (suc s) free = once xs slot s free
 
 -- what clients have fits, where a place has changed that no client has
-grips_apart : (v : PoolView) (at : LinkPlace) (link : Link) (p : Place) (g : Option ℕ)
+pub grips_apart : (v : PoolView) (at : LinkPlace) (link : Link) (p : Place) (g : Option ℕ)
     → place_at v at ≡ Some (Place.Link link) → is_with_client link.state ≡ false
     → (s : ℕ) (grip : Grip) → GripFits v s grip → GripFits (nothing_for g (with_place v at p)) s grip
 grips_apart v at link p g there free s Grip.Nothing fits = free_without g v.claims s fits
@@ -213,7 +213,7 @@ grips_apart v at link p g there free s (Grip.Lease lease b) fits = (fits.0, reco
     not_held l e h = differ (sym (ap (λ (z : Link). is_with_client z.state) (same_link l e) ∙ ap is_with_client h) ∙ free)
 
 -- what clients have fits, where a link has other tickets
-grips_held : (v : PoolView) (at : LinkPlace) (link : Link) (hold : OpenTickets)
+pub grips_held : (v : PoolView) (at : LinkPlace) (link : Link) (hold : OpenTickets)
     → place_at v at ≡ Some (Place.Link link)
     → (s : ℕ) (grip : Grip) → GripFits v s grip → GripFits (with_place v at (Place.Link (with_hold link hold))) s grip
 grips_held v at link hold there s Grip.Nothing fits = fits
