@@ -15,3 +15,4 @@ pub mod Asking
 pub mod GoingUp
 pub mod Reporting
 pub mod Telling
+pub mod Keys
