@@ -16,3 +16,4 @@ pub mod GoingUp
 pub mod Reporting
 pub mod Telling
 pub mod Keys
+pub mod Arriving
