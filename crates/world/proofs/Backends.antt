@@ -184,7 +184,7 @@ pub record IsUnclaimed (w : World) (b : ℕ) : Type 0 where
 abbrev pub held_next : ℕ → Backend → Backend
 held_next label x = record x { holders = label ∷ x.holders }
 
-lease_of_hand : (h : Hand) (lease : LinkRecord) (b : ℕ) → grip_of h ≡ Grip.Lease lease b
+pub lease_of_hand : (h : Hand) (lease : LinkRecord) (b : ℕ) → grip_of h ≡ Grip.Lease lease b
     → (n : ℕ) × (h ≡ Hand.Lease lease b n)
 lease_of_hand Hand.Empty lease b e = absurd (no_lease e)
   where

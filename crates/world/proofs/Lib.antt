@@ -17,3 +17,4 @@ pub mod Reporting
 pub mod Telling
 pub mod Keys
 pub mod Arriving
+pub mod Serving

@@ -65,7 +65,7 @@ nodes_grew olds news grew h = record {
 }
 
 -- a node of the one list is of the other
-was_node : (olds news : List NodeView) → AllGrew olds news → (number place : ℕ) (x : NodeView)
+pub was_node : (olds news : List NodeView) → AllGrew olds news → (number place : ℕ) (x : NodeView)
     → IsNode news number place x → (y : NodeView) × IsNode olds number place y × Grew y x
 was_node olds news grew number place x is =
     let from = grew place x is.there in
