@@ -18,3 +18,4 @@ pub mod Telling
 pub mod Keys
 pub mod Arriving
 pub mod Serving
+pub mod Delivering
