@@ -127,7 +127,7 @@ forward_proceeds w k x y there step ended f = record {
 }
 
 -- a flight has one forward connection
-one_forward : (w : World) → Facts w → (flight i j : ℕ) (x y : Forward)
+pub one_forward : (w : World) → Facts w → (flight i j : ℕ) (x y : Forward)
     → IsForward w.forwards flight i x → IsForward w.forwards flight j y → x ≡ y
 one_forward w f flight i j x y a b =
     let place : i ≡ j = f.forwards.one_flight i j x y a.there b.there (a.named ∙ sym b.named) in

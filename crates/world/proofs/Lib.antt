@@ -19,3 +19,4 @@ pub mod Keys
 pub mod Arriving
 pub mod Serving
 pub mod Delivering
+pub mod Accepting
