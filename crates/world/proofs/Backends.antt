@@ -136,6 +136,7 @@ added_kept w x other given own none f =
       numbers = subst (λ (q : List Process). NumbersLeft w.nodes (faces_of w) q w.connections) (sym to_processes)
           (record {
             passes = f.numbers.passes;
+            incarnations = f.numbers.incarnations;
             links = λ i place p l view at of is. ⊎_elim
                 (λ was. f.numbers.links i place p l view was of is)
                 (λ new. given l place view (ap (λ (q : Process). q.link) (sym new.1) ∙ of) is)

@@ -115,6 +115,7 @@ module _ (arrivals : List Arrival) (processes : List Process) (lasts : List (Opt
       → NumbersLeft nodes faces processes was → NumbersLeft nodes faces processes (set was k d)
   numbers_kept nodes faces h = record {
     passes = h.passes;
+    incarnations = h.incarnations;
     links = h.links;
     tickets = λ i place x view there is. let a = came_from i x there in
         subst (λ (t : TicketRecord). t.number < view.links.next_ticket) (sym a.2.ticket)

@@ -20,3 +20,4 @@ pub mod Arriving
 pub mod Serving
 pub mod Delivering
 pub mod Accepting
+pub mod Leaving

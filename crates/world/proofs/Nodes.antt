@@ -19,33 +19,54 @@ use Rattle.world.specs.World.{World, Backend, Connection, Issue, Start, HadBoot,
 use Rattle.world.specs.Facts.{Process, Grip, Face, IsIn, GripFits, FitsSlot, FitSlots, AllFitSlots, AreNodes, WasGiven, IsGiven, AreIssues, NumbersLeft, IsProcess, LinkStands, LinksStand, AllLinksStand, is_with_client, load_of, AreAtRest}
 use Rattle.world.proofs.Lists.{set_here, set_there, set_cases}
 
--- a node keeps its number, its boot and its slots, and its next numbers grow
-pub record Grew (y x : NodeView) : Type 0 where
+-- a node keeps its number and its slots, and its next numbers grow
+pub record Kept (y x : NodeView) : Type 0 where
   pub me : x.me ≡ y.me
   pub slots : length x.clients ≡ length y.clients
-  pub boot : x.boot ≡ y.boot
-  pub serial : y.next_serial ≤ x.next_serial
+  pub incarnation : y.links.incarnation ≤ x.links.incarnation
   pub pass : y.next_pass ≤ x.next_pass
   pub link : y.links.next_link ≤ x.links.next_link
   pub ticket : y.links.next_ticket ≤ x.links.next_ticket
 
-pub grew_not : (x : NodeView) → Grew x x
-grew_not x = record {
+-- it keeps its boot too, in which its serials grow
+pub record Grew (y x : NodeView) : Type 0 where
+  pub kept : Kept y x
+  pub boot : x.boot ≡ y.boot
+  pub serial : y.next_serial ≤ x.next_serial
+
+pub kept_not : (x : NodeView) → Kept x x
+kept_not x = record {
   me = refl;
   slots = refl;
-  boot = refl;
-  serial = omega arith;
+  incarnation = omega arith;
   pass = omega arith;
   link = omega arith;
   ticket = omega arith;
 }
 
+grew_not : (x : NodeView) → Grew x x
+grew_not x = record { kept = kept_not x; boot = refl; serial = omega arith }
+
 -- each node of a list comes from one of another list
+abbrev pub AllKept : List NodeView → List NodeView → Type 0
+AllKept olds news = (i : ℕ) (x : NodeView) → slice_get news i ≡ Some x
+    → (y : NodeView) × (slice_get olds i ≡ Some y) × Kept y x
+
 abbrev pub AllGrew : List NodeView → List NodeView → Type 0
 AllGrew olds news = (i : ℕ) (x : NodeView) → slice_get news i ≡ Some x
     → (y : NodeView) × (slice_get olds i ≡ Some y) × Grew y x
 
--- one node grows
+pub all_kept : (olds news : List NodeView) → AllGrew olds news → AllKept olds news
+all_kept olds news grew i x at = let g = grew i x at in (g.0, g.1, g.2.kept)
+
+-- one node changes
+pub one_kept : (nodes : List NodeView) (q : ℕ) (v n : NodeView) → slice_get nodes q ≡ Some v
+    → Kept v n → AllKept nodes (set nodes q n)
+one_kept nodes q v n there kept i x at = ⊎_elim
+    (λ same. (x, same.1, kept_not x))
+    (λ new. (v, ap (slice_get nodes) new.0 ∙ there, subst (Kept v) (sym new.1) kept))
+    (set_cases nodes q i x n at)
+
 pub one_grew : (nodes : List NodeView) (q : ℕ) (v n : NodeView) → slice_get nodes q ≡ Some v
     → Grew v n → AllGrew nodes (set nodes q n)
 one_grew nodes q v n there grew i x at = ⊎_elim
@@ -53,22 +74,42 @@ one_grew nodes q v n there grew i x at = ⊎_elim
     (λ new. (v, ap (slice_get nodes) new.0 ∙ there, subst (Grew v) (sym new.1) grew))
     (set_cases nodes q i x n at)
 
+-- a step of the links alone
+pub links_grew : (v : NodeView) (u : PoolView) → u.incarnation ≡ v.links.incarnation
+    → v.links.next_link ≤ u.next_link → v.links.next_ticket ≤ u.next_ticket
+    → Grew v (record v { links = u })
+links_grew v u same link ticket = record {
+  kept = record {
+    me = refl;
+    slots = refl;
+    incarnation = omega (arith, same);
+    pass = omega arith;
+    link = link;
+    ticket = ticket;
+  };
+  boot = refl;
+  serial = omega arith;
+}
+
 -- what is known of the nodes' numbers
-pub nodes_grew : (olds news : List NodeView) → AllGrew olds news → AreNodes olds → AreNodes news
-nodes_grew olds news grew h = record {
+pub nodes_kept : (olds news : List NodeView) → AllKept olds news → AreNodes olds → AreNodes news
+nodes_kept olds news kept h = record {
   once = λ i j a b at_i at_j same.
-      let x = grew i a at_i in let y = grew j b at_j in
+      let x = kept i a at_i in let y = kept j b at_j in
       h.once i j x.0 y.0 x.1 y.1 (sym x.2.me ∙ same ∙ y.2.me);
-  ranges = λ i v at. let x = grew i v at in let r = h.ranges i x.0 x.1 in
+  ranges = λ i v at. let x = kept i v at in let r = h.ranges i x.0 x.1 in
       (subst (λ (k : ℕ). k < 2 ^ 14) (sym x.2.me) r.0,
       subst (λ (k : ℕ). k ≤ 2 ^ 16) (sym x.2.slots) r.1);
 }
 
+pub nodes_grew : (olds news : List NodeView) → AllGrew olds news → AreNodes olds → AreNodes news
+nodes_grew olds news grew h = nodes_kept olds news (all_kept olds news grew) h
+
 -- a node of the one list is of the other
-pub was_node : (olds news : List NodeView) → AllGrew olds news → (number place : ℕ) (x : NodeView)
-    → IsNode news number place x → (y : NodeView) × IsNode olds number place y × Grew y x
-was_node olds news grew number place x is =
-    let from = grew place x is.there in
+pub was_node : (olds news : List NodeView) → AllKept olds news → (number place : ℕ) (x : NodeView)
+    → IsNode news number place x → (y : NodeView) × IsNode olds number place y × Kept y x
+was_node olds news kept number place x is =
+    let from = kept place x is.there in
     (from.0, record { there = from.1; named = sym from.2.me ∙ is.named }, from.2)
 
 -- what is known of the keys
@@ -77,7 +118,7 @@ pub issues_grew : (olds news : List NodeView) (starts : List Start) (issues : Li
 issues_grew olds news starts issues grew h = record {
   booted = λ i v at. let x = grew i v at in
       subst (λ (b : ℕ). HadBoot starts v.me b) (sym x.2.boot)
-      (subst (λ (m : ℕ). HadBoot starts m x.0.boot) (sym x.2.me) (h.booted i x.0 x.1));
+      (subst (λ (m : ℕ). HadBoot starts m x.0.boot) (sym x.2.kept.me) (h.booted i x.0 x.1));
   each = λ i issue at. let g = h.each i issue at in record {
     key = g.key;
     is = g.is;
@@ -86,8 +127,9 @@ issues_grew olds news starts issues grew h = record {
     part = λ part has. let w = g.part part has in record {
       boot = w.boot;
       serial = λ place view is same.
-          let from = was_node olds news grew issue.node place view is in
-          let old = w.serial place from.0 from.1 (sym from.2.boot ∙ same) in
+          let from = grew place view is.there in
+          let old = w.serial place from.0 (record { there = from.1; named = sym from.2.kept.me ∙ is.named })
+          (sym from.2.boot ∙ same) in
           let more = from.2.serial in
           omega (arith, old, more);
     };
@@ -96,26 +138,37 @@ issues_grew olds news starts issues grew h = record {
 }
 
 -- what is known of the next numbers
-pub numbers_grew : (olds news : List NodeView) (faces : List Face) (processes : List Process) (connections : List Connection)
-    → AllGrew olds news → NumbersLeft olds faces processes connections
+pub numbers_left : (olds news : List NodeView) (faces : List Face) (processes : List Process) (connections : List Connection)
+    → AllKept olds news → NumbersLeft olds faces processes connections
     → NumbersLeft news faces processes connections
-numbers_grew olds news faces processes connections grew h = record {
+numbers_left olds news faces processes connections kept h = record {
   passes = λ i place face view at is.
-      let from = was_node olds news grew face.node place view is in
+      let from = was_node olds news kept face.node place view is in
       let old = h.passes i place face from.0 at from.1 in
       let more = from.2.pass in
       omega (arith, old, more);
+  incarnations = λ i place face view at is.
+      let from = was_node olds news kept face.node place view is in
+      let old = h.incarnations i place face from.0 at from.1 in
+      let more = from.2.incarnation in
+      omega (arith, old, more);
   links = λ i place process link view at of is.
-      let from = was_node olds news grew link.peer place view is in
+      let from = was_node olds news kept link.peer place view is in
       let old = h.links i place process link from.0 at of from.1 in
       let more = from.2.link in
       omega (arith, old, more);
   tickets = λ i place connection view at is.
-      let from = was_node olds news grew connection.ticket.peer place view is in
+      let from = was_node olds news kept connection.ticket.peer place view is in
       let old = h.tickets i place connection from.0 at from.1 in
       let more = from.2.ticket in
       omega (arith, old, more);
 }
+
+pub numbers_grew : (olds news : List NodeView) (faces : List Face) (processes : List Process) (connections : List Connection)
+    → AllGrew olds news → NumbersLeft olds faces processes connections
+    → NumbersLeft news faces processes connections
+numbers_grew olds news faces processes connections grew h =
+    numbers_left olds news faces processes connections (all_kept olds news grew) h
 
 -- the node with these links
 abbrev pub with_links : NodeView → PoolView → NodeView
@@ -191,7 +244,7 @@ alters_claim v at slot c = record {
 }
 
 -- a queue changes
-queue_alters : (v : PoolView) (at : LinkPlace) (slot d : ℕ) (change : List ℕ → List ℕ)
+pub queue_alters : (v : PoolView) (at : LinkPlace) (slot d : ℕ) (change : List ℕ → List ℕ)
     → Alters v (with_queue v d change) at slot
 queue_alters v at slot d change = record {
   incarnation = refl;

@@ -24,7 +24,7 @@ use Rattle.world.specs.Facts.{Process, Grip, Face, processes_of, lasts_of, faces
 use Rattle.world.proofs.Lists.{set_cases}
 use Rattle.world.proofs.Holding.{link_fits, link_place}
 use Rattle.world.proofs.Connections.{Advances, OneAdvances, goes_on, connections_kept, numbers_kept, earned_kept, forwards_kept}
-use Rattle.world.proofs.Nodes.{one_grew, nodes_grew, issues_grew, numbers_grew, with_links, Moves, same_face, regrips_not, was_in, links_moved, slots_moved, rest_moved, which_place}
+use Rattle.world.proofs.Nodes.{one_grew, links_grew, nodes_grew, issues_grew, numbers_grew, with_links, Moves, same_face, regrips_not, was_in, links_moved, slots_moved, rest_moved, which_place}
 use Rattle.world.proofs.GivingBack.{process_again, written_at, same_nodes}
 use Rattle.world.proofs.GoingUp.{not_equal}
 use Rattle.world.proofs.Asking.{one_open}
@@ -122,15 +122,7 @@ report_kept w k q c d v u whole r f =
     let news = set w.nodes q (with_links v u) in
     let faces = faces_of w in
     let at_q = r.node.there in
-    let grew = one_grew w.nodes q v (with_links v u) at_q (record {
-      me = refl;
-      slots = refl;
-      boot = refl;
-      serial = omega arith;
-      pass = omega arith;
-      link = r.link;
-      ticket = r.ticket;
-    }) in
+    let grew = one_grew w.nodes q v (with_links v u) at_q (links_grew v u r.moves.incarnation r.link r.ticket) in
     record {
       servers = f.servers;
       nodes = nodes_grew w.nodes news grew f.nodes;

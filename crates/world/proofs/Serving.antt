@@ -24,7 +24,7 @@ use Rattle.world.specs.Facts.{Process, process_of, Grip, grip_of, Face, face_of,
 use Rattle.world.proofs.Lists.{set_here, kept_behind, added_cases, added_last, before_end, read_map}
 use Rattle.world.proofs.Holding.{link_fits, link_place}
 use Rattle.world.proofs.Connections.{forwards_kept}
-use Rattle.world.proofs.Nodes.{Grew, one_grew, was_node, nodes_grew, issues_grew, numbers_grew, with_links, Moves, same_face, regrips_not, was_in, links_moved, slots_moved, rest_moved}
+use Rattle.world.proofs.Nodes.{one_grew, links_grew, was_node, all_kept, nodes_grew, issues_grew, numbers_grew, with_links, Moves, same_face, regrips_not, was_in, links_moved, slots_moved, rest_moved}
 use Rattle.world.proofs.GivingBack.{own_lease, process_again, process_at, written_at}
 use Rattle.world.proofs.Backends.{lease_of_hand}
 use Rattle.world.proofs.GoingUp.{not_equal}
@@ -117,15 +117,7 @@ served_kept w q b v at link c whole is f =
       incarnation = refl;
       places = λ k apart. place_there v.links at k (Place.Link new) _ apart;
     } in
-    let grew = one_grew w.nodes q v n is.node (record {
-      me = refl;
-      slots = refl;
-      boot = refl;
-      serial = omega arith;
-      pass = omega arith;
-      link = omega arith;
-      ticket = omega arith;
-    }) in
+    let grew = one_grew w.nodes q v n is.node (links_grew v u refl (omega arith) (omega arith)) in
     let numbers = numbers_grew w.nodes news faces (processes_of w) w.connections grew f.numbers in
     let is_link : (l : Link) → place_at u at ≡ Some (Place.Link l) → new ≡ l =
     λ l e. same_link new l (written_at v.links at (Place.Link link) (Place.Link new) (Place.Link l) _ is.there e) in
@@ -149,11 +141,12 @@ served_kept w q b v at link c whole is f =
       processes = f.processes;
       numbers = record {
         passes = numbers.passes;
+        incarnations = numbers.incarnations;
         links = numbers.links;
         tickets = λ i place y view at_i is_node. ⊎_elim
             (λ was. numbers.tickets i place y view was is_node)
             (λ new_c.
-            let from = was_node w.nodes news grew y.ticket.peer place view is_node in
+            let from = was_node w.nodes news (all_kept w.nodes news grew) y.ticket.peer place view is_node in
             let its : y.ticket.number ≡ v.links.next_ticket =
             ap (λ (z : Connection). z.ticket.number) new_c.1 ∙ is.number in
             let where_it_is : place ≡ q = f.nodes.once place q from.0 v from.1.there is.node

@@ -15,7 +15,7 @@ use Rattle.world.specs.World.{World, Backend, Connection, Hand, Issue, Session}
 use Rattle.world.specs.Changes.{holding}
 use Rattle.world.specs.Facts.{Process, Grip, grip_of, Face, face_of, processes_of, lasts_of, faces_of, IsOwnGrip, IsClientOf, AreClients, IsIn, GripFits, FitsSlot, FitSlots, AllFitSlots, NumbersLeft, IsProcess, LinkStands, AllLinksStand, is_with_client, load_of, Facts}
 use Rattle.world.proofs.Lists.{set_here, set_there, set_cases, read_map, map_write}
-use Rattle.world.proofs.Nodes.{Grew, one_grew, nodes_grew, issues_grew, numbers_grew, with_links, Alters, moves_of, Belongs, SameBut, same_face, Regrips, one_regrips, was_in, is_in_still, link_stands_still, links_moved, other_grips, slots_moved, rest_moved}
+use Rattle.world.proofs.Nodes.{Grew, one_grew, links_grew, nodes_grew, issues_grew, numbers_grew, with_links, Alters, moves_of, Belongs, SameBut, same_face, Regrips, one_regrips, was_in, is_in_still, link_stands_still, links_moved, other_grips, slots_moved, rest_moved}
 
 -- what is known of next numbers, whatever clients have in hand
 pub numbers_regripped : (nodes : List NodeView) (olds news : List Face) (processes : List Process) (connections : List Connection)
@@ -27,6 +27,11 @@ numbers_regripped nodes olds news processes connections regrips h = record {
       let old = h.passes i place from.0 view from.1
       (record { there = is.there; named = is.named ∙ from.2.node }) in
       subst (λ (p : PassRecord). p.number < view.next_pass) (sym from.2.pass) old;
+  incarnations = λ i place face view at is.
+      let from = regrips.from i face at in
+      let old = h.incarnations i place from.0 view from.1
+      (record { there = is.there; named = is.named ∙ from.2.node }) in
+      subst (λ (p : PassRecord). p.incarnation ≤ view.links.incarnation) (sym from.2.pass) old;
   links = h.links;
   tickets = h.tickets;
 }
@@ -119,15 +124,7 @@ change_kept w p q s v u at hand c f =
     let like : SameBut (face_of s) (face_of t) = record { label = refl; node = refl; database = refl; pass = refl; stays = refl } in
     let regrips : Regrips faces (set faces p (face_of t)) =
     one_regrips faces p (face_of s) (face_of t) here like in
-    let grew = one_grew w.nodes q v (with_links v u) c.node (record {
-      me = refl;
-      slots = refl;
-      boot = refl;
-      serial = omega arith;
-      pass = omega arith;
-      link = c.alters.link;
-      ticket = c.alters.ticket;
-    }) in
+    let grew = one_grew w.nodes q v (with_links v u) c.node (links_grew v u c.alters.incarnation c.alters.link c.alters.ticket) in
     let back = sym (after_faces w p s t) in
     let news = set w.nodes q (with_links v u) in
     record {

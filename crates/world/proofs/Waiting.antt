@@ -11,7 +11,7 @@ use Rattle.link_pool.specs.PoolStep.{is_holding, IsHeld}
 use Rattle.node_core.specs.View.{NodeView}
 use Rattle.world.specs.World.{World}
 use Rattle.world.specs.Facts.{Grip, Face, IsIn, GripFits, AllFitSlots, processes_of, lasts_of, faces_of, Facts}
-use Rattle.world.proofs.Nodes.{Grew, one_grew, nodes_grew, issues_grew, numbers_grew, with_links, Moves, same_face, regrips_not, was_in, link_stands_still, links_moved, slots_moved, rest_moved}
+use Rattle.world.proofs.Nodes.{Grew, one_grew, links_grew, nodes_grew, issues_grew, numbers_grew, with_links, Moves, same_face, regrips_not, was_in, link_stands_still, links_moved, slots_moved, rest_moved}
 use Rattle.world.proofs.Steps.{nowhere, nothing_there}
 
 -- no place changes, and who has a link or a permit has it still
@@ -125,15 +125,7 @@ wait_kept w q v u there waits f =
     let none : (link : Link) → place_at u (nowhere v.links) ≡ Some (Place.Link link) → ⊥ =
     λ link e. none-some (Place.Link link)
     (sym (nothing_there v.links) ∙ sym (waits.places (nowhere v.links)) ∙ e) in
-    let grew = one_grew w.nodes q v (with_links v u) there (record {
-      me = refl;
-      slots = refl;
-      boot = refl;
-      serial = omega arith;
-      pass = omega arith;
-      link = waits.link;
-      ticket = waits.ticket;
-    }) in
+    let grew = one_grew w.nodes q v (with_links v u) there (links_grew v u waits.incarnation waits.link waits.ticket) in
     record {
       servers = f.servers;
       nodes = nodes_grew w.nodes news grew f.nodes;

@@ -176,10 +176,13 @@ pub record AreProcesses (processes : List Process) : Type 0 where
   pub links : (i j : ℕ) (a b : Process) (link : LinkRecord) → slice_get processes i ≡ Some a
       → slice_get processes j ≡ Some b → a.link ≡ Some link → b.link ≡ Some link → i ≡ j
 
--- the numbers that each node gives next are greater than all that it gave
+-- the numbers that each node gives next are greater than all that it gave, and its incarnation is
+-- the greatest that it had
 pub record NumbersLeft (nodes : List NodeView) (faces : List Face) (processes : List Process) (connections : List Connection) : Type 0 where
   pub passes : (i place : ℕ) (face : Face) (view : NodeView) → slice_get faces i ≡ Some face
       → IsNode nodes face.node place view → face.pass.number < view.next_pass
+  pub incarnations : (i place : ℕ) (face : Face) (view : NodeView) → slice_get faces i ≡ Some face
+      → IsNode nodes face.node place view → face.pass.incarnation ≤ view.links.incarnation
   pub links : (i place : ℕ) (process : Process) (link : LinkRecord) (view : NodeView)
       → slice_get processes i ≡ Some process → process.link ≡ Some link
       → IsNode nodes link.peer place view → link.link < view.links.next_link
