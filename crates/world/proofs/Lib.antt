@@ -21,3 +21,4 @@ pub mod Serving
 pub mod Delivering
 pub mod Accepting
 pub mod Leaving
+pub mod LoggingIn
