@@ -22,3 +22,5 @@ pub mod Delivering
 pub mod Accepting
 pub mod Leaving
 pub mod LoggingIn
+pub mod Logins
+pub mod Restarting

@@ -93,7 +93,7 @@ not_given v slot at link whole free there given =
     differ : false ≡ true → ⊥
     differ h = cc
 
-login_kept : (w : World) (q : ℕ) (v n : NodeView) (i : Issue) (s : Session) → AreWhole w.nodes
+pub login_kept : (w : World) (q : ℕ) (v n : NodeView) (i : Issue) (s : Session) → AreWhole w.nodes
     → IsLogin w q v n i s → Facts w
     → Facts (record w {
       nodes = set w.nodes q n;
