@@ -36,7 +36,7 @@ module _ (flights : List (List ℕ)) (arrivals : List Arrival) (connections : Li
       (λ new. (f, ap (slice_get was) new.0 ∙ there, subst (Proceeds f) (sym new.1) step))
       (set_cases was k i x g at)
 
-  goes_on : GoesOn arrivals arrivals connections connections was (set was k g)
+  pub goes_on : GoesOn arrivals arrivals connections connections was (set was k g)
   goes_on = record {
     arrivals = λ i a h. h;
     connections = λ i c h. (c, h, refl, λ e. e);

@@ -24,3 +24,5 @@ pub mod Leaving
 pub mod LoggingIn
 pub mod Logins
 pub mod Restarting
+pub mod Starting
+pub mod EveryStep

@@ -14,6 +14,7 @@ use Rattle.ini_config.specs.Node.{NodeSettings}
 use Rattle.node_core.specs.declared.client.Client.{Client}
 use Rattle.node_core.specs.declared.exchange.Order.{Order}
 use Rattle.node_core.specs.View.{NodeView, IsView, IsClient}
+use Rattle.world.specs.declared.event.Event.{Event}
 use Rattle.world.specs.World.{World, Arrival, Backend, Connection, Forward, Hand, Issue, Report, Server, Session, Start, HadBoot, IsNode, IsServer}
 use Rattle.world.specs.Settled.{Settled}
 use Rattle.world.specs.SafeCancellation.{IsSafe, IsEarned}
@@ -346,6 +347,11 @@ pub record Facts (w : World) : Type 0 where
   pub loads : AreLoads w.nodes w.sessions w.backends
   pub forwards : AreForwards w.flights w.arrivals w.connections w.forwards
   pub safe : IsSafe w
+
+-- the numbers of an event are in the ranges of their types, of which a secret's is needed
+abbrev pub IsEvent : Event → Type 0
+IsEvent (Event.Login node label database secret kind) = secret < 2 ^ 32
+IsEvent other = Unit {0}
 
 -- each node's view is whole
 abbrev pub AreWhole : List NodeView → Type 0
