@@ -139,13 +139,13 @@ bound_kept w k n x came there free at_n flight later fresh f =
     }
 
 -- what a reply binds
-bound_is : (said : Reply) (old : World) (x : Forward) → said ≢ Reply.NoCancel
+pub bound_is : (said : Reply) (old : World) (x : Forward) → said ≢ Reply.NoCancel
     → bound_by said old x ≡ record x { accepted = Some (length old.arrivals) }
 bound_is Reply.NoCancel old x apart = absurd (apart refl)
 bound_is said old x apart = refl
 
 -- a write of what is there
-same_forward : (forwards : List Forward) (k : ℕ) (x : Forward) → slice_get forwards k ≡ Some x
+pub same_forward : (forwards : List Forward) (k : ℕ) (x : Forward) → slice_get forwards k ≡ Some x
     → set forwards k x ≡ forwards
 same_forward [] k x h = refl
 same_forward (y ∷ ys) zero x h = ap (λ (z : Forward). z ∷ ys) (sym (same_Some y x h))

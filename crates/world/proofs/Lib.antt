@@ -26,3 +26,4 @@ pub mod Logins
 pub mod Restarting
 pub mod Starting
 pub mod EveryStep
+pub mod Finality

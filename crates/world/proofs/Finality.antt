@@ -1,0 +1,320 @@
+-- What is settled is settled for good: no later interruption is for it.
+use Rattle.std.proofs.Common.{◌≡◌, ◌≢◌, ℕ, ◌<◌, ◌≤◌, ◌⊎◌, ⊎_elim, Bool, true, false, List, [], ◌∷◌, Option, Some, None, Result, Ok, Err, length, refl, ap, sym, subst, ◌∙◌, arith}
+use Rattle.std.proofs.Math.ListN.{set}
+use Rattle.std.specs.List.{slice_get}
+use Rattle.std.proofs.lemmas.Option.{same_Some, none-some}
+use Rattle.std.proofs.lemmas.Bool.{cases_eq}
+use Rattle.pg_ids.specs.declared.any_key.{AnyKey.AnyKey, Kind.Kind}
+use Rattle.lease.specs.declared.{pass.PassRecord.PassRecord, ticket.TicketRecord.TicketRecord}
+use Rattle.link_pool.specs.declared.replies.{AcquireReply.AcquireReply, UpReply.UpReply, RestartReply.RestartReply}
+use Rattle.node_core.specs.declared.refusal.JoinRefusal.{JoinRefusal}
+use Rattle.node_core.specs.declared.exchange.Order.{Order}
+use Rattle.node_core.specs.NodeStep.{Asked}
+use Rattle.node_core.specs.View.{NodeView}
+use Rattle.world.specs.declared.event.Event.{Event}
+use Rattle.world.specs.declared.reply.{Reply.Reply, Took.Took}
+use Rattle.world.specs.World.{World, Arrival, Backend, Connection, Forward, Interrupt, Report, Server, Session, IsForward}
+use Rattle.world.specs.Changes.{and_then, with_nodes, with_connection, with_forward}
+use Rattle.world.specs.Admissible.{Admissible, StandsAt, MayAccept}
+use Rattle.world.specs.LinkEvents.{Joins, Acquires, Opened, GoesUp}
+use Rattle.world.specs.CancelEvents.{bound_by, Makes, Arrives, Comes, Accepts, Forwards, Strikes, Acts, Reports, StartsAnew}
+use Rattle.world.specs.WorldRun.{Does, WorldStep}
+use Rattle.world.specs.Settled.{IsSettled, ComesOf, SettledStays}
+use Rattle.world.specs.Facts.{Facts}
+use Rattle.world.proofs.Lists.{set_here, set_there, kept_behind, added_cases, before_end}
+use Rattle.world.proofs.Settling.{GoesOn, all_same, settled_still, nothing_to_come}
+use Rattle.world.proofs.Forwards.{one_forward}
+use Rattle.world.proofs.Accepting.{arrival_adds, bound_is, same_forward}
+
+-- requests go on, and nothing was interrupted
+pub record Follows (old new : World) : Type 0 where
+  pub on : GoesOn old.arrivals new.arrivals old.connections new.connections old.forwards new.forwards
+  pub interrupts : new.interrupts ≡ old.interrupts
+
+-- what is settled stays so
+quietly : (old new : World) → Follows old new → SettledStays old new
+quietly old new h = record {
+  still = λ n s. settled_still h.on n s;
+  quiet = λ n later place struck settled comes past at is.
+      let below = before_end old.interrupts place struck
+      (ap (λ (is : List Interrupt). slice_get is place) (sym h.interrupts) ∙ at) in
+      absurd (omega (arith, below, past));
+}
+
+-- nothing of requests changes
+still : (old : World) → GoesOn old.arrivals old.arrivals old.connections old.connections old.forwards old.forwards
+still old = all_same old.arrivals old.connections old.forwards
+
+-- one connection changes
+connection_on : (w : World) (k : ℕ) (c d : Connection) → slice_get w.connections k ≡ Some c
+    → d.arrival ≡ c.arrival → (c.ended ≡ true → d.ended ≡ true)
+    → GoesOn w.arrivals w.arrivals w.connections (set w.connections k d) w.forwards w.forwards
+connection_on w k c d there arrival ended = record {
+  arrivals = λ i a h. h;
+  connections = λ i y h. ⊎_elim
+      (λ same. let one : y ≡ c = same_Some y c (sym h ∙ ap (slice_get w.connections) same ∙ there) in
+      (d, ap (slice_get (set w.connections k d)) same ∙ set_here w.connections k c d there,
+      arrival ∙ ap (λ (z : Connection). z.arrival) (sym one),
+      λ e. ended (ap (λ (z : Connection). z.ended) (sym one) ∙ e)))
+      (λ apart. (y, set_there w.connections k i d apart ∙ h, refl, λ e. e))
+      (cases_eq i k);
+  forwards = λ i f h. (f, h, refl, λ n e. e);
+}
+
+-- one forward connection changes, but not where it led
+forward_on : (arrivals : List Arrival) (connections : List Connection) (forwards : List Forward) (k : ℕ) (f g : Forward) → slice_get forwards k ≡ Some f
+    → g.origin ≡ f.origin → ((n : ℕ) → f.accepted ≡ Some n → g.accepted ≡ Some n)
+    → GoesOn arrivals arrivals connections connections forwards (set forwards k g)
+forward_on arrivals connections forwards k f g there origin onward = record {
+  arrivals = λ i a h. h;
+  connections = λ i c h. (c, h, refl, λ e. e);
+  forwards = λ i y h. ⊎_elim
+      (λ same. let one : y ≡ f = same_Some y f (sym h ∙ ap (slice_get forwards) same ∙ there) in
+      (g, ap (slice_get (set forwards k g)) same ∙ set_here forwards k f g there,
+      origin ∙ ap (λ (z : Forward). z.origin) (sym one),
+      λ n e. onward n (ap (λ (z : Forward). z.accepted) (sym one) ∙ e)))
+      (λ apart. (y, set_there forwards k i g apart ∙ h, refl, λ n e. e))
+      (cases_eq i k);
+}
+
+-- one after another
+on_twice : {a b c : List Arrival} {x y z : List Connection} {f g h : List Forward}
+    → GoesOn a b x y f g → GoesOn b c y z g h → GoesOn a c x z f h
+on_twice p q = record {
+  arrivals = λ i r at. q.arrivals i r (p.arrivals i r at);
+  connections = λ i r at.
+      let one = p.connections i r at in
+      let two = q.connections i one.0 one.1 in
+      (two.0, two.1, two.2 ∙ one.2, λ e. two.3 (one.3 e));
+  forwards = λ i r at.
+      let one = p.forwards i r at in
+      let two = q.forwards i one.0 one.1 in
+      (two.0, two.1, two.2 ∙ one.2, λ n e. two.3 n (one.3 n e));
+}
+
+join_follows : (node label database : ℕ) (joined : Result PassRecord JoinRefusal) (said : Reply) (nodes : List NodeView) (old new : World)
+    → Joins node label database joined said (with_nodes nodes old) new → Follows old new
+join_follows node label database (Ok pass) said nodes old new h =
+    subst (Follows old) (sym h.1) (record { on = still old; interrupts = refl })
+join_follows node label database (Err refusal) said nodes old new h =
+    subst (Follows old) (sym h.1) (record { on = still old; interrupts = refl })
+
+acquire_follows : (place : ℕ) (s : Session) (given : Asked) (said : Reply) (nodes : List NodeView) (old new : World)
+    → Acquires place s given said (with_nodes nodes old) new → Follows old new
+acquire_follows place s (AcquireReply.Got lease) said nodes old new h =
+    subst (Follows old) (sym h.4) (record { on = still old; interrupts = refl })
+acquire_follows place s (AcquireReply.Open permit) said nodes old new h =
+    subst (Follows old) (sym h.1) (record { on = still old; interrupts = refl })
+acquire_follows place s AcquireReply.Waiting said nodes old new h =
+    subst (Follows old) (sym h.1) (record { on = still old; interrupts = refl })
+acquire_follows place s AcquireReply.Cancelled said nodes old new h =
+    subst (Follows old) (sym h.1) (record { on = still old; interrupts = refl })
+acquire_follows place s AcquireReply.Exhausted said nodes old new h =
+    subst (Follows old) (sym h.1) (record { on = still old; interrupts = refl })
+acquire_follows place s AcquireReply.Stale said nodes old new h =
+    subst (Follows old) (sym h.1) (record { on = still old; interrupts = refl })
+acquire_follows place s AcquireReply.Holding said nodes old new h = absurd h
+
+up_follows : (place : ℕ) (s : Session) (server : Server) (key : List ℕ) (given : Opened) (said : Reply) (nodes : List NodeView) (old new : World)
+    → GoesUp place s server key given said (with_nodes nodes old) new → Follows old new
+up_follows place s server key (UpReply.Up lease) said nodes old new h =
+    subst (Follows old) (sym h.1) (record { on = still old; interrupts = refl })
+up_follows place s server key (UpReply.Exhausted again stream) said nodes old new h =
+    subst (Follows old) (sym h.1) (record { on = still old; interrupts = refl })
+up_follows place s server key (UpReply.Stale stream) said nodes old new h =
+    subst (Follows old) (sym h.1) (record { on = still old; interrupts = refl })
+up_follows place s server key (UpReply.AtEnd stream) said nodes old new h = absurd h
+
+restart_follows : (node boot : ℕ) (given : RestartReply) (said : Reply) (nodes : List NodeView) (old new : World)
+    → StartsAnew node boot given said (with_nodes nodes old) new → Follows old new
+restart_follows node boot RestartReply.Restarted said nodes old new h =
+    subst (Follows old) (sym h.1) (record { on = still old; interrupts = refl })
+restart_follows node boot RestartReply.Exhausted said nodes old new h =
+    subst (Follows old) (sym h.1) (record { on = still old; interrupts = refl })
+
+-- what an order makes
+makes_follows : (node : ℕ) (given : Order TicketRecord) (said : Reply) (old made : World) → Makes node given said old made
+    → Follows old made × (made.arrivals ≡ old.arrivals)
+makes_follows node (Order.Serve ticket database key) said old made h =
+    (subst (Follows old) (sym h.3) (record {
+      on = record {
+        arrivals = λ i a at. at;
+        connections = λ i c at. (c, kept_behind old.connections (h.0 ∷ []) i c at, refl, λ e. e);
+        forwards = λ i f at. (f, at, refl, λ n e. e);
+      };
+      interrupts = refl;
+    }), ap (λ (w : World). w.arrivals) h.3)
+makes_follows node (Order.Forward to packet) said old made h =
+    (subst (Follows old) (sym h.1) (record {
+      on = record {
+        arrivals = λ i a at. at;
+        connections = λ i c at. (c, at, refl, λ e. e);
+        forwards = λ i f at. (f, kept_behind old.forwards _ i f at, refl, λ n e. e);
+      };
+      interrupts = refl;
+    }), ap (λ (w : World). w.arrivals) h.1)
+makes_follows node (Order.Unwait slot) said old made h =
+    (subst (Follows old) (sym h.1) (record { on = still old; interrupts = refl }), ap (λ (w : World). w.arrivals) h.1)
+makes_follows node (Order.Refused reason) said old made h =
+    (subst (Follows old) (sym h.1) (record { on = still old; interrupts = refl }), ap (λ (w : World). w.arrivals) h.1)
+
+arrive_follows : (old new : World) (flight node : ℕ) (key : AnyKey) (said : Reply)
+    → Arrives flight node key said old new → Follows old new
+arrive_follows old new flight node key said x =
+    let m = (makes_follows node x.given said old x.made x.makes).0 in
+    subst (Follows old) (sym x.after) (record {
+      on = record {
+        arrivals = λ i a at. kept_behind old.arrivals _ i a at;
+        connections = m.on.connections;
+        forwards = m.on.forwards;
+      };
+      interrupts = m.interrupts;
+    })
+
+comes_follows : (old new : World) (flight node : ℕ) (said : Reply) → Comes flight node said old new
+    → Follows old new
+comes_follows old new flight node said (Comes.Request bytes key there request arrives) =
+    arrive_follows old new flight node key said arrives
+comes_follows old new flight node said (Comes.Other bytes there other told same) =
+    subst (Follows old) (sym same) (record { on = still old; interrupts = refl })
+
+-- what comes on a forward connection
+bound_follows : (old new delivered : World) (flight node k : ℕ) (said : Reply) (x : Forward)
+    → slice_get old.forwards k ≡ Some x → x.accepted ≡ None
+    → Comes flight node said old delivered
+    → new ≡ with_forward k (bound_by said old x) delivered → Follows old new
+bound_follows old new delivered flight node k said x there free (Comes.Other bytes has other told same) after =
+    subst (Follows old) (sym (after ∙ ap (λ (s : Reply). with_forward k (bound_by s old x) delivered) told
+    ∙ ap (λ (w : World). with_forward k x w) same
+    ∙ ap (λ (fs : List Forward). let w : World = record old { forwards = fs } in w) (same_forward old.forwards k x there)))
+    (record { on = still old; interrupts = refl })
+bound_follows old new delivered flight node k said x there free (Comes.Request bytes key has request arrives) after =
+    let h = arrive_follows old delivered flight node key said arrives in
+    let adds = arrival_adds old delivered flight node key said arrives in
+    let still_there : slice_get delivered.forwards k ≡ Some x = ⊎_elim
+    (λ e. ap (λ (fs : List Forward). slice_get fs k) e ∙ there)
+    (λ e. ap (λ (fs : List Forward). slice_get fs k) e ∙ kept_behind old.forwards _ k x there)
+    adds.forwards in
+    subst (Follows old) (sym (after ∙ ap (λ (y : Forward). with_forward k y delivered) (bound_is said old x adds.tells)))
+    (record {
+      on = on_twice h.on (forward_on delivered.arrivals delivered.connections delivered.forwards k x _ still_there refl
+          (λ n e. absurd (none-some n (sym free ∙ e))));
+      interrupts = h.interrupts;
+    })
+
+-- a report of a connection's end
+report_follows : (old new : World) (nodes : List NodeView) (k : ℕ) (c : Connection) (how : Report)
+    → slice_get old.connections k ≡ Some c
+    → new ≡ with_connection k (record c { report = Some how }) (with_nodes nodes old) → Follows old new
+report_follows old new nodes k c how there after = subst (Follows old) (sym after) (record {
+  on = connection_on old k c (record c { report = Some how }) there refl (λ e. e);
+  interrupts = refl;
+})
+
+-- a server acts: what is interrupted is for no arrival that is settled
+act_by : (old new struck : World) (place at : ℕ) (c : Connection) (x : Backend) (runs : Option ℕ) (said : Reply)
+    → slice_get old.connections place ≡ Some c → c.ended ≡ false
+    → Strikes at x c.arrival runs said old struck
+    → new ≡ with_connection place (record c { acted = true }) struck → Facts old → SettledStays old new
+act_by old new struck place at c x None said there going strikes after f =
+    quietly old new (subst (Follows old)
+    (sym (after ∙ ap (λ (w : World). with_connection place (record c { acted = true }) w) strikes.1)) (record {
+      on = connection_on old place c (record c { acted = true }) there refl (λ e. e);
+      interrupts = refl;
+    }))
+act_by old new struck place at c x (Some label) said there going strikes after f =
+    let i : Interrupt = record { backend = at; label = label; arrival = c.arrival } in
+    subst (SettledStays old)
+    (sym (after ∙ ap (λ (w : World). with_connection place (record c { acted = true }) w) strikes.1)) (record {
+      still = λ n s. settled_still (connection_on old place c (record c { acted = true }) there refl (λ e. e)) n s;
+      quiet = λ n later k z settled comes past at_k is. ⊎_elim
+          (λ was. let below = before_end old.interrupts k z was in absurd (omega (arith, below, past)))
+          (λ new_i. differ c.ended (nothing_to_come old f n later place c settled comes there
+          (ap (λ (y : Interrupt). y.arrival) (sym new_i.1) ∙ is)) going)
+          (added_cases old.interrupts i k z at_k);
+    })
+  where
+    differ : (b : Bool) → b ≡ true → b ≡ false → ⊥
+    differ b t e = true_or_false (sym t ∙ e)
+      where
+        true_or_false : true ≡ false → ⊥
+        true_or_false h = cc
+
+act_follows : (old new : World) (place : ℕ) (said : Reply) → StandsAt old place false false
+    → Acts place said old new → Facts old → SettledStays old new
+act_follows old new place said may does f =
+    let same : may.connection ≡ does.connection =
+    same_Some may.connection does.connection (sym may.there ∙ does.there) in
+    act_by old new does.struck place does.at does.connection does.backend does.backend.running said does.there
+    (ap (λ (z : Connection). z.ended) (sym same) ∙ may.ending) does.strikes does.after f
+
+-- what each event leaves
+follows : (event : Event) (said : Reply) (old new : World) → Admissible old event → Does event said old new
+    → Facts old → SettledStays old new
+follows (Event.Login node label database secret kind) said old new may does f =
+    quietly old new (join_follows node label database does.joined said does.nodes old new does.after)
+follows (Event.Acquire label) said old new may does f =
+    quietly old new (acquire_follows does.place does.session does.given said does.nodes old new does.after)
+follows (Event.Up label key) said old new may does f =
+    quietly old new (up_follows does.place does.session does.server key does.given said does.nodes old new does.after)
+follows (Event.UpFailed label) said old new may does f =
+    quietly old new (subst (Follows old) (sym does.after) (record { on = still old; interrupts = refl }))
+follows (Event.Send label) said old new may does f =
+    quietly old new (subst (Follows old) (sym does.0.after) (record { on = still old; interrupts = refl }))
+follows (Event.Take at) said old new may does f =
+    quietly old new (subst (Follows old) (sym does.0.after) (record { on = still old; interrupts = refl }))
+follows (Event.Finish at) said old new may does f =
+    quietly old new (subst (Follows old) (sym does.0.after) (record { on = still old; interrupts = refl }))
+follows (Event.Ready label) said old new may does f =
+    quietly old new (subst (Follows old) (sym does.0.after) (record { on = still old; interrupts = refl }))
+follows (Event.Release label) said old new may does f =
+    quietly old new (subst (Follows old) (sym does.after) (record { on = still old; interrupts = refl }))
+follows (Event.Close label) said old new may does f =
+    quietly old new (subst (Follows old) (sym does.after) (record { on = still old; interrupts = refl }))
+follows (Event.Leave label) said old new may does f =
+    quietly old new (subst (Follows old) (sym does.after) (record { on = still old; interrupts = refl }))
+follows (Event.Put bytes) said old new may does f =
+    quietly old new (subst (Follows old) (sym does.after) (record { on = still old; interrupts = refl }))
+follows (Event.Deliver flight node) said old new may does f =
+    quietly old new (comes_follows old new flight node said does)
+follows (Event.Accept flight node) said old new may does f =
+    let accept = may.0 in
+    let same = one_forward old f flight accept.place does.place accept.forward does.forward accept.is does.is in
+    quietly old new (bound_follows old new does.delivered flight node does.place said does.forward does.is.there
+    (ap (λ (z : Forward). z.accepted) (sym same) ∙ accept.new) does.comes does.after)
+follows (Event.ForwardEnded flight) said old new may does f =
+    quietly old new (subst (Follows old) (sym does.0.after) (record {
+      on = forward_on old.arrivals old.connections old.forwards does.0.place does.0.forward _ does.0.is.there refl (λ n e. e);
+      interrupts = refl;
+    }))
+follows (Event.ForwardTold flight) said old new may does f =
+    quietly old new (subst (Follows old) (sym does.0.after) (record {
+      on = forward_on old.arrivals old.connections old.forwards does.0.place does.0.forward _ does.0.is.there refl (λ n e. e);
+      interrupts = refl;
+    }))
+follows (Event.ForwardBroken flight) said old new may does f =
+    quietly old new (subst (Follows old) (sym does.0.after) (record {
+      on = forward_on old.arrivals old.connections old.forwards does.0.place does.0.forward _ does.0.is.there refl (λ n e. e);
+      interrupts = refl;
+    }))
+follows (Event.Act place) said old new may does f = act_follows old new place said may does f
+follows (Event.End place) said old new may does f =
+    quietly old new (subst (Follows old) (sym does.0.after) (record {
+      on = connection_on old place does.0.connection _ does.0.there refl (λ e. refl);
+      interrupts = refl;
+    }))
+follows (Event.Told place) said old new may does f =
+    let r = does.reports in
+    quietly old new (report_follows old new r.nodes place r.connection Report.Clean r.there r.after)
+follows (Event.Broken place) said old new may does f =
+    let r = does.reports in
+    quietly old new (report_follows old new r.nodes place r.connection Report.Fault r.there r.after)
+follows (Event.Restart node asked) said old new may does f =
+    quietly old new (restart_follows node does.boot does.given said does.nodes old new does.after)
+
+-- what is settled stays so, and no interruption comes for it
+pub settled_stays : (event : Event) (did : Took) (old new : World) → WorldStep event did old new
+    → Facts old → SettledStays old new
+settled_stays event (Took.Done said) old new step f = follows event said old new step.0 step.1 f
+settled_stays event Took.Skipped old new step f =
+    quietly old new (subst (Follows old) (sym step.1) (record { on = still old; interrupts = refl }))
