@@ -1,5 +1,5 @@
 -- A forwarded request is accepted on its forward connection.
-use Rattle.std.proofs.Common.{◌≡◌, ◌≢◌, ℕ, zero, suc, ◌+◌, ◌<◌, ◌≤◌, ◌⊎◌, inl, inr, ⊎_elim, Bool, true, false, List, [], ◌∷◌, Option, Some, None, length, refl, ap, sym, subst, ◌∙◌, arith}
+use Rattle.std.proofs.Common.{◌≡◌, ◌≢◌, ℕ, zero, suc, ◌<◌, ◌⊎◌, inl, inr, ⊎_elim, List, [], ◌∷◌, Some, None, length, refl, ap, sym, subst, ◌∙◌, arith}
 use Rattle.std.proofs.Math.ListN.{set}
 use Rattle.std.specs.List.{slice_get}
 use Rattle.std.proofs.lemmas.Option.{same_Some, none-some}
@@ -9,7 +9,7 @@ use Rattle.pg_ids.specs.declared.any_key.AnyKey.{AnyKey}
 use Rattle.lease.specs.declared.ticket.TicketRecord.{TicketRecord}
 use Rattle.node_core.specs.declared.exchange.Order.{Order}
 use Rattle.world.specs.declared.reply.Reply.{Reply}
-use Rattle.world.specs.World.{World, Arrival, Connection, Forward, IsForward}
+use Rattle.world.specs.World.{World, Arrival, Forward}
 use Rattle.world.specs.Changes.{and_then, with_forward}
 use Rattle.world.specs.Admissible.{MayAccept}
 use Rattle.world.specs.CancelEvents.{new_forward, Makes, Arrives, Comes, bound_by, Accepts}
@@ -77,17 +77,24 @@ bound_kept w k n x came there free at_n flight later fresh f =
       arrivals = λ i a h. h;
       connections = λ i c h. (c, h, refl, λ e. e);
       forwards = λ i g h. ⊎_elim
-          (λ same. let one : g ≡ x = same_Some g x (sym h ∙ ap (slice_get w.forwards) same ∙ there) in
-          (y, ap (slice_get more) same ∙ set_here w.forwards k x y there, ap (λ (z : Forward). z.origin) (sym one),
-          λ m e. absurd (none-some m (sym free ∙ ap (λ (z : Forward). z.accepted) (sym one) ∙ e))))
+          (λ same. let one : g ≡ x = same_Some g x (sym h ∙ ap (slice_get w.forwards) same ∙ there) in (
+            y,
+            ap (slice_get more) same ∙ set_here w.forwards k x y there,
+            ap (λ (z : Forward). z.origin) (sym one),
+            λ m e. absurd (none-some m (sym free ∙ ap (λ (z : Forward). z.accepted) (sym one) ∙ e)),
+          ))
           (λ apart. (g, set_there w.forwards k i y apart ∙ h, refl, λ m e. e))
           (cases_eq i k);
     } in
     let from : (i : ℕ) (g : Forward) → slice_get more i ≡ Some g
     → (z : Forward) × (slice_get w.forwards i ≡ Some z) × (z.flight ≡ g.flight) × (z.origin ≡ g.origin) =
     λ i g at. ⊎_elim (λ was. (g, was.1, refl, refl))
-    (λ new. (x, ap (slice_get w.forwards) new.0 ∙ there, ap (λ (z : Forward). z.flight) (sym new.1),
-    ap (λ (z : Forward). z.origin) (sym new.1))) (set_cases w.forwards k i g y at) in
+    (λ new. (
+      x,
+      ap (slice_get w.forwards) new.0 ∙ there,
+      ap (λ (z : Forward). z.flight) (sym new.1),
+      ap (λ (z : Forward). z.origin) (sym new.1),
+    )) (set_cases w.forwards k i g y at) in
     record {
       servers = f.servers;
       nodes = f.nodes;

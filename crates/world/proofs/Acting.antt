@@ -1,24 +1,17 @@
 -- Servers act on cancel connections, and end them.
-use Rattle.std.proofs.Common.{◌≡◌, ℕ, ◌⊎◌, inl, inr, ⊎_elim, Bool, true, false, List, [], ◌∷◌, ◌++◌, Option, Some, None, refl, ap, sym, subst, ◌∙◌, length, ◌≤◌, arith}
-use Rattle.std.proofs.Math.ListN.{set}
+use Rattle.std.proofs.Common.{◌≡◌, ℕ, ⊎_elim, true, false, List, Option, Some, None, refl, ap, sym, subst, ◌∙◌, arith}
 use Rattle.std.specs.List.{slice_get}
 use Rattle.std.proofs.lemmas.Option.{same_Some}
-use Rattle.lease.specs.declared.link_place.LinkPlace.{LinkPlace}
-use Rattle.link_pool.specs.declared.place.Link.{Link}
-use Rattle.link_pool.specs.declared.place.Place.{Place}
 use Rattle.world.specs.declared.reply.Reply.{Reply}
 use Rattle.pg_ids.specs.AnyKey.{any_identity_of}
 use Rattle.world.specs.World.{World, Backend, Connection, Interrupt, Report, IsOwner}
-use Rattle.world.specs.Changes.{and_then, with_backend, with_connection}
+use Rattle.world.specs.Changes.{with_connection}
 use Rattle.world.specs.Admissible.{StandsAt}
-use Rattle.world.specs.LinkEvents.{rests}
 use Rattle.world.specs.CancelEvents.{Strikes, Acts, Ends}
-use Rattle.world.specs.SafeCancellation.{IsForOwner, IsSafe}
-use Rattle.world.specs.Settled.{IsSettled, ComesOf, SettledStays}
-use Rattle.world.specs.Facts.{Process, process_of, last_holder, LinkStands, Facts, processes_of, lasts_of, faces_of}
-use Rattle.world.proofs.Lists.{added_cases, read_map, set_cases, before_end}
-use Rattle.world.proofs.Settling.{nothing_to_come, settled_still, all_same}
-use Rattle.world.proofs.Connections.{Advances, OneAdvances, came_from, goes_on, connections_kept, numbers_kept, earned_kept, forwards_kept, open_same}
+use Rattle.world.specs.SafeCancellation.{IsForOwner}
+use Rattle.world.specs.Facts.{process_of, last_holder, Facts, processes_of, lasts_of, faces_of}
+use Rattle.world.proofs.Lists.{added_cases, read_map, set_cases}
+use Rattle.world.proofs.Connections.{Advances, OneAdvances, goes_on, connections_kept, numbers_kept, earned_kept, forwards_kept, open_same}
 use Rattle.world.proofs.Loads.{rests_kept}
 
 -- a cancel connection advances, and nothing is reported of it
@@ -38,18 +31,21 @@ unreported_kept w k c d there step report f =
           w.nodes (faces_of w) f.numbers;
       links = λ i view at_node at link at_place.
           let h = f.links i view at_node at link at_place in
-          let s = h.2 in
-          (h.0, h.1, record {
-            tickets = s.tickets ∙ sym (open_same w.connections k c d h.0 there step.backend report);
-            hasty = λ j x how at_j backend acted reported. ⊎_elim
-                (λ same. s.hasty j x how same.1 backend acted reported)
-                (λ new. s.hasty k c how there
-                (sym step.backend ∙ ap (λ (z : Connection). z.backend) (sym new.1) ∙ backend)
-                (step.waits (ap (λ (z : Connection). z.acted) (sym new.1) ∙ acted))
-                (sym report ∙ ap (λ (z : Connection). z.report) (sym new.1) ∙ reported))
-                (set_cases w.connections k j x d at_j);
-            giver = s.giver;
-          });
+          let s = h.2 in (
+            h.0,
+            h.1,
+            record {
+              tickets = s.tickets ∙ sym (open_same w.connections k c d h.0 there step.backend report);
+              hasty = λ j x how at_j backend acted reported. ⊎_elim
+                  (λ same. s.hasty j x how same.1 backend acted reported)
+                  (λ new. s.hasty k c how there
+                  (sym step.backend ∙ ap (λ (z : Connection). z.backend) (sym new.1) ∙ backend)
+                  (step.waits (ap (λ (z : Connection). z.acted) (sym new.1) ∙ acted))
+                  (sym report ∙ ap (λ (z : Connection). z.report) (sym new.1) ∙ reported))
+                  (set_cases w.connections k j x d at_j);
+              giver = s.giver;
+            },
+          );
       connections = connections_kept w.arrivals (processes_of w) (lasts_of w) w.connections k c d old one;
       loads = f.loads;
       forwards = forwards_kept w.forwards (omega arith)
@@ -132,28 +128,30 @@ strike_kept : (old struck : World) (at : ℕ) (x : Backend) (arrival : ℕ) (run
 strike_kept old struck at x arrival None said here is owner does f =
     (subst Facts (sym does.1) f, ap (λ (w : World). w.connections) does.1)
 strike_kept old struck at x arrival (Some label) said here is owner does f =
-    let g = rests_kept old at label x here is f in
-    (subst Facts (sym does.1) (record {
-      servers = g.servers;
-      nodes = g.nodes;
-      issues = g.issues;
-      clients = g.clients;
-      slots = g.slots;
-      processes = g.processes;
-      numbers = g.numbers;
-      links = g.links;
-      connections = g.connections;
-      loads = g.loads;
-      forwards = g.forwards;
-      safe = record {
-        struck = λ i s there. ⊎_elim (λ was. f.safe.struck i s was)
-            (λ new. subst (λ (z : Interrupt). IsForOwner old.issues old.arrivals z.arrival z.label)
-            (sym new.1) (owner label is))
-            (added_cases old.interrupts (record { backend = at; label = label; arrival = arrival }) i s there);
-        taken = g.safe.taken;
-        earned = g.safe.earned;
-      };
-    }), ap (λ (w : World). w.connections) does.1)
+    let g = rests_kept old at label x here is f in (
+      subst Facts (sym does.1) (record {
+        servers = g.servers;
+        nodes = g.nodes;
+        issues = g.issues;
+        clients = g.clients;
+        slots = g.slots;
+        processes = g.processes;
+        numbers = g.numbers;
+        links = g.links;
+        connections = g.connections;
+        loads = g.loads;
+        forwards = g.forwards;
+        safe = record {
+          struck = λ i s there. ⊎_elim (λ was. f.safe.struck i s was)
+              (λ new. subst (λ (z : Interrupt). IsForOwner old.issues old.arrivals z.arrival z.label)
+              (sym new.1) (owner label is))
+              (added_cases old.interrupts (record { backend = at; label = label; arrival = arrival }) i s there);
+          taken = g.safe.taken;
+          earned = g.safe.earned;
+        };
+      }),
+      ap (λ (w : World). w.connections) does.1,
+    )
 
 -- a server acts on a cancel connection
 pub act_kept : (old new : World) (place : ℕ) (said : Reply) → StandsAt old place false false

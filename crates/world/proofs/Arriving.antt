@@ -1,22 +1,17 @@
 -- A request comes to a node, which takes its key for a client's or not, and may forward it.
-use Rattle.std.proofs.Common.{◌≡◌, ◌≢◌, ℕ, ◌+◌, ◌<◌, ◌≤◌, ◌⊎◌, inl, inr, ⊎_elim, Bool, true, false, List, [], ◌∷◌, ◌++◌, Option, Some, None, length, refl, ap, sym, subst, ◌∙◌, arith, length-append}
+use Rattle.std.proofs.Common.{◌≡◌, ◌≢◌, ℕ, ⊎_elim, true, false, List, [], ◌∷◌, Some, None, length, refl, ap, sym, subst, ◌∙◌, arith, length-append}
 use Rattle.std.specs.List.{slice_get}
 use Rattle.std.proofs.lemmas.Option.{same_Some, none-some}
-use Rattle.pg_ids.specs.Key.{IsKey}
-use Rattle.pg_ids.specs.AnyKey.{IsAnyKey, any_identity_of, peer_of, slot_of, short_of, long_part_of}
-use Rattle.pg_ids.specs.declared.any_key.{AnyKey.AnyKey, Identity.Identity}
-use Rattle.key_table.specs.Slots.{names, entry_of}
-use Rattle.lease.specs.declared.{pass.PassRecord.PassRecord, ticket.TicketRecord.TicketRecord}
+use Rattle.pg_ids.specs.AnyKey.{IsAnyKey, any_identity_of, slot_of, short_of, long_part_of}
+use Rattle.pg_ids.specs.declared.any_key.{AnyKey.AnyKey}
 use Rattle.node_core.specs.declared.client.Client.{Client}
-use Rattle.node_core.specs.declared.exchange.Order.{Order}
-use Rattle.node_core.specs.View.{NodeView, IsView, IsClient}
-use Rattle.world.specs.World.{World, Arrival, Connection, Forward, Interrupt, Issue, Report, Session, Taken, IsNode, IsOwner}
+use Rattle.node_core.specs.View.{NodeView, IsClient}
+use Rattle.world.specs.World.{World, Arrival, Forward, Issue, Report, Session, Taken, IsNode, IsOwner}
 use Rattle.world.specs.Changes.{and_then}
 use Rattle.world.specs.CancelEvents.{IsInSlot}
-use Rattle.world.specs.SafeCancellation.{IsForOwner, IsRightly, NoKeyTwice, IsEarned, IsSafe}
-use Rattle.world.specs.Settled.{Settled}
-use Rattle.world.specs.Facts.{Process, Face, face_of, processes_of, lasts_of, faces_of, IsIn, FitsSlot, ConnectionStands, AreConnections, IsForwarded, ForwardStands, AreForwards, Facts, AreWhole}
-use Rattle.world.proofs.Lists.{kept_behind, added_cases, added_last, before_end, read_map}
+use Rattle.world.specs.SafeCancellation.{IsRightly, NoKeyTwice}
+use Rattle.world.specs.Facts.{face_of, IsIn, IsForwarded, ForwardStands, Facts, AreWhole}
+use Rattle.world.proofs.Lists.{kept_behind, added_cases, read_map}
 use Rattle.world.proofs.Settling.{GoesOn, settled_still}
 use Rattle.world.proofs.Connections.{forwards_kept}
 use Rattle.world.proofs.Keys.{same_identity, any_peer, short_is_key, opened, named_entry, TakesHome}
@@ -141,9 +136,10 @@ pub once_by_rightly : (w : World)
     → ((i : ℕ) (t : Taken) → slice_get w.taken i ≡ Some t → IsRightly w.issues t) → NoKeyTwice w
 once_by_rightly w rightly i j a b at_i at_j same =
     let x = rightly i a at_i in
-    let y = rightly j b at_j in
-    (x.node ∙ any_peer a.key b.key (short_is_key a.key x.key) (short_is_key b.key y.key) same ∙ sym y.node,
-    sym x.owner.to ∙ y.owner.only x.owner.place x.owner.issue x.owner.there (x.owner.of ∙ same))
+    let y = rightly j b at_j in (
+      x.node ∙ any_peer a.key b.key (short_is_key a.key x.key) (short_is_key b.key y.key) same ∙ sym y.node,
+      sym x.owner.to ∙ y.owner.only x.owner.place x.owner.issue x.owner.there (x.owner.of ∙ same),
+    )
 
 -- one more key was taken
 pub taken_kept : (w : World) (t : Taken) → IsRightly w.issues t → Facts w

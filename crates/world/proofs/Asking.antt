@@ -1,36 +1,35 @@
 -- A client asks for a link of its database.
-use Rattle.std.proofs.Common.{◌≡◌, ◌≢◌, ℕ, zero, suc, ◌+◌, ◌<◌, ◌≤◌, ◌⊎◌, inl, inr, ⊎_elim, Bool, true, false, List, [], ◌∷◌, Option, Some, None, refl, ap, sym, subst, ◌∙◌, arith, ◌==◌, ◌&&◌, is_none, if◌then◌else◌}
+use Rattle.std.proofs.Common.{◌≡◌, ℕ, zero, suc, ◌+◌, ◌<◌, ⊎_elim, true, false, List, [], ◌∷◌, Option, Some, None, refl, ap, sym, subst, ◌∙◌, arith, ◌==◌}
 use Rattle.std.proofs.Math.ListN.{set}
 use Rattle.std.specs.List.{slice_get}
 use Rattle.std.proofs.lemmas.Option.{same_Some, none-some}
 use Rattle.std.proofs.lemmas.Bool.{eq-eqb}
 use Rattle.pg_ids.specs.AnyKey.{slot_of}
-use Rattle.lease.specs.declared.{link_record.LinkRecord.LinkRecord, link_place.LinkPlace.LinkPlace, pass.PassRecord.PassRecord}
+use Rattle.lease.specs.declared.{link_record.LinkRecord.LinkRecord, link_place.LinkPlace.LinkPlace}
 use Rattle.lease.specs.declared.permit.PermitRecord.{PermitRecord}
-use Rattle.quarantine.specs.OpenTickets.{OpenTickets}
 use Rattle.link_pool.specs.declared.place.{Place.Place, Link.Link, LinkState.LinkState, Claim.Claim}
 use Rattle.link_pool.specs.declared.replies.AcquireReply.{AcquireReply}
-use Rattle.link_pool.specs.Pool.{PoolView, place_at, placed, with_claim, in_state, unqueued, queued, keep, lend}
+use Rattle.link_pool.specs.Pool.{PoolView, place_at, in_state, unqueued, keep, lend}
 use Rattle.link_pool.specs.Stacks.{under_top}
 use Rattle.link_pool.specs.OnePlace.{StateFits}
-use Rattle.link_pool.specs.PoolStep.{is_holding, IsHeld, GetsBack, Gets}
+use Rattle.link_pool.specs.PoolStep.{is_holding}
 use Rattle.link_pool.proofs.Changes.{place_here, place_there}
-use Rattle.node_core.specs.View.{NodeView, IsView}
+use Rattle.node_core.specs.View.{NodeView}
 use Rattle.node_core.specs.NodeStep.{Asked, AcquireStep}
 use Rattle.world.specs.declared.reply.Reply.{Reply}
-use Rattle.world.specs.World.{World, Backend, Connection, Hand, Report, Session, IsNode, IsSession}
-use Rattle.world.specs.Changes.{holding, with_nodes, with_session, with_backend}
+use Rattle.world.specs.World.{World, Backend, Connection, Hand, Report, Session, IsNode}
+use Rattle.world.specs.Changes.{with_nodes, with_backend}
 use Rattle.world.specs.Admissible.{HasInHand}
-use Rattle.world.specs.LinkEvents.{IsLeased, Acquires, Asks, gets}
-use Rattle.world.specs.Facts.{Process, process_of, last_holder, Grip, Face, face_of, processes_of, lasts_of, faces_of, IsOwnGrip, IsIn, GripFits, IsProcess, LinkStands, is_open_for, open_for, is_with_client, load_of, Facts, AreWhole}
+use Rattle.world.specs.LinkEvents.{Acquires, Asks}
+use Rattle.world.specs.Facts.{Process, process_of, last_holder, face_of, processes_of, lasts_of, faces_of, IsIn, IsProcess, LinkStands, open_for, is_with_client, load_of, Facts, AreWhole}
 use Rattle.world.proofs.Lists.{set_here, set_there, read_map, same_map}
 use Rattle.world.proofs.Holding.{link_fits, one_link, link_with_client, one_session}
 use Rattle.world.proofs.Loads.{Reloads, loads_same, carried}
 use Rattle.world.proofs.Nodes.{with_links, Alters, alters_not, alters_twice, alters_unqueued, alters_written, Belongs, unqueued_places}
-use Rattle.world.proofs.Steps.{IsChange, changed, change_kept}
+use Rattle.world.proofs.Steps.{changed, change_kept}
 use Rattle.world.proofs.GivingBack.{written_at, own_lease, process_at, process_again, same_nodes, new_is}
 use Rattle.world.proofs.Backends.{held_next, held_kept, IsUnclaimed}
-use Rattle.world.proofs.Waiting.{Waits, waits_not, claim_waits, queued_waits, wait_kept}
+use Rattle.world.proofs.Waiting.{waits_not, claim_waits, queued_waits, wait_kept}
 
 -- the world that a node's step leaves
 pub nodes_is : (w new : World) (nodes : List NodeView) (q : ℕ) (v n : NodeView) (u : PoolView)
@@ -50,6 +49,7 @@ free_belongs v at slot there = record {
   where
     free_or_open : (permit : PermitRecord) (s : ℕ) → Some Place.Free ≡ Some (Place.Open permit s) → ⊥
     free_or_open permit s h = cc
+
     free_or_link : (l : Link) → Some Place.Free ≡ Some (Place.Link l) → ⊥
     free_or_link l h = cc
 
@@ -64,6 +64,7 @@ apart_belongs v at link slot there free = record {
   where
     link_or_open : (permit : PermitRecord) (s : ℕ) → Some (Place.Link link) ≡ Some (Place.Open permit s) → ⊥
     link_or_open permit s h = cc
+
     not_held : (l : Link) (s : ℕ) → Some (Place.Link link) ≡ Some (Place.Link l)
         → l.state ≡ LinkState.Held s → ⊥
     not_held l s e h =
@@ -74,6 +75,7 @@ apart_belongs v at link slot there free = record {
       where
         same_link : (l : Link) → Some (Place.Link link) ≡ Some (Place.Link l) → link ≡ l
         same_link l h = cc
+
         differ : true ≡ false → ⊥
         differ h = cc
 
@@ -104,8 +106,10 @@ open_by w p q s v permit f whole there is live free says =
       live = live;
       alters = alters_twice v.links x u permit.at slot (alters_unqueued v.links permit.at slot) once;
       belongs = free_belongs v.links permit.at slot free;
-      own = (ap (λ (z : PermitRecord). z.peer) says ∙ (whole q v is.there).node.own.1 ∙ is.named,
-          ap (λ (z : PermitRecord). z.incarnation) says ∙ sym live.incarnation);
+      own = (
+        ap (λ (z : PermitRecord). z.peer) says ∙ (whole q v is.there).node.own.1 ∙ is.named,
+        ap (λ (z : PermitRecord). z.incarnation) says ∙ sym live.incarnation,
+      );
       fits = place_here x permit.at Place.Free (Place.Open permit slot) under_top free_there;
       links = λ l e. absurd (no_link l e);
       rest = λ l j b e without at_j of. absurd (no_link l e);
@@ -114,6 +118,7 @@ open_by w p q s v permit f whole there is live free says =
   where
     open_or_link : (slot : ℕ) (l : Link) → Place.Open permit slot ≡ Place.Link l → ⊥
     open_or_link slot l h = cc
+
     permit_or_lease : (l : LinkRecord) (k m : ℕ) → Hand.Permit permit ≡ Hand.Lease l k m → ⊥
     permit_or_lease l k m h = cc
 
@@ -141,25 +146,33 @@ lent_by w p q at s v lease link x y f whole there is live was free says here of 
       alters = alters_twice v.links x u lease.at slot alters
           (alters_written x lease.at slot (Place.Link held) _ (Claim.Link lease.at));
       belongs = apart_belongs v.links lease.at link slot was free;
-      own = (ap (λ (z : LinkRecord). z.peer) (sym says ∙ fits_v.says) ∙ (whole q v is.there).node.own.1 ∙ is.named,
-          ap (λ (z : LinkRecord). z.incarnation) (sym says ∙ fits_v.says) ∙ sym live.incarnation,
-          (process_of y, read_map process_of w.backends at y here, of),
-          read_map last_holder w.backends at y here ∙ ap Some last);
-      fits = (held, record {
-        at = place_here x lease.at (Place.Link link) (Place.Link held) _ was_x;
-        says = says;
-        held = refl;
-      });
+      own = (
+        ap (λ (z : LinkRecord). z.peer) (sym says ∙ fits_v.says) ∙ (whole q v is.there).node.own.1 ∙ is.named,
+        ap (λ (z : LinkRecord). z.incarnation) (sym says ∙ fits_v.says) ∙ sym live.incarnation,
+        (process_of y, read_map process_of w.backends at y here, of),
+        read_map last_holder w.backends at y here ∙ ap Some last,
+      );
+      fits = (
+        held,
+        record {
+          at = place_here x lease.at (Place.Link link) (Place.Link held) _ was_x;
+          says = says;
+          held = refl;
+        },
+      );
       links = λ l e.
           let one = is_link l e in
           let h = f.links q v is.there lease.at link was in
           subst (λ (z : Link). (b : ℕ) × IsProcess w.group (processes_of w) v.me z b
-          × LinkStands (faces_of w) (lasts_of w) w.connections v z b) one
-          (h.0, process_again link held h.0 refl refl h.1, record {
-            tickets = h.2.tickets;
-            hasty = h.2.hasty;
-            giver = λ i k face given at_i is_in key. absurd (held_or_given slot k given);
-          });
+          × LinkStands (faces_of w) (lasts_of w) w.connections v z b) one (
+            h.0,
+            process_again link held h.0 refl refl h.1,
+            record {
+              tickets = h.2.tickets;
+              hasty = h.2.hasty;
+              giver = λ i k face given at_i is_in key. absurd (held_or_given slot k given);
+            },
+          );
       rest = λ l j b e without at_j of_b. absurd (differ
           (ap (λ (z : Link). is_with_client z.state) (is_link l e) ∙ without));
       outstanding = λ k m l b e at_b.
@@ -170,10 +183,13 @@ lent_by w p q at s v lease link x y f whole there is live was free says here of 
   where
     same_link : (a b : Link) → Place.Link a ≡ Place.Link b → a ≡ b
     same_link a b h = cc
+
     held_or_given : (a b : ℕ) → LinkState.Held a ≡ LinkState.Quarantined (Some b) → ⊥
     held_or_given a b h = cc
+
     differ : true ≡ false → ⊥
     differ h = cc
+
     same_lease : (l k : LinkRecord) (a b c d : ℕ) → Hand.Lease l a c ≡ Hand.Lease k b d
         → (a ≡ b) × (c ≡ d)
     same_lease l k a b c d h = (cc, cc)
@@ -230,10 +246,13 @@ idle_unclaimed w q at v lease link x f whole at_q was idle says here of =
   where
     idle_or_held : (slot : ℕ) → LinkState.Idle ≡ LinkState.Held slot → ⊥
     idle_or_held slot h = cc
+
     idle_or_given : (slot : ℕ) → LinkState.Idle ≡ LinkState.Quarantined (Some slot) → ⊥
     idle_or_given slot h = cc
+
     differ : true ≡ false → ⊥
     differ h = cc
+
     by_report : (i k : ℕ) (c : Connection) → slice_get w.connections i ≡ Some c → c.backend ≡ k
         → c.acted ≡ false → LinkStands (faces_of w) (lasts_of w) w.connections v link k
         → (link.hold.tickets ≡ 0) × (link.hold.condemned ≡ false) → (r : Option Report) → c.report ≡ r → ⊥
@@ -252,9 +271,12 @@ same_backend : (w : World) (q at : ℕ) (v : NodeView) (lease : LinkRecord) (lin
     → slice_get w.backends at ≡ Some x → x.link ≡ Some lease
     → (b : ℕ) × (b ≡ at) × LinkStands (faces_of w) (lasts_of w) w.connections v link b
 same_backend w q at v lease link x f whole at_q was says here of =
-    let h = f.links q v at_q lease.at link was in
-    (h.0, process_at w f h.0 at h.1.process (process_of x) link.details lease h.1.there
-    (read_map process_of w.backends at x here) h.1.of of says, h.2)
+    let h = f.links q v at_q lease.at link was in (
+      h.0,
+      process_at w f h.0 at h.1.process (process_of x) link.details lease h.1.there
+          (read_map process_of w.backends at x here) h.1.of of says,
+      h.2,
+    )
 
 -- a link that no client has is at rest
 at_rest : (w : World) (q at : ℕ) (v : NodeView) (lease : LinkRecord) (link : Link) (x : Backend)
@@ -311,7 +333,7 @@ acquire_by w new nodes p q s v n (AcquireReply.Got lease) said f whole there sta
     let slot = slot_of s.pass.key in
     let w1 = with_backend at (held_next s.label b) w in
     let to : (u : PoolView) → n.links ≡ u
-        → new ≡ changed w1 p q s v u (Hand.Lease lease at 0) =
+    → new ≡ changed w1 p q s v u (Hand.Lease lease at 0) =
     λ u e. new_is w1 new nodes p q s v n u (Hand.Lease lease at 0) after.4 all step.step.1 e in
     ⊎_elim
     (λ back.

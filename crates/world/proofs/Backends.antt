@@ -1,19 +1,18 @@
 -- There is a further server process, or a link has another client.
-use Rattle.std.proofs.Common.{◌≡◌, ◌≢◌, ℕ, zero, suc, ◌+◌, ◌<◌, ◌≤◌, ◌⊎◌, inl, inr, ⊎_elim, Bool, true, false, List, [], ◌∷◌, ◌++◌, Option, Some, None, length, map, refl, ap, sym, subst, ◌∙◌, arith}
+use Rattle.std.proofs.Common.{◌≡◌, ◌≢◌, ℕ, ◌<◌, ⊎_elim, false, List, [], ◌∷◌, ◌++◌, Option, Some, map, refl, ap, sym, subst, ◌∙◌, arith}
 use Rattle.std.proofs.Math.ListN.{set}
 use Rattle.std.specs.List.{slice_get}
-use Rattle.std.proofs.lemmas.Option.{same_Some, none-some}
 use Rattle.lease.specs.declared.{link_record.LinkRecord.LinkRecord, link_place.LinkPlace.LinkPlace}
 use Rattle.link_pool.specs.declared.place.{Place.Place, Link.Link, LinkState.LinkState}
-use Rattle.link_pool.specs.Pool.{PoolView, place_at}
+use Rattle.link_pool.specs.Pool.{place_at}
 use Rattle.ini_config.specs.Node.{NodeSettings}
 use Rattle.node_core.specs.View.{NodeView}
 use Rattle.world.specs.World.{World, Arrival, Backend, Connection, Hand, Issue, Session, IsNode}
 use Rattle.world.specs.Changes.{and_then, with_backend}
 use Rattle.world.specs.LinkEvents.{with_new}
-use Rattle.world.specs.Facts.{Process, process_of, last_holder, Grip, grip_of, running_count, Face, face_of, processes_of, lasts_of, faces_of, IsOwnGrip, IsClientOf, AreClients, AreProcesses, NumbersLeft, IsIn, IsProcess, LinkStands, AllLinksStand, ConnectionStands, AreConnections, load_of, IsOwnLoad, is_with_client, AreLoads, Facts}
-use Rattle.world.proofs.Lists.{set_here, set_there, set_cases, kept_behind, added_cases, before_end, read_map, from_map, same_map, map_write, map_added, map_long}
-use Rattle.world.proofs.Loads.{Reloads, loads_same, carried}
+use Rattle.world.specs.Facts.{Process, process_of, last_holder, Grip, grip_of, running_count, Face, face_of, processes_of, lasts_of, faces_of, IsOwnGrip, AreClients, AreProcesses, NumbersLeft, IsProcess, AllLinksStand, AreConnections, load_of, IsOwnLoad, Facts}
+use Rattle.world.proofs.Lists.{set_there, kept_behind, added_cases, before_end, read_map, from_map, same_map, map_write, map_added, map_long}
+use Rattle.world.proofs.Loads.{loads_same}
 use Rattle.world.proofs.Holding.{grip_of_lease}
 
 -- a grip is a client's still, with more processes
@@ -22,9 +21,12 @@ grip_behind : (processes more : List Process) (lasts further : List (Option ℕ)
     → IsOwnGrip (processes ++ more) (lasts ++ further) face g
 grip_behind processes more lasts further face Grip.Nothing h = tt
 grip_behind processes more lasts further face (Grip.Permit permit) h = h
-grip_behind processes more lasts further face (Grip.Lease lease b) h =
-    (h.0, h.1, (h.2.0, kept_behind processes more b h.2.0 h.2.1, h.2.2),
-    kept_behind lasts further b (Some face.label) h.3)
+grip_behind processes more lasts further face (Grip.Lease lease b) h = (
+  h.0,
+  h.1,
+  (h.2.0, kept_behind processes more b h.2.0 h.2.1, h.2.2),
+  kept_behind lasts further b (Some face.label) h.3,
+)
 
 -- what is known of clients, with more processes
 clients_behind : (issues : List Issue) (processes more : List Process) (lasts further : List (Option ℕ)) (faces : List Face)
@@ -97,19 +99,22 @@ links_behind : (group : List NodeSettings) (nodes : List NodeView) (faces : List
     → AllLinksStand group nodes faces processes lasts connections
     → AllLinksStand group nodes faces (processes ++ more) (lasts ++ further) connections
 links_behind group nodes faces processes more lasts further connections h i view at_i k link at_k =
-    let x = h i view at_i k link at_k in
-    (x.0, record {
-      process = x.1.process;
-      there = kept_behind processes more x.0 x.1.process x.1.there;
-      of = x.1.of;
-      key = x.1.key;
-      server = x.1.server;
-    }, record {
-      tickets = x.2.tickets;
-      hasty = x.2.hasty;
-      giver = λ j slot face given at is key.
-          kept_behind lasts further x.0 (Some face.label) (x.2.giver j slot face given at is key);
-    })
+    let x = h i view at_i k link at_k in (
+      x.0,
+      record {
+        process = x.1.process;
+        there = kept_behind processes more x.0 x.1.process x.1.there;
+        of = x.1.of;
+        key = x.1.key;
+        server = x.1.server;
+      },
+      record {
+        tickets = x.2.tickets;
+        hasty = x.2.hasty;
+        giver = λ j slot face given at is key.
+            kept_behind lasts further x.0 (Some face.label) (x.2.giver j slot face given at is key);
+      },
+    )
 
 -- there is one more server process, which nobody has yet
 pub added_kept : (w : World) (x : Backend) → IsOther (processes_of w) (process_of x)
@@ -228,15 +233,18 @@ held_kept w b label x there none free f =
       numbers = subst (λ (q : List Process). NumbersLeft w.nodes (faces_of w) q w.connections) (sym same_processes) f.numbers;
       links = subst (λ (q : List Process). AllLinksStand w.group w.nodes (faces_of w) q (map last_holder (set w.backends b y)) w.connections) (sym same_processes)
           (subst (λ (q : List (Option ℕ)). AllLinksStand w.group w.nodes (faces_of w) (processes_of w) q w.connections) (sym to_lasts)
-          (λ i view at_i k link at_k. let h = f.links i view at_i k link at_k in
-          (h.0, h.1, record {
-            tickets = h.2.tickets;
-            hasty = h.2.hasty;
-            giver = λ j slot face given at is key. other h.0 (Some face.label)
-                (λ e. free.givers i view k link slot at_i at_k given
-                (subst (IsProcess w.group (processes_of w) view.me link) e h.1))
-                (h.2.giver j slot face given at is key);
-          })));
+          (λ i view at_i k link at_k. let h = f.links i view at_i k link at_k in (
+            h.0,
+            h.1,
+            record {
+              tickets = h.2.tickets;
+              hasty = h.2.hasty;
+              giver = λ j slot face given at is key. other h.0 (Some face.label)
+                  (λ e. free.givers i view k link slot at_i at_k given
+                  (subst (IsProcess w.group (processes_of w) view.me link) e h.1))
+                  (h.2.giver j slot face given at is key);
+            },
+          )));
       connections = subst (λ (q : List Process). AreConnections w.arrivals q (map last_holder (set w.backends b y)) w.connections) (sym same_processes)
           (subst (λ (q : List (Option ℕ)). AreConnections w.arrivals (processes_of w) q w.connections) (sym to_lasts) (record {
             each = λ i c at. let h = f.connections.each i c at in record {
@@ -267,12 +275,17 @@ held_kept w b label x there none free f =
         → IsOwnGrip (processes_of w) (lasts_of w) face g → IsOwnGrip (processes_of w) ls face g
     grip_elsewhere w free ls other i face at Grip.Nothing e h = tt
     grip_elsewhere w free ls other i face at (Grip.Permit permit) e h = h
-    grip_elsewhere w {b} free ls other i face at (Grip.Lease lease k) e h =
-        (h.0, h.1, h.2, other k (Some face.label)
-        (λ d. let s = from_map face_of w.sessions i face at in
-        let hand = lease_of_hand s.0.hand lease k (ap (λ (z : Face). z.grip) s.2 ∙ e) in
-        free.clients i hand.0 s.0 lease s.1 (subst (λ (q : ℕ). s.0.hand ≡ Hand.Lease lease q hand.0) d hand.1))
-        h.3)
+    grip_elsewhere w {b} free ls other i face at (Grip.Lease lease k) e h = (
+      h.0,
+      h.1,
+      h.2,
+      other k (Some face.label)
+          (λ d. let s = from_map face_of w.sessions i face at in
+          let hand = lease_of_hand s.0.hand lease k (ap (λ (z : Face). z.grip) s.2 ∙ e) in
+          free.clients i hand.0 s.0 lease s.1 (subst (λ (q : ℕ). s.0.hand ≡ Hand.Lease lease q hand.0) d hand.1))
+          h.3,
+    )
+
     at_rest : (y : Backend) → load_of y ≡ 0 → IsOwnLoad y
     at_rest y none = record {
       wire = λ i l e. let below = before_end y.wire i l e in absurd (omega (arith, below, none));

@@ -1,15 +1,15 @@
 -- A cancel connection comes further on its way.
-use Rattle.std.proofs.Common.{◌≡◌, ◌≢◌, ℕ, zero, suc, ◌+◌, ◌<◌, ◌≤◌, ◌⊎◌, inl, inr, ⊎_elim, Bool, true, false, List, [], ◌∷◌, Option, Some, None, length, refl, ap, sym, subst, ◌∙◌, arith}
+use Rattle.std.proofs.Common.{◌≡◌, ℕ, zero, suc, ◌<◌, ◌≤◌, ⊎_elim, true, false, List, [], ◌∷◌, Option, Some, length, refl, ap, sym, subst, ◌∙◌, arith}
 use Rattle.std.proofs.Math.ListN.{set}
 use Rattle.std.specs.List.{slice_get}
-use Rattle.std.proofs.lemmas.Option.{same_Some, none-some}
+use Rattle.std.proofs.lemmas.Option.{same_Some}
 use Rattle.std.proofs.lemmas.Bool.{cases_eq}
 use Rattle.lease.specs.declared.ticket.TicketRecord.{TicketRecord}
 use Rattle.link_pool.specs.PoolStep.{link_of}
 use Rattle.node_core.specs.View.{NodeView}
-use Rattle.world.specs.World.{World, Arrival, Connection, Forward, Issue, Report, IsNode}
+use Rattle.world.specs.World.{Arrival, Connection, Forward, Issue, Report, IsNode}
 use Rattle.world.specs.SafeCancellation.{IsEarned}
-use Rattle.world.specs.Facts.{Process, Face, is_open_for, open_for, IsServed, ConnectionStands, AreConnections, ForwardStands, AreForwards, NumbersLeft}
+use Rattle.world.specs.Facts.{Process, Face, is_open_for, open_for, IsServed, ConnectionStands, AreConnections, AreForwards, NumbersLeft}
 use Rattle.world.proofs.Lists.{set_here, set_there, set_cases}
 use Rattle.world.proofs.Settling.{GoesOn, settled_still}
 
@@ -63,9 +63,11 @@ module _ (arrivals : List Arrival) (processes : List Process) (lasts : List (Opt
       → (x : Connection) × (slice_get (set was k d) i ≡ Some x) × Advances y x
   goes_to i y there = ⊎_elim
       (λ same. let is : y ≡ c =
-      same_Some y c (sym there ∙ ap (slice_get was) same ∙ one.there) in
-      (d, ap (slice_get (set was k d)) same ∙ set_here was k c d one.there,
-      subst (λ (z : Connection). Advances z d) (sym is) one.step))
+      same_Some y c (sym there ∙ ap (slice_get was) same ∙ one.there) in (
+        d,
+        ap (slice_get (set was k d)) same ∙ set_here was k c d one.there,
+        subst (λ (z : Connection). Advances z d) (sym is) one.step,
+      ))
       (λ apart. (y, set_there was k i d apart ∙ there, stays_as y (old.each i y there)))
       (cases_eq i k)
 
@@ -89,9 +91,12 @@ module _ (arrivals : List Arrival) (processes : List Process) (lasts : List (Opt
     waits = λ e. ap (slice_get lasts) step.backend ∙ h.waits (step.waits e) ∙ ap Some (sym step.holder);
     acted = step.acted;
     clean = step.clean;
-    served = (h.served.0, ap (slice_get arrivals) step.arrival ∙ h.served.1,
-        subst (λ (t : TicketRecord). IsServed t x.key h.served.0.order) (sym step.ticket)
-        (subst (λ (key : List ℕ). IsServed y.ticket key h.served.0.order) (sym step.key) h.served.2));
+    served = (
+      h.served.0,
+      ap (slice_get arrivals) step.arrival ∙ h.served.1,
+      subst (λ (t : TicketRecord). IsServed t x.key h.served.0.order) (sym step.ticket)
+          (subst (λ (key : List ℕ). IsServed y.ticket key h.served.0.order) (sym step.key) h.served.2),
+    );
   }
 
   pub connections_kept : AreConnections arrivals processes lasts (set was k d)

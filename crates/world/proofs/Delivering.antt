@@ -1,16 +1,15 @@
 -- The bytes of a flight come to a node.
-use Rattle.std.proofs.Common.{◌≡◌, ◌≢◌, ℕ, ◌+◌, ◌<◌, ◌≤◌, Bool, true, false, List, [], ◌∷◌, Option, Some, None, length, refl, ap, sym, subst, ◌∙◌, arith}
+use Rattle.std.proofs.Common.{◌≡◌, ◌≢◌, ℕ, ◌+◌, ◌≤◌, Bool, true, false, List, Some, length, refl, ap, sym, subst, ◌∙◌, arith}
 use Rattle.std.proofs.Math.ListN.{set}
 use Rattle.std.specs.List.{slice_get}
-use Rattle.std.proofs.lemmas.Option.{same_Some}
 use Rattle.pg_ids.specs.AnyKey.{IsAnyKey, any_identity_of, peer_of, slot_of, short_of}
 use Rattle.pg_ids.specs.declared.any_key.AnyKey.{AnyKey}
 use Rattle.startup.specs.CancelPacket.{packet_bytes}
 use Rattle.startup.specs.declared.packet.Packet.{Packet}
-use Rattle.lease.specs.declared.{link_record.LinkRecord.LinkRecord, link_place.LinkPlace.LinkPlace, ticket.TicketRecord.TicketRecord}
-use Rattle.link_pool.specs.declared.place.{Place.Place, Link.Link}
+use Rattle.lease.specs.declared.{link_place.LinkPlace.LinkPlace, ticket.TicketRecord.TicketRecord}
+use Rattle.link_pool.specs.declared.place.{Place.Place}
 use Rattle.link_pool.specs.declared.replies.ServeReply.{ServeReply}
-use Rattle.link_pool.specs.Pool.{PoolView, place_at, with_place, unwaited}
+use Rattle.link_pool.specs.Pool.{PoolView, with_place, unwaited}
 use Rattle.link_pool.specs.PoolStep.{ServeStep, UnwaitStep, Serves as PoolServes, with_hold, one_more, link_of}
 use Rattle.cancel_router.specs.declared.{decision.Route.Route, refusal.RouteRefusal.RouteRefusal}
 use Rattle.node_core.specs.declared.refusal.CancelRefusal.{CancelRefusal}
@@ -18,18 +17,18 @@ use Rattle.node_core.specs.declared.exchange.Order.{Order}
 use Rattle.node_core.specs.View.{NodeView}
 use Rattle.node_core.specs.NodeStep.{LinksStep, Orders, CancelStep, route_of}
 use Rattle.world.specs.declared.reply.Reply.{Reply}
-use Rattle.world.specs.World.{World, Arrival, Backend, Connection, Forward, Issue, Server, Taken, IsNode, IsOwner, IsServer}
+use Rattle.world.specs.World.{World, Arrival, Connection, Issue, Taken, IsNode, IsOwner, IsServer}
 use Rattle.world.specs.Changes.{and_then}
-use Rattle.world.specs.CancelEvents.{IsRequest, IsInSlot, takes_key, IsTaken, IsConnection, IsHolder, new_forward, Makes, Arrives, Comes}
-use Rattle.world.specs.SafeCancellation.{IsRightly, IsEarned}
-use Rattle.world.specs.Facts.{Process, process_of, processes_of, lasts_of, IsProcess, IsServed, Facts, AreWhole}
+use Rattle.world.specs.CancelEvents.{IsInSlot, takes_key, IsTaken, IsConnection, IsHolder, new_forward, Makes, Arrives, Comes}
+use Rattle.world.specs.SafeCancellation.{IsRightly}
+use Rattle.world.specs.Facts.{process_of, processes_of, IsProcess, IsServed, Facts, AreWhole}
 use Rattle.world.proofs.Lists.{added_last, before_end, read_map}
 use Rattle.world.proofs.Holding.{link_fits, link_place}
 use Rattle.world.proofs.Nodes.{with_links}
 use Rattle.world.proofs.GivingBack.{same_nodes}
 use Rattle.world.proofs.Waiting.{unwaited_waits, wait_kept}
 use Rattle.world.proofs.Keys.{IsHome, TakesHome, takes_home}
-use Rattle.world.proofs.Arriving.{IsKeyOf, slot_owner, arrived_kept, taken_kept, IsNewForward, forwarded_kept}
+use Rattle.world.proofs.Arriving.{slot_owner, arrived_kept, taken_kept, IsNewForward, forwarded_kept}
 use Rattle.world.proofs.Serving.{IsNewConnection, served_kept, claim_holder, holder_is}
 
 -- what each order tells of the way that was found
@@ -183,8 +182,12 @@ connection_of w f whole q label node database key server_key v u ticket c a is i
       ended = ap (λ (x : Connection). x.ended) conn.is;
       report = ap (λ (x : Connection). x.report) conn.is;
       holder = has.last ∙ ap Some (sym holder);
-      served = (a, came, subst (IsServed c.ticket c.key) (sym a_order)
-          (sym ticket_is, ap (λ (x : Connection). x.key) (sym conn.is)));
+      served = (
+        a,
+        came,
+        subst (IsServed c.ticket c.key) (sym a_order)
+            (sym ticket_is, ap (λ (x : Connection). x.key) (sym conn.is)),
+      );
       apart = λ i x at_i. let s = (f.connections.each i x at_i).served in
           before_next w x.arrival s.0 c.arrival s.1 arrival;
       earned = record {

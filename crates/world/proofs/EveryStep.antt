@@ -1,6 +1,5 @@
 -- Each event keeps what is true of a world, and what is settled.
-use Rattle.std.proofs.Common.{◌≡◌, ℕ, ◌<◌, ◌≤◌, Bool, true, false, List, Some, length, refl, ap, sym, subst, ◌∙◌, arith}
-use Rattle.std.specs.List.{slice_get}
+use Rattle.std.proofs.Common.{sym, subst}
 use Rattle.world.specs.declared.event.Event.{Event}
 use Rattle.world.specs.declared.reply.{Reply.Reply, Took.Took}
 use Rattle.world.specs.World.{World}

@@ -1,10 +1,10 @@
 -- What is settled is settled for good: no later interruption is for it.
-use Rattle.std.proofs.Common.{◌≡◌, ◌≢◌, ℕ, ◌<◌, ◌≤◌, ◌⊎◌, ⊎_elim, Bool, true, false, List, [], ◌∷◌, Option, Some, None, Result, Ok, Err, length, refl, ap, sym, subst, ◌∙◌, arith}
+use Rattle.std.proofs.Common.{◌≡◌, ℕ, ⊎_elim, Bool, true, false, List, [], ◌∷◌, Option, Some, None, Result, Ok, Err, refl, ap, sym, subst, ◌∙◌, arith}
 use Rattle.std.proofs.Math.ListN.{set}
 use Rattle.std.specs.List.{slice_get}
 use Rattle.std.proofs.lemmas.Option.{same_Some, none-some}
 use Rattle.std.proofs.lemmas.Bool.{cases_eq}
-use Rattle.pg_ids.specs.declared.any_key.{AnyKey.AnyKey, Kind.Kind}
+use Rattle.pg_ids.specs.declared.any_key.{AnyKey.AnyKey}
 use Rattle.lease.specs.declared.{pass.PassRecord.PassRecord, ticket.TicketRecord.TicketRecord}
 use Rattle.link_pool.specs.declared.replies.{AcquireReply.AcquireReply, UpReply.UpReply, RestartReply.RestartReply}
 use Rattle.node_core.specs.declared.refusal.JoinRefusal.{JoinRefusal}
@@ -13,13 +13,13 @@ use Rattle.node_core.specs.NodeStep.{Asked}
 use Rattle.node_core.specs.View.{NodeView}
 use Rattle.world.specs.declared.event.Event.{Event}
 use Rattle.world.specs.declared.reply.{Reply.Reply, Took.Took}
-use Rattle.world.specs.World.{World, Arrival, Backend, Connection, Forward, Interrupt, Report, Server, Session, IsForward}
-use Rattle.world.specs.Changes.{and_then, with_nodes, with_connection, with_forward}
-use Rattle.world.specs.Admissible.{Admissible, StandsAt, MayAccept}
+use Rattle.world.specs.World.{World, Arrival, Backend, Connection, Forward, Interrupt, Report, Server, Session}
+use Rattle.world.specs.Changes.{with_nodes, with_connection, with_forward}
+use Rattle.world.specs.Admissible.{Admissible, StandsAt}
 use Rattle.world.specs.LinkEvents.{Joins, Acquires, Opened, GoesUp}
-use Rattle.world.specs.CancelEvents.{bound_by, Makes, Arrives, Comes, Accepts, Forwards, Strikes, Acts, Reports, StartsAnew}
+use Rattle.world.specs.CancelEvents.{bound_by, Makes, Arrives, Comes, Strikes, Acts, StartsAnew}
 use Rattle.world.specs.WorldRun.{Does, WorldStep}
-use Rattle.world.specs.Settled.{IsSettled, ComesOf, SettledStays}
+use Rattle.world.specs.Settled.{SettledStays}
 use Rattle.world.specs.Facts.{Facts}
 use Rattle.world.proofs.Lists.{set_here, set_there, kept_behind, added_cases, before_end}
 use Rattle.world.proofs.Settling.{GoesOn, all_same, settled_still, nothing_to_come}
@@ -52,10 +52,12 @@ connection_on : (w : World) (k : ℕ) (c d : Connection) → slice_get w.connect
 connection_on w k c d there arrival ended = record {
   arrivals = λ i a h. h;
   connections = λ i y h. ⊎_elim
-      (λ same. let one : y ≡ c = same_Some y c (sym h ∙ ap (slice_get w.connections) same ∙ there) in
-      (d, ap (slice_get (set w.connections k d)) same ∙ set_here w.connections k c d there,
-      arrival ∙ ap (λ (z : Connection). z.arrival) (sym one),
-      λ e. ended (ap (λ (z : Connection). z.ended) (sym one) ∙ e)))
+      (λ same. let one : y ≡ c = same_Some y c (sym h ∙ ap (slice_get w.connections) same ∙ there) in (
+        d,
+        ap (slice_get (set w.connections k d)) same ∙ set_here w.connections k c d there,
+        arrival ∙ ap (λ (z : Connection). z.arrival) (sym one),
+        λ e. ended (ap (λ (z : Connection). z.ended) (sym one) ∙ e),
+      ))
       (λ apart. (y, set_there w.connections k i d apart ∙ h, refl, λ e. e))
       (cases_eq i k);
   forwards = λ i f h. (f, h, refl, λ n e. e);
@@ -69,10 +71,12 @@ forward_on arrivals connections forwards k f g there origin onward = record {
   arrivals = λ i a h. h;
   connections = λ i c h. (c, h, refl, λ e. e);
   forwards = λ i y h. ⊎_elim
-      (λ same. let one : y ≡ f = same_Some y f (sym h ∙ ap (slice_get forwards) same ∙ there) in
-      (g, ap (slice_get (set forwards k g)) same ∙ set_here forwards k f g there,
-      origin ∙ ap (λ (z : Forward). z.origin) (sym one),
-      λ n e. onward n (ap (λ (z : Forward). z.accepted) (sym one) ∙ e)))
+      (λ same. let one : y ≡ f = same_Some y f (sym h ∙ ap (slice_get forwards) same ∙ there) in (
+        g,
+        ap (slice_get (set forwards k g)) same ∙ set_here forwards k f g there,
+        origin ∙ ap (λ (z : Forward). z.origin) (sym one),
+        λ n e. onward n (ap (λ (z : Forward). z.accepted) (sym one) ∙ e),
+      ))
       (λ apart. (y, set_there forwards k i g apart ∙ h, refl, λ n e. e))
       (cases_eq i k);
 }
@@ -135,24 +139,28 @@ restart_follows node boot RestartReply.Exhausted said nodes old new h =
 -- what an order makes
 makes_follows : (node : ℕ) (given : Order TicketRecord) (said : Reply) (old made : World) → Makes node given said old made
     → Follows old made × (made.arrivals ≡ old.arrivals)
-makes_follows node (Order.Serve ticket database key) said old made h =
-    (subst (Follows old) (sym h.3) (record {
-      on = record {
-        arrivals = λ i a at. at;
-        connections = λ i c at. (c, kept_behind old.connections (h.0 ∷ []) i c at, refl, λ e. e);
-        forwards = λ i f at. (f, at, refl, λ n e. e);
-      };
-      interrupts = refl;
-    }), ap (λ (w : World). w.arrivals) h.3)
-makes_follows node (Order.Forward to packet) said old made h =
-    (subst (Follows old) (sym h.1) (record {
-      on = record {
-        arrivals = λ i a at. at;
-        connections = λ i c at. (c, at, refl, λ e. e);
-        forwards = λ i f at. (f, kept_behind old.forwards _ i f at, refl, λ n e. e);
-      };
-      interrupts = refl;
-    }), ap (λ (w : World). w.arrivals) h.1)
+makes_follows node (Order.Serve ticket database key) said old made h = (
+  subst (Follows old) (sym h.3) (record {
+    on = record {
+      arrivals = λ i a at. at;
+      connections = λ i c at. (c, kept_behind old.connections (h.0 ∷ []) i c at, refl, λ e. e);
+      forwards = λ i f at. (f, at, refl, λ n e. e);
+    };
+    interrupts = refl;
+  }),
+  ap (λ (w : World). w.arrivals) h.3,
+)
+makes_follows node (Order.Forward to packet) said old made h = (
+  subst (Follows old) (sym h.1) (record {
+    on = record {
+      arrivals = λ i a at. at;
+      connections = λ i c at. (c, at, refl, λ e. e);
+      forwards = λ i f at. (f, kept_behind old.forwards _ i f at, refl, λ n e. e);
+    };
+    interrupts = refl;
+  }),
+  ap (λ (w : World). w.arrivals) h.1,
+)
 makes_follows node (Order.Unwait slot) said old made h =
     (subst (Follows old) (sym h.1) (record { on = still old; interrupts = refl }), ap (λ (w : World). w.arrivals) h.1)
 makes_follows node (Order.Refused reason) said old made h =

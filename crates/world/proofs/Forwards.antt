@@ -1,15 +1,15 @@
 -- A forward connection comes further on its way.
-use Rattle.std.proofs.Common.{◌≡◌, ◌≢◌, ℕ, ◌+◌, ◌<◌, ◌≤◌, ◌⊎◌, inl, inr, ⊎_elim, Bool, true, false, List, [], ◌∷◌, ◌++◌, Option, Some, None, length, refl, ap, sym, subst, ◌∙◌, arith, length-append}
+use Rattle.std.proofs.Common.{◌≡◌, ℕ, ◌<◌, ⊎_elim, true, List, [], ◌∷◌, Some, length, refl, ap, sym, subst, ◌∙◌, arith, length-append}
 use Rattle.std.proofs.Math.ListN.{set}
 use Rattle.std.specs.List.{slice_get}
-use Rattle.std.proofs.lemmas.Option.{same_Some, none-some}
+use Rattle.std.proofs.lemmas.Option.{same_Some}
 use Rattle.std.proofs.lemmas.Bool.{cases_eq}
 use Rattle.world.specs.declared.reply.Reply.{Reply}
 use Rattle.world.specs.World.{World, Arrival, Connection, Forward, Report, IsForward}
 use Rattle.world.specs.Settled.{Settled, LedTo}
 use Rattle.world.specs.Admissible.{IsAnswered, MayEndForward, IsForwardOpen}
 use Rattle.world.specs.CancelEvents.{Forwards, Puts}
-use Rattle.world.specs.Facts.{Process, ConnectionStands, AreConnections, ForwardStands, AreForwards, Facts, processes_of, lasts_of}
+use Rattle.world.specs.Facts.{ForwardStands, AreForwards, Facts}
 use Rattle.world.proofs.Lists.{set_here, set_there, set_cases}
 use Rattle.world.proofs.Settling.{GoesOn, all_same, settled_still}
 use Rattle.world.proofs.Connections.{forwards_kept}
@@ -27,12 +27,16 @@ module _ (flights : List (List ℕ)) (arrivals : List Arrival) (connections : Li
   came_from : (i : ℕ) (x : Forward) → slice_get (set was k g) i ≡ Some x
       → (y : Forward) × (slice_get was i ≡ Some y) × Proceeds y x
   came_from i x at = ⊎_elim
-      (λ same. (x, same.1, record {
-        flight = refl;
-        origin = refl;
-        onward = refl;
-        clean = (old.each i x same.1).clean;
-      }))
+      (λ same. (
+        x,
+        same.1,
+        record {
+          flight = refl;
+          origin = refl;
+          onward = refl;
+          clean = (old.each i x same.1).clean;
+        },
+      ))
       (λ new. (f, ap (slice_get was) new.0 ∙ there, subst (Proceeds f) (sym new.1) step))
       (set_cases was k i x g at)
 
@@ -41,10 +45,12 @@ module _ (flights : List (List ℕ)) (arrivals : List Arrival) (connections : Li
     arrivals = λ i a h. h;
     connections = λ i c h. (c, h, refl, λ e. e);
     forwards = λ i y at. ⊎_elim
-        (λ same. let is : y ≡ f = same_Some y f (sym at ∙ ap (slice_get was) same ∙ there) in
-        (g, ap (slice_get (set was k g)) same ∙ set_here was k f g there,
-        step.origin ∙ ap (λ (z : Forward). z.origin) (sym is),
-        λ n e. step.onward ∙ ap (λ (z : Forward). z.accepted) (sym is) ∙ e))
+        (λ same. let is : y ≡ f = same_Some y f (sym at ∙ ap (slice_get was) same ∙ there) in (
+          g,
+          ap (slice_get (set was k g)) same ∙ set_here was k f g there,
+          step.origin ∙ ap (λ (z : Forward). z.origin) (sym is),
+          λ n e. step.onward ∙ ap (λ (z : Forward). z.accepted) (sym is) ∙ e,
+        ))
         (λ apart. (y, set_there was k i g apart ∙ at, refl, λ n e. e))
         (cases_eq i k);
   }
@@ -141,8 +147,11 @@ forward_ended_kept old new flight may does f =
     one_forward old f flight may.place does.place may.forward does.forward may.is does.is in
     subst Facts (sym does.after) (forward_proceeds old does.place does.forward _ does.is.there
     (record { flight = refl; origin = refl; onward = refl; clean = λ e. refl })
-    (λ e. (may.arrival, ap (λ (x : Forward). x.accepted) (sym same) ∙ may.accepted,
-    answered_settled old f may.arrival may.answered)) f)
+    (λ e. (
+      may.arrival,
+      ap (λ (x : Forward). x.accepted) (sym same) ∙ may.accepted,
+      answered_settled old f may.arrival may.answered,
+    )) f)
 
 -- and that is told
 pub forward_told_kept : (old new : World) (flight place : ℕ) (forward : Forward)

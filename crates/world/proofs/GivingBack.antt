@@ -1,31 +1,29 @@
 -- A client gives its link back, or closes it, or can't open one.
-use Rattle.std.proofs.Common.{◌≡◌, ◌≢◌, ℕ, zero, suc, ◌<◌, ◌≤◌, ◌⊎◌, Bool, true, false, List, [], ◌∷◌, Option, Some, None, length, refl, ap, sym, subst, ◌∙◌, arith}
+use Rattle.std.proofs.Common.{◌≡◌, ℕ, zero, suc, false, List, [], ◌∷◌, Some, refl, ap, sym, subst, ◌∙◌}
 use Rattle.std.proofs.Math.ListN.{set}
 use Rattle.std.specs.List.{slice_get}
-use Rattle.std.proofs.lemmas.Option.{same_Some, none-some}
-use Rattle.std.proofs.lemmas.List.{length-set}
+use Rattle.std.proofs.lemmas.Option.{same_Some}
 use Rattle.pg_ids.specs.AnyKey.{slot_of}
 use Rattle.lease.specs.declared.{link_record.LinkRecord.LinkRecord, link_place.LinkPlace.LinkPlace}
 use Rattle.lease.specs.declared.permit.PermitRecord.{PermitRecord}
 use Rattle.quarantine.specs.OpenTickets.{OpenTickets}
 use Rattle.link_pool.specs.declared.place.{Place.Place, Link.Link, LinkState.LinkState, Claim.Claim}
-use Rattle.link_pool.specs.declared.replies.{ReleaseReply.ReleaseReply, CloseReply.CloseReply, UpFailedReply.UpFailedReply}
-use Rattle.link_pool.specs.Pool.{PoolView, place_at, placed, with_claim, in_state, is_free, give_back, quarantine}
-use Rattle.link_pool.specs.OnePlace.{IsPool, Fits, PermitFits}
-use Rattle.link_pool.specs.PoolStep.{is_holding, IsHeld, ReleaseStep, CloseStep, UpFailedStep}
+use Rattle.link_pool.specs.declared.replies.{ReleaseReply.ReleaseReply, CloseReply.CloseReply}
+use Rattle.link_pool.specs.Pool.{PoolView, place_at, placed, with_claim, in_state, give_back, quarantine}
+use Rattle.link_pool.specs.PoolStep.{is_holding, IsHeld, ReleaseStep, CloseStep}
 use Rattle.link_pool.proofs.Changes.{place_here}
 use Rattle.ini_config.specs.Node.{NodeSettings}
-use Rattle.node_core.specs.View.{NodeView, IsView}
+use Rattle.node_core.specs.View.{NodeView}
 use Rattle.node_core.specs.NodeStep.{LinksStep}
 use Rattle.world.specs.declared.reply.Reply.{Reply}
-use Rattle.world.specs.World.{World, Backend, Hand, Session, IsNode, IsServer}
+use Rattle.world.specs.World.{World, Hand, Session, IsNode, IsServer}
 use Rattle.world.specs.Changes.{holding, with_nodes, with_session}
-use Rattle.world.specs.LinkEvents.{GivesBack, Closes, Fails}
-use Rattle.world.specs.Facts.{Process, process_of, Grip, grip_of, Face, face_of, processes_of, lasts_of, faces_of, IsOwnGrip, IsIn, GripFits, FitsSlot, IsProcess, LinkStands, is_with_client, load_of, Facts, AreWhole}
-use Rattle.world.proofs.Lists.{set_here, read_map}
-use Rattle.world.proofs.Holding.{link_place, has_live_lease, lease_is_held, grip_of_lease}
-use Rattle.world.proofs.Nodes.{with_links, Alters, Belongs, alters_written}
-use Rattle.world.proofs.Steps.{one_slot, IsChange, changed, change_kept, emptied_kept}
+use Rattle.world.specs.LinkEvents.{GivesBack, Closes}
+use Rattle.world.specs.Facts.{Process, process_of, Grip, Face, face_of, processes_of, lasts_of, faces_of, IsOwnGrip, IsIn, GripFits, IsProcess, Facts, AreWhole}
+use Rattle.world.proofs.Lists.{read_map}
+use Rattle.world.proofs.Holding.{has_live_lease, lease_is_held, grip_of_lease}
+use Rattle.world.proofs.Nodes.{with_links, Belongs, alters_written}
+use Rattle.world.proofs.Steps.{one_slot, changed, change_kept, emptied_kept}
 
 -- what stands at a place is of one slot
 pub held_belongs : (v : PoolView) (at : LinkPlace) (link : Link) (slot : ℕ)
@@ -39,6 +37,7 @@ held_belongs v at link slot there held = record {
     link_or_open : (permit : PermitRecord) (s : ℕ)
         → Some (Place.Link link) ≡ Some (Place.Open permit s) → ⊥
     link_or_open permit s h = cc
+
     one_slot_of : (l : Link) (s : ℕ) → Some (Place.Link link) ≡ Some (Place.Link l)
         → l.state ≡ LinkState.Held s → s ≡ slot
     one_slot_of l s h e = cc
@@ -53,6 +52,7 @@ open_belongs v at permit slot there = record {
     same_open : (other : PermitRecord) (s : ℕ)
         → Some (Place.Open permit slot) ≡ Some (Place.Open other s) → s ≡ slot
     same_open other s h = cc
+
     link_or_open : (l : Link) → Some (Place.Open permit slot) ≡ Some (Place.Link l) → ⊥
     link_or_open l h = cc
 
@@ -148,20 +148,23 @@ gives_up w f whole p q at n s lease v link place restack c there hand at_q at_pl
           let h = f.links q v at_q lease.at link at_place in
           let b = h.0 in
           let at_b : b ≡ at = process_at w f b at h.1.process own.2.0 link.details lease
-          h.1.there own.2.1 h.1.of own.2.2 same in
-          (b, process_again link l b (keeps.details l is) (keeps.key l is) h.1, record {
-            tickets = ap (λ (o : OpenTickets). o.tickets) (keeps.hold l is) ∙ h.2.tickets;
-            hasty = λ i x how at_i of acted reported.
-                ap (λ (o : OpenTickets). o.condemned) (keeps.hold l is)
-                ∙ h.2.hasty i x how at_i of acted reported;
-            giver = λ i k face given at_i is_in key.
-                let mine : i ≡ p = one_slot w f q i p v face (face_of s) at_q at_i here is_in live
-                (key ∙ keeps.giver l k is given) in
-                let one : face ≡ face_of s = same_Some face (face_of s)
-                (sym at_i ∙ ap (slice_get (faces_of w)) mine ∙ here) in
-                ap (slice_get (lasts_of w)) at_b ∙ own.3
-                ∙ ap (λ (z : Face). Some (Some z.label)) (sym one);
-          });
+          h.1.there own.2.1 h.1.of own.2.2 same in (
+            b,
+            process_again link l b (keeps.details l is) (keeps.key l is) h.1,
+            record {
+              tickets = ap (λ (o : OpenTickets). o.tickets) (keeps.hold l is) ∙ h.2.tickets;
+              hasty = λ i x how at_i of acted reported.
+                  ap (λ (o : OpenTickets). o.condemned) (keeps.hold l is)
+                  ∙ h.2.hasty i x how at_i of acted reported;
+              giver = λ i k face given at_i is_in key.
+                  let mine : i ≡ p = one_slot w f q i p v face (face_of s) at_q at_i here is_in live
+                  (key ∙ keeps.giver l k is given) in
+                  let one : face ≡ face_of s = same_Some face (face_of s)
+                  (sym at_i ∙ ap (slice_get (faces_of w)) mine ∙ here) in
+                  ap (slice_get (lasts_of w)) at_b ∙ own.3
+                  ∙ ap (λ (z : Face). Some (Some z.label)) (sym one);
+            },
+          );
       rest = λ l j b e without at_j of.
           let is = is_link l e in
           let where_it_is : j ≡ at = process_at w f j at (process_of b) own.2.0 l.details lease

@@ -1,5 +1,5 @@
 -- A client has opened a link.
-use Rattle.std.proofs.Common.{◌≡◌, ◌≢◌, ℕ, zero, suc, ◌+◌, ◌<◌, ◌≤◌, ◌⊎◌, ⊎_elim, Bool, true, false, List, [], ◌∷◌, ◌++◌, Option, Some, None, length, refl, ap, sym, subst, ◌∙◌, arith, ◌==◌, ◌&&◌}
+use Rattle.std.proofs.Common.{◌≡◌, ◌≢◌, ℕ, zero, suc, ◌+◌, true, false, List, [], ◌∷◌, Option, Some, None, length, refl, ap, sym, subst, ◌∙◌, arith, ◌==◌}
 use Rattle.std.proofs.Math.ListN.{set}
 use Rattle.std.specs.List.{slice_get}
 use Rattle.std.proofs.lemmas.Option.{same_Some, none-some}
@@ -15,21 +15,21 @@ use Rattle.link_pool.specs.OnePlace.{has_permit, open_for as kept_for}
 use Rattle.link_pool.specs.PoolStep.{IsOpen, new_link, UpStep}
 use Rattle.link_pool.proofs.Changes.{place_here, place_there, same_places}
 use Rattle.node_core.specs.declared.client.Client.{Client}
-use Rattle.node_core.specs.View.{NodeView, IsView, Has}
+use Rattle.node_core.specs.View.{NodeView, IsView}
 use Rattle.node_core.specs.NodeStep.{LinksStep}
 use Rattle.world.specs.declared.reply.Reply.{Reply}
 use Rattle.world.specs.World.{World, Backend, Connection, Hand, Server, Session, IsBackend, IsNode, IsServer}
 use Rattle.world.specs.Changes.{holding, with_nodes, with_session}
 use Rattle.world.specs.Admissible.{MayGoUp}
 use Rattle.world.specs.LinkEvents.{Opened, new_backend, with_new, GoesUp, Opens}
-use Rattle.world.specs.Facts.{Process, process_of, last_holder, Face, face_of, processes_of, lasts_of, faces_of, IsIn, IsProcess, LinkStands, is_open_for, open_for, is_with_client, load_of, IsOwnLoad, Facts, AreWhole}
+use Rattle.world.specs.Facts.{Process, process_of, last_holder, face_of, processes_of, lasts_of, faces_of, IsIn, IsProcess, LinkStands, open_for, is_with_client, load_of, IsOwnLoad, Facts, AreWhole}
 use Rattle.world.proofs.Lists.{set_here, set_there, added_last, before_end, read_map, from_map, map_long}
 use Rattle.world.proofs.Holding.{one_session}
-use Rattle.world.proofs.Nodes.{with_links, Alters}
-use Rattle.world.proofs.Steps.{IsChange, changed, change_kept, emptied_kept}
+use Rattle.world.proofs.Nodes.{with_links}
+use Rattle.world.proofs.Steps.{change_kept, emptied_kept}
 use Rattle.world.proofs.GivingBack.{open_belongs, written_at, same_nodes}
 use Rattle.world.proofs.Opening.{permit_live, permit_fits, stale_permit, permit_slot}
-use Rattle.world.proofs.Backends.{IsOther, added_kept}
+use Rattle.world.proofs.Backends.{added_kept}
 use Rattle.world.proofs.Waiting.{numbers_wait, wait_kept}
 
 -- a place is written again
@@ -160,28 +160,37 @@ lease_up w p q s permit server key v lease f whole there hand at_server fresh is
         claims = λ c n. set_there v.links.claims slot c (Claim.Link permit.at) n;
       };
       belongs = open_belongs u1 permit.at permit slot kept;
-      own = (peer ∙ is.named, ap (λ (l : LinkRecord). l.incarnation) says ∙ sym live.incarnation,
-          (process_of x, read_map process_of w2.backends (length w.backends) x at_last, refl),
-          read_map last_holder w2.backends (length w.backends) x at_last);
-      fits = (link, record {
-        at = ap (place_at u) place ∙ written;
-        says = refl;
-        held = refl;
-      });
+      own = (
+        peer ∙ is.named,
+        ap (λ (l : LinkRecord). l.incarnation) says ∙ sym live.incarnation,
+        (process_of x, read_map process_of w2.backends (length w.backends) x at_last, refl),
+        read_map last_holder w2.backends (length w.backends) x at_last,
+      );
+      fits = (
+        link,
+        record {
+          at = ap (place_at u) place ∙ written;
+          says = refl;
+          held = refl;
+        },
+      );
       links = λ l e. subst (λ (z : Link). (b : ℕ) × IsProcess w.group (processes_of w2) v.me z b
-          × LinkStands (faces_of w2) (lasts_of w2) w.connections v1 z b) (is_link l e)
-          (length w.backends, record {
-            process = process_of x;
-            there = read_map process_of w2.backends (length w.backends) x at_last;
-            of = refl;
-            key = refl;
-            server = subst (λ (n : ℕ). IsServer w.group n lease.at.database server) (sym is.named)
-                (subst (λ (d : ℕ). IsServer w.group s.node d server) (sym database) at_server);
-          }, record {
-            tickets = sym (none_open w.connections (length w.backends) (λ i c at. not_last i c at));
-            hasty = λ i c how at of acted reported. absurd (not_last i c at of);
-            giver = λ i k z given at_i is_in of. absurd (held_or_given slot k given);
-          });
+          × LinkStands (faces_of w2) (lasts_of w2) w.connections v1 z b) (is_link l e) (
+            length w.backends,
+            record {
+              process = process_of x;
+              there = read_map process_of w2.backends (length w.backends) x at_last;
+              of = refl;
+              key = refl;
+              server = subst (λ (n : ℕ). IsServer w.group n lease.at.database server) (sym is.named)
+                  (subst (λ (d : ℕ). IsServer w.group s.node d server) (sym database) at_server);
+            },
+            record {
+              tickets = sym (none_open w.connections (length w.backends) (λ i c at. not_last i c at));
+              hasty = λ i c how at of acted reported. absurd (not_last i c at of);
+              giver = λ i k z given at_i is_in of. absurd (held_or_given slot k given);
+            },
+          );
       rest = λ l j b e without at_j of. absurd (differ
           (ap (λ (z : Link). is_with_client z.state) (is_link l e) ∙ without));
       outstanding = λ k m l b e at_b.
@@ -194,13 +203,17 @@ lease_up w p q s permit server key v lease f whole there hand at_server fresh is
   where
     same_link : (a b : Link) → Place.Link a ≡ Place.Link b → a ≡ b
     same_link a b h = cc
+
     held_or_given : (a b : ℕ) → LinkState.Held a ≡ LinkState.Quarantined (Some b) → ⊥
     held_or_given a b h = cc
+
     differ : true ≡ false → ⊥
     differ h = cc
+
     same_lease : (l k : LinkRecord) (a b c d : ℕ) → Hand.Lease l a c ≡ Hand.Lease k b d
         → (a ≡ b) × (c ≡ d)
     same_lease l k a b c d h = (cc, cc)
+
     not_last : (i : ℕ) (c : Connection) → slice_get w.connections i ≡ Some c
         → c.backend ≢ length w.backends
     not_last i c at of =

@@ -1,5 +1,5 @@
 -- Who has a link: what a session has in hand is what its node takes it to have.
-use Rattle.std.proofs.Common.{◌≡◌, ◌≢◌, ℕ, Bool, true, false, List, Option, Some, None, refl, ap, sym, subst, ◌∙◌, ⊎_elim}
+use Rattle.std.proofs.Common.{◌≡◌, ℕ, Bool, true, false, Some, refl, ap, sym, subst, ◌∙◌}
 use Rattle.std.specs.List.{slice_get}
 use Rattle.std.proofs.lemmas.Option.{same_Some}
 use Rattle.pg_ids.specs.AnyKey.{slot_of}
@@ -7,10 +7,9 @@ use Rattle.lease.specs.declared.{link_record.LinkRecord.LinkRecord, link_place.L
 use Rattle.link_pool.specs.declared.place.{Place.Place, Link.Link, LinkState.LinkState}
 use Rattle.link_pool.specs.Pool.{PoolView, place_at}
 use Rattle.link_pool.specs.OnePlace.{IsPool, LinkFits, Fits}
-use Rattle.link_pool.specs.PoolStep.{IsHeld}
 use Rattle.node_core.specs.View.{NodeView, IsView}
 use Rattle.world.specs.World.{World, Hand, Session, IsSession}
-use Rattle.world.specs.Facts.{Process, Grip, grip_of, Face, face_of, processes_of, lasts_of, IsOwnGrip, IsClientOf, IsIn, GripFits, FitsSlot, FitSlots, Facts, faces_of, is_with_client, AreWhole}
+use Rattle.world.specs.Facts.{Grip, grip_of, Face, face_of, processes_of, lasts_of, IsOwnGrip, IsIn, GripFits, FitsSlot, Facts, is_with_client, AreWhole}
 use Rattle.world.proofs.Lists.{read_map}
 
 -- what is at a link's place fits

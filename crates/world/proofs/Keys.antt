@@ -1,15 +1,15 @@
 -- Keys, their identities, and the client that a key names.
-use Rattle.std.proofs.Common.{◌≡◌, ◌≢◌, ℕ, ◌+◌, ◌-◌, ◌*◌, ◌/◌, ◌^◌, ◌<◌, ◌≤◌, ◌⊎◌, Bool, true, false, List, Option, Some, None, refl, ap, sym, subst, ◌∙◌, arith, ◌==◌, ◌&&◌, is_none, if◌then◌else◌}
+use Rattle.std.proofs.Common.{◌≡◌, ◌≢◌, ℕ, ◌≤◌, Bool, true, false, Option, Some, None, refl, ap, sym, ◌∙◌, arith, ◌==◌, ◌&&◌, is_none, if◌then◌else◌}
 use Rattle.std.specs.List.{slice_get, list_any}
 use Rattle.std.proofs.lemmas.Option.{same_Some, none-some}
 use Rattle.std.proofs.lemmas.Bool.Decides.{eqb_tells}
-use Rattle.pg_ids.specs.Key.{IsKey, number_of, identity_of}
+use Rattle.pg_ids.specs.Key.{IsKey, identity_of}
 use Rattle.pg_ids.specs.AnyKey.{IsAnyKey, any_identity_of, any_lowered, peer_of, slot_of, short_of, long_part_of}
 use Rattle.pg_ids.specs.declared.{any_key.AnyKey.AnyKey, any_key.Identity.Identity, client_key.ClientKey.ClientKey, long_part.LongPart.LongPart}
 use Rattle.key_table.specs.declared.entry.Entry.{Entry}
 use Rattle.key_table.specs.Slots.{Slots, names, is_opened, opens, has_part, entry_of}
-use Rattle.cancel_router.specs.declared.{table_view.Standing.Standing, decision.Route.Route, refusal.RouteRefusal.RouteRefusal}
-use Rattle.cancel_router.specs.Route.{route, served}
+use Rattle.cancel_router.specs.declared.{decision.Route.Route, refusal.RouteRefusal.RouteRefusal}
+use Rattle.cancel_router.specs.Route.{served}
 use Rattle.node_core.specs.View.{NodeView}
 use Rattle.node_core.specs.NodeStep.{route_of, standing_in}
 
@@ -70,6 +70,7 @@ eqb_no m n h e = differ (sym h ∙ yes)
   where
     yes : (m == n) ≡ true
     yes = grind (arith, eqb_tells m n)
+
     differ : false ≡ true → ⊥
     differ h = cc
 

@@ -1,31 +1,30 @@
 -- A client leaves.
-use Rattle.std.proofs.Common.{◌≡◌, ◌≢◌, ℕ, zero, suc, ◌+◌, ◌<◌, ◌≤◌, ◌⊎◌, inl, inr, ⊎_elim, Bool, true, false, List, [], ◌∷◌, Option, Some, None, length, refl, ap, sym, subst, ◌∙◌, arith, length-set}
+use Rattle.std.proofs.Common.{◌≡◌, ◌≢◌, ℕ, ◌<◌, ◌≤◌, ⊎_elim, Bool, true, false, List, Option, Some, None, refl, ap, sym, subst, ◌∙◌, arith, length-set}
 use Rattle.std.proofs.Math.ListN.{set}
 use Rattle.std.specs.List.{slice_get}
 use Rattle.std.proofs.lemmas.Option.{same_Some, none-some}
-use Rattle.std.proofs.lemmas.Bool.{cases_eq}
-use Rattle.pg_ids.specs.AnyKey.{slot_of, short_of, long_part_of, peer_of}
-use Rattle.key_table.specs.Slots.{Slots, entry_of}
-use Rattle.lease.specs.declared.{link_record.LinkRecord.LinkRecord, link_place.LinkPlace.LinkPlace, pass.PassRecord.PassRecord}
+use Rattle.pg_ids.specs.AnyKey.{slot_of}
+use Rattle.key_table.specs.Slots.{Slots}
+use Rattle.lease.specs.declared.{link_place.LinkPlace.LinkPlace, pass.PassRecord.PassRecord}
 use Rattle.quarantine.specs.OpenTickets.{OpenTickets}
 use Rattle.link_pool.specs.declared.place.{Place.Place, Link.Link, LinkState.LinkState, Claim.Claim}
-use Rattle.link_pool.specs.Pool.{PoolView, place_at, with_place, with_queue, with_claim, in_state, without_giver, departed_by, departed, others}
-use Rattle.link_pool.specs.OnePlace.{IsPool, has_given, given_by, is_from, same_place}
+use Rattle.link_pool.specs.Pool.{PoolView, place_at, with_queue, with_claim, in_state, without_giver, departed_by, departed, others}
+use Rattle.link_pool.specs.OnePlace.{IsPool, has_given, given_by, is_from}
 use Rattle.link_pool.proofs.Changes.{same_place_yes}
 use Rattle.node_core.specs.declared.client.Client.{Client}
 use Rattle.node_core.specs.declared.exchange.LeaveReply.{LeaveReply}
-use Rattle.node_core.specs.View.{NodeView, IsView, IsClient}
-use Rattle.node_core.specs.NodeStep.{IsPass, StalePass, LeaveStep}
+use Rattle.node_core.specs.View.{NodeView}
+use Rattle.node_core.specs.NodeStep.{LeaveStep}
 use Rattle.world.specs.declared.reply.Reply.{Reply}
 use Rattle.key_table.specs.declared.entry.Entry.{Entry}
-use Rattle.world.specs.World.{World, Backend, Connection, Hand, Issue, Session, IsNode}
+use Rattle.world.specs.World.{World, Connection, Hand, Issue, Session, IsNode}
 use Rattle.world.specs.Changes.{with_nodes, with_session}
 use Rattle.world.specs.Admissible.{HasInHand}
 use Rattle.world.specs.LinkEvents.{Leaves, Goes}
-use Rattle.world.specs.Facts.{Process, Grip, grip_of, Face, face_of, processes_of, lasts_of, faces_of, IsClientOf, AreClients, IsIn, GripFits, FitsSlot, FitSlots, AllFitSlots, NumbersLeft, IsProcess, LinkStands, AllLinksStand, is_with_client, load_of, AreAtRest, Facts, AreWhole}
-use Rattle.world.proofs.Lists.{set_here, set_there, set_cases, read_map, map_write}
+use Rattle.world.specs.Facts.{Process, Grip, grip_of, Face, face_of, processes_of, lasts_of, faces_of, IsClientOf, AreClients, IsIn, FitSlots, AllFitSlots, NumbersLeft, IsProcess, LinkStands, AllLinksStand, is_with_client, AreAtRest, Facts, AreWhole}
+use Rattle.world.proofs.Lists.{set_there, set_cases, read_map, map_write}
 use Rattle.world.proofs.Holding.{one_session}
-use Rattle.world.proofs.Nodes.{one_grew, nodes_grew, issues_grew, numbers_grew, Alters, Belongs, alters_not, alters_twice, alters_written, alters_claim, queue_alters, Moves, moves_of, placed_cases, other_grips, rest_moved}
+use Rattle.world.proofs.Nodes.{one_grew, nodes_grew, issues_grew, numbers_grew, Alters, Belongs, alters_not, alters_twice, alters_written, alters_claim, queue_alters, moves_of, placed_cases, other_grips}
 use Rattle.world.proofs.Steps.{one_slot, nowhere, nothing_there}
 use Rattle.world.proofs.GivingBack.{process_again, written_at, same_nodes}
 use Rattle.world.proofs.Asking.{apart_belongs}
@@ -83,14 +82,20 @@ forgets v slot at (Some (Place.Link link)) whole gave there =
       alters = alters_written v at slot (Place.Link new) _ Claim.Nothing;
       belongs = apart_belongs v at link slot there free;
       was = λ l e.
-          let is : new ≡ l = same_link new l (written_at v at (Place.Link link) (Place.Link new) (Place.Link l) _ there e) in
-          (link, there, ap (λ (z : Link). z.details) (sym is), ap (λ (z : Link). z.key) (sym is),
-          ap (λ (z : Link). z.hold) (sym is), ap (λ (z : Link). is_with_client z.state) (sym is) ∙ sym free,
-          λ s h. absurd (none_or_some s (ap (λ (z : Link). z.state) is ∙ h)));
+          let is : new ≡ l = same_link new l (written_at v at (Place.Link link) (Place.Link new) (Place.Link l) _ there e) in (
+            link,
+            there,
+            ap (λ (z : Link). z.details) (sym is),
+            ap (λ (z : Link). z.key) (sym is),
+            ap (λ (z : Link). z.hold) (sym is),
+            ap (λ (z : Link). is_with_client z.state) (sym is) ∙ sym free,
+            λ s h. absurd (none_or_some s (ap (λ (z : Link). z.state) is ∙ h)),
+          );
     }
   where
     same_link : (a b : Link) → Place.Link a ≡ Place.Link b → a ≡ b
     same_link a b h = cc
+
     none_or_some : (s : ℕ) → LinkState.Quarantined None ≡ LinkState.Quarantined (Some s) → ⊥
     none_or_some s h = cc
 
@@ -147,8 +152,13 @@ clients_without issues processes lasts faces p f there empty h =
     let from : (i : ℕ) (x : Face) → slice_get (set faces p g) i ≡ Some x
     → (y : Face) × (slice_get faces i ≡ Some y) × (x.label ≡ y.label) × (x.node ≡ y.node) × (x.pass ≡ y.pass) =
     λ i x at. ⊎_elim (λ was. (x, was.1, refl, refl, refl))
-    (λ new. (f, ap (slice_get faces) new.0 ∙ there, ap (λ (z : Face). z.label) new.1,
-    ap (λ (z : Face). z.node) new.1, ap (λ (z : Face). z.pass) new.1)) (set_cases faces p i x g at) in
+    (λ new. (
+      f,
+      ap (slice_get faces) new.0 ∙ there,
+      ap (λ (z : Face). z.label) new.1,
+      ap (λ (z : Face). z.node) new.1,
+      ap (λ (z : Face). z.pass) new.1,
+    )) (set_cases faces p i x g at) in
     record {
       each = λ i x at. ⊎_elim (λ was. h.each i x was.1)
           (λ new. subst (IsClientOf issues processes lasts) (sym new.1)
@@ -205,11 +215,16 @@ gone_kept w p s there empty out f =
       slots = subst (AllFitSlots w.nodes) back (λ i view at_i. let h = f.slots i view at_i in record {
         fits = λ j x at_j is. h.fits j x (still_there faces p j (face_of s) x at_j is.stays).1 is;
         filled = λ slot client live.
-            let g = h.filled slot client live in
-            (g.0, g.1, set_there faces p g.0 (record (face_of s) { stays = false })
-            (λ e. let one : face_of s ≡ g.1 = same_Some (face_of s) g.1
-            (sym here ∙ ap (slice_get faces) (sym e) ∙ g.2) in
-            out i view at_i (subst (IsIn view) (sym one) g.3)) ∙ g.2, g.3, g.4);
+            let g = h.filled slot client live in (
+              g.0,
+              g.1,
+              set_there faces p g.0 (record (face_of s) { stays = false })
+                  (λ e. let one : face_of s ≡ g.1 = same_Some (face_of s) g.1
+                  (sym here ∙ ap (slice_get faces) (sym e) ∙ g.2) in
+                  out i view at_i (subst (IsIn view) (sym one) g.3)) ∙ g.2,
+              g.3,
+              g.4,
+            );
       });
       processes = f.processes;
       numbers = subst (λ (fs : List Face). NumbersLeft w.nodes fs (processes_of w) w.connections) back
@@ -282,12 +297,17 @@ left_kept w p q s v keys u there empty at_q live departs entries f =
           (λ same. let h = f.slots i view same.1 in record {
             fits = λ j x at_j is. h.fits j x (still_there faces p j (face_of s) x at_j is.stays).1 is;
             filled = λ k client here_k.
-                let z = h.filled k client here_k in
-                (z.0, z.1, set_there faces p z.0 g
-                (λ e. let one : face_of s ≡ z.1 = same_Some (face_of s) z.1
-                (sym here ∙ ap (slice_get faces) (sym e) ∙ z.2) in
-                same.0 (f.nodes.once i q view v same.1 at_q
-                (sym z.3.node ∙ ap (λ (y : Face). y.node) (sym one) ∙ live.node))) ∙ z.2, z.3, z.4);
+                let z = h.filled k client here_k in (
+                  z.0,
+                  z.1,
+                  set_there faces p z.0 g
+                      (λ e. let one : face_of s ≡ z.1 = same_Some (face_of s) z.1
+                      (sym here ∙ ap (slice_get faces) (sym e) ∙ z.2) in
+                      same.0 (f.nodes.once i q view v same.1 at_q
+                      (sym z.3.node ∙ ap (λ (y : Face). y.node) (sym one) ∙ live.node))) ∙ z.2,
+                  z.3,
+                  z.4,
+                );
           })
           (λ new. let h = f.slots q v at_q in subst (FitSlots more) (sym new.1) (record {
             fits = λ j x at_j is.
@@ -302,12 +322,16 @@ left_kept w p q s v keys u there empty at_q live departs entries f =
                   grip = other_grips v.links u departs.at slot (slot_of x.pass.key) x.grip alters departs.belongs other fits.grip;
                 };
             filled = λ k client here_k. ⊎_elim
-                (λ old. let z = h.filled k client old.1 in
-                (z.0, z.1, set_there faces p z.0 g
-                (λ e. let one : face_of s ≡ z.1 = same_Some (face_of s) z.1
-                (sym here ∙ ap (slice_get faces) (sym e) ∙ z.2) in
-                old.0 (sym z.4 ∙ ap (λ (y : Face). slot_of y.pass.key) (sym one))) ∙ z.2,
-                record { stays = z.3.stays; node = z.3.node; incarnation = z.3.incarnation ∙ sym incarnation }, z.4))
+                (λ old. let z = h.filled k client old.1 in (
+                  z.0,
+                  z.1,
+                  set_there faces p z.0 g
+                      (λ e. let one : face_of s ≡ z.1 = same_Some (face_of s) z.1
+                      (sym here ∙ ap (slice_get faces) (sym e) ∙ z.2) in
+                      old.0 (sym z.4 ∙ ap (λ (y : Face). slot_of y.pass.key) (sym one))) ∙ z.2,
+                  record { stays = z.3.stays; node = z.3.node; incarnation = z.3.incarnation ∙ sym incarnation },
+                  z.4,
+                ))
                 (λ none. absurd (nobody client none.1))
                 (set_cases v.clients slot k (Some client) None here_k);
           }))
@@ -325,14 +349,16 @@ left_kept w p q s v keys u there empty at_q live departs entries f =
           (λ other. let h = f.links q v at_q k link other.1 in
           (h.0, h.1, stands_without faces (lasts_of w) w.connections v n link h.0 p (face_of s) refl incarnation h.2))
           (λ mine. let old = departs.was link mine.1 in
-          let h = f.links q v at_q departs.at old.0 old.1 in
-          (h.0, process_again old.0 link h.0 old.2 old.3 h.1,
-          stands_without faces (lasts_of w) w.connections v n link h.0 p (face_of s) refl incarnation (record {
-            tickets = ap (λ (o : OpenTickets). o.tickets) old.4 ∙ h.2.tickets;
-            hasty = λ j x how at_j of acted reported. ap (λ (o : OpenTickets). o.condemned) old.4
-                ∙ h.2.hasty j x how at_j of acted reported;
-            giver = λ j k2 face given at_j is key. h.2.giver j k2 face (old.6 k2 given) at_j is key;
-          })))
+          let h = f.links q v at_q departs.at old.0 old.1 in (
+            h.0,
+            process_again old.0 link h.0 old.2 old.3 h.1,
+            stands_without faces (lasts_of w) w.connections v n link h.0 p (face_of s) refl incarnation (record {
+              tickets = ap (λ (o : OpenTickets). o.tickets) old.4 ∙ h.2.tickets;
+              hasty = λ j x how at_j of acted reported. ap (λ (o : OpenTickets). o.condemned) old.4
+                  ∙ h.2.hasty j x how at_j of acted reported;
+              giver = λ j k2 face given at_j is key. h.2.giver j k2 face (old.6 k2 given) at_j is key;
+            }),
+          ))
           (placed_cases v.links u departs.at k (Place.Link link) moves
           (subst (λ (z : NodeView). place_at z.links k ≡ Some (Place.Link link)) new.1 at_k))))
           (set_cases w.nodes q i view n at_i));

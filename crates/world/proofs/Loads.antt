@@ -1,18 +1,18 @@
 -- Requests go to their server processes, and answers come back.
-use Rattle.std.proofs.Common.{◌≡◌, ◌≢◌, ℕ, zero, suc, ◌+◌, ◌-◌, ◌<◌, ◌≤◌, ◌⊎◌, inl, inr, ⊎_elim, Bool, true, false, List, [], ◌∷◌, ◌++◌, Option, Some, None, length, map, refl, ap, sym, subst, ◌∙◌, arith, length-append}
+use Rattle.std.proofs.Common.{◌≡◌, ℕ, suc, ◌+◌, ◌-◌, ◌<◌, ⊎_elim, true, false, List, [], ◌∷◌, Option, Some, None, map, refl, ap, sym, subst, ◌∙◌, arith, length-append}
 use Rattle.std.proofs.Math.ListN.{set}
 use Rattle.std.specs.List.{slice_get}
 use Rattle.std.proofs.lemmas.Option.{same_Some, none-some}
 use Rattle.lease.specs.declared.{link_record.LinkRecord.LinkRecord, link_place.LinkPlace.LinkPlace}
 use Rattle.link_pool.specs.declared.place.{Place.Place, Link.Link, LinkState.LinkState}
 use Rattle.link_pool.specs.Pool.{place_at}
-use Rattle.node_core.specs.View.{NodeView, IsView}
-use Rattle.world.specs.World.{World, Backend, Hand, Session, IsSession}
+use Rattle.node_core.specs.View.{NodeView}
+use Rattle.world.specs.World.{World, Backend, Hand, Session}
 use Rattle.world.specs.Changes.{and_then, holding, with_backend}
 use Rattle.world.specs.Admissible.{MayTake, IsRunning, MayGetReady}
-use Rattle.world.specs.LinkEvents.{IsLease, Sends, GetsReady, Takes, Finishes, rests}
-use Rattle.world.specs.Facts.{Process, process_of, last_holder, Grip, grip_of, Face, face_of, IsOwnGrip, running_count, load_of, IsOwnLoad, is_with_client, AreAtRest, AreLoads, AreClients, AllFitSlots, AreProcesses, NumbersLeft, AllLinksStand, AreConnections, Facts, processes_of, lasts_of, faces_of, AreWhole}
-use Rattle.world.proofs.Lists.{set_here, set_there, set_cases, added_cases, read_map, same_map}
+use Rattle.world.specs.LinkEvents.{Sends, GetsReady, Takes, Finishes, rests}
+use Rattle.world.specs.Facts.{Process, process_of, last_holder, Grip, Face, face_of, IsOwnGrip, load_of, IsOwnLoad, is_with_client, AreAtRest, AreLoads, AreClients, AllFitSlots, AreProcesses, NumbersLeft, AllLinksStand, AreConnections, Facts, processes_of, lasts_of, faces_of, AreWhole}
+use Rattle.world.proofs.Lists.{set_here, set_cases, added_cases, read_map, same_map}
 use Rattle.world.proofs.Holding.{one_session, link_with_client, grip_of_lease}
 
 -- only what is outstanding, and what is on its way, has changed
@@ -193,10 +193,11 @@ lease_process w f p at n s lease x at_p hand there =
     let own : IsOwnGrip (processes_of w) (lasts_of w) (face_of s) (Grip.Lease lease at) =
     subst (IsOwnGrip (processes_of w) (lasts_of w) (face_of s)) (grip_of_lease s lease at n hand) client.grip in
     let one : own.2.0 ≡ process_of x = same_Some own.2.0 (process_of x)
-    (sym own.2.1 ∙ read_map process_of w.backends at x there) in
-    (ap (λ (q : Process). q.link) (sym one) ∙ own.2.2,
-    same_Some (last_holder x) (Some s.label)
-    (sym (read_map last_holder w.backends at x there) ∙ own.3))
+    (sym own.2.1 ∙ read_map process_of w.backends at x there) in (
+      ap (λ (q : Process). q.link) (sym one) ∙ own.2.2,
+      same_Some (last_holder x) (Some s.label)
+          (sym (read_map last_holder w.backends at x there) ∙ own.3),
+    )
 
 -- the requests of a wire, and one more
 on_wire : (wire : List ℕ) (label : ℕ) (last : Option ℕ)

@@ -1,35 +1,25 @@
 -- A client logs in.
-use Rattle.std.proofs.Common.{◌≡◌, ◌≢◌, ℕ, zero, suc, ◌+◌, ◌<◌, ◌≤◌, ◌^◌, ◌⊎◌, inl, inr, ⊎_elim, Bool, true, false, List, [], ◌∷◌, ◌++◌, Option, Some, None, Result, Ok, Err, length, map, refl, ap, sym, subst, ◌∙◌, arith, length-set}
+use Rattle.std.proofs.Common.{◌≡◌, ◌≢◌, ℕ, ◌+◌, ⊎_elim, true, false, List, [], ◌∷◌, ◌++◌, Option, Some, None, length, refl, ap, sym, subst, ◌∙◌, arith}
 use Rattle.std.proofs.Math.ListN.{set}
 use Rattle.std.specs.List.{slice_get}
-use Rattle.std.specs.Option.{is_some, option_map}
-use Rattle.std.proofs.lemmas.Option.{same_Some, none-some, slice_get-map}
 use Rattle.std.proofs.lemmas.Bool.{eq-eqb}
-use Rattle.pg_ids.specs.Key.{IsKey, identity_of}
-use Rattle.pg_ids.specs.AnyKey.{any_key, any_identity_of, slot_of, short_of, long_part_of, peer_of}
-use Rattle.pg_ids.specs.declared.{any_key.AnyKey.AnyKey, any_key.Identity.Identity, any_key.Kind.Kind, long_part.LongPart.LongPart}
+use Rattle.pg_ids.specs.Key.{IsKey}
+use Rattle.pg_ids.specs.AnyKey.{any_identity_of, slot_of, short_of, long_part_of, peer_of}
+use Rattle.pg_ids.specs.declared.{any_key.Identity.Identity}
 use Rattle.key_table.specs.declared.entry.Entry.{Entry}
-use Rattle.key_table.specs.Slots.{Slots, IsNext, Issues, entry_of, first_key}
-use Rattle.lease.specs.declared.{link_record.LinkRecord.LinkRecord, link_place.LinkPlace.LinkPlace, pass.PassRecord.PassRecord}
+use Rattle.key_table.specs.Slots.{entry_of}
+use Rattle.lease.specs.declared.{link_record.LinkRecord.LinkRecord, link_place.LinkPlace.LinkPlace}
 use Rattle.link_pool.specs.declared.place.{Place.Place, Link.Link, LinkState.LinkState, Claim.Claim}
 use Rattle.link_pool.specs.Pool.{PoolView, place_at}
-use Rattle.link_pool.specs.OnePlace.{IsPool, has_given, given_by, is_from}
+use Rattle.link_pool.specs.OnePlace.{has_given, given_by, is_from}
 use Rattle.link_pool.specs.PoolStep.{is_holding}
 use Rattle.node_core.specs.declared.client.Client.{Client}
-use Rattle.node_core.specs.declared.refusal.JoinRefusal.{JoinRefusal}
-use Rattle.node_core.specs.View.{NodeView, IsView, IsClient, Has}
-use Rattle.node_core.specs.NodeStep.{part_of, serial_after, Joins as NodeJoins, JoinStep}
-use Rattle.world.specs.declared.reply.Reply.{Reply}
-use Rattle.world.specs.World.{World, Arrival, Backend, Connection, Hand, Interrupt, Issue, Session, Start, Taken, HadBoot, IsNode, IsOwner}
-use Rattle.world.specs.Changes.{and_then, with_nodes}
-use Rattle.world.specs.Admissible.{NeverIssued, IsNewSecret, MayLogIn}
-use Rattle.world.specs.LinkEvents.{Joins, LogsIn}
-use Rattle.world.specs.SafeCancellation.{IsForOwner, IsRightly, IsEarned}
-use Rattle.world.specs.Facts.{Process, Grip, grip_of, Face, face_of, processes_of, lasts_of, faces_of, IsOwnGrip, GripFits, IsClientOf, AreClients, IsIn, FitsSlot, FitSlots, AllFitSlots, WasGiven, IsGiven, AreIssues, NumbersLeft, IsProcess, LinkStands, AllLinksStand, AreAtRest, Facts, AreWhole}
-use Rattle.world.proofs.Lists.{set_here, set_there, set_cases, kept_behind, added_cases, added_last, before_end, read_map, from_map, map_added, map_long}
-use Rattle.world.proofs.Nodes.{one_grew, nodes_grew, issues_grew, numbers_grew, all_kept, was_node, Grew}
-use Rattle.world.proofs.GivingBack.{same_nodes}
-use Rattle.world.proofs.Keys.{any_peer, any_part}
+use Rattle.node_core.specs.View.{NodeView, IsView, Has}
+use Rattle.world.specs.World.{World, Hand, Issue, Session, IsNode, IsOwner}
+use Rattle.world.specs.Changes.{and_then}
+use Rattle.world.specs.Facts.{grip_of, Face, face_of, processes_of, lasts_of, faces_of, IsOwnGrip, GripFits, IsClientOf, AreClients, IsIn, FitsSlot, FitSlots, AllFitSlots, IsGiven, NumbersLeft, IsProcess, LinkStands, AllLinksStand, AreAtRest, Facts, AreWhole}
+use Rattle.world.proofs.Lists.{set_here, set_there, set_cases, kept_behind, added_cases, added_last, from_map, map_added}
+use Rattle.world.proofs.Nodes.{one_grew, nodes_grew, issues_grew, numbers_grew, Grew}
 
 -- an owner is the owner still, once another key was given
 owner_kept : (issues : List Issue) (i : Issue) (identity : Identity) (label : ℕ)
@@ -151,8 +141,13 @@ login_kept w q v n i s whole is f =
             (λ was. let h = f.clients.each j x was in record {
               key = h.key;
               node = h.node;
-              issued = (h.issued.0, h.issued.1, kept_behind w.issues (i ∷ []) h.issued.0 h.issued.1 h.issued.2,
-                  h.issued.3, h.issued.4);
+              issued = (
+                h.issued.0,
+                h.issued.1,
+                kept_behind w.issues (i ∷ []) h.issued.0 h.issued.1 h.issued.2,
+                h.issued.3,
+                h.issued.4,
+              );
               gone = h.gone;
               grip = h.grip;
             })
@@ -176,15 +171,19 @@ login_kept w q v n i s whole is f =
         passes = λ j k a b at_j at_k node number. ⊎_elim
             (λ was_j. ⊎_elim (λ was_k. f.clients.passes j k a b was_j was_k node number)
             (λ new_k.
-            let below = f.numbers.passes j q a v was_j (record { there = is.node;
-            named = sym is.here ∙ ap (λ (x : Face). x.node) (sym new_k.1) ∙ sym node }) in
+            let below = f.numbers.passes j q a v was_j (record {
+              there = is.node;
+              named = sym is.here ∙ ap (λ (x : Face). x.node) (sym new_k.1) ∙ sym node;
+            }) in
             let its : b.pass.number ≡ v.next_pass = ap (λ (x : Face). x.pass.number) new_k.1 ∙ is.number in
             absurd (omega (arith, below, its, number)))
             (added_cases faces g k b at_k))
             (λ new_j. ⊎_elim
             (λ was_k.
-            let below = f.numbers.passes k q b v was_k (record { there = is.node;
-            named = sym is.here ∙ ap (λ (x : Face). x.node) (sym new_j.1) ∙ node }) in
+            let below = f.numbers.passes k q b v was_k (record {
+              there = is.node;
+              named = sym is.here ∙ ap (λ (x : Face). x.node) (sym new_j.1) ∙ node;
+            }) in
             let its : a.pass.number ≡ v.next_pass = ap (λ (x : Face). x.pass.number) new_j.1 ∙ is.number in
             absurd (omega (arith, below, its, number)))
             (λ new_k. new_j.0 ∙ sym new_k.0)
@@ -224,12 +223,17 @@ login_kept w q v n i s whole is f =
                 }))
                 (added_cases faces g j x at_j);
             filled = λ m c at_m. ⊎_elim
-                (λ was. let z = h.filled m c was.1 in
-                (z.0, z.1, kept_behind faces (g ∷ []) z.0 z.1 z.2, record {
-                  stays = z.3.stays;
-                  node = z.3.node ∙ sym me;
-                  incarnation = z.3.incarnation ∙ sym (ap (λ (u : PoolView). u.incarnation) is.links);
-                }, z.4))
+                (λ was. let z = h.filled m c was.1 in (
+                  z.0,
+                  z.1,
+                  kept_behind faces (g ∷ []) z.0 z.1 z.2,
+                  record {
+                    stays = z.3.stays;
+                    node = z.3.node ∙ sym me;
+                    incarnation = z.3.incarnation ∙ sym (ap (λ (u : PoolView). u.incarnation) is.links);
+                  },
+                  z.4,
+                ))
                 (λ mine. (length faces, g, added_last faces g, live, sym mine.0))
                 (set_cases v.clients slot m (Some c) (Some client)
                 (ap (λ (cs : List (Option Client)). slice_get cs m) (sym is.clients) ∙ at_m));
@@ -257,28 +261,34 @@ login_kept w q v n i s whole is f =
           });
       links = subst (λ (fs : List Face). AllLinksStand w.group news fs (processes_of w) (lasts_of w) w.connections) back
           (λ k view at_k at link at_link. ⊎_elim
-          (λ same. let h = f.links k view same.1 at link at_link in
-          (h.0, h.1, record {
-            tickets = h.2.tickets;
-            hasty = h.2.hasty;
-            giver = λ j m x given at_j in_x key. ⊎_elim (λ was. h.2.giver j m x given was in_x key)
-                (λ new. absurd (elsewhere k view same.0 same.1 (subst (IsIn view) new.1 in_x)))
-                (added_cases faces g j x at_j);
-          }))
+          (λ same. let h = f.links k view same.1 at link at_link in (
+            h.0,
+            h.1,
+            record {
+              tickets = h.2.tickets;
+              hasty = h.2.hasty;
+              giver = λ j m x given at_j in_x key. ⊎_elim (λ was. h.2.giver j m x given was in_x key)
+                  (λ new. absurd (elsewhere k view same.0 same.1 (subst (IsIn view) new.1 in_x)))
+                  (added_cases faces g j x at_j);
+            },
+          ))
           (λ new. subst (λ (z : NodeView). (b : ℕ) × IsProcess w.group (processes_of w) z.me link b
           × LinkStands more (lasts_of w) w.connections z link b) (sym new.1)
           (let there = same_links 0 at link (subst (λ (z : NodeView). place_at z.links at ≡ Some (Place.Link link)) new.1 at_link) in
-          let h = f.links q v is.node at link there in
-          (h.0, subst (λ (m : ℕ). IsProcess w.group (processes_of w) m link h.0) (sym me) h.1, record {
-            tickets = h.2.tickets;
-            hasty = h.2.hasty;
-            giver = λ j m x given at_j in_x key. ⊎_elim
-                (λ was. h.2.giver j m x given was (was_in_v x in_x) key)
-                (λ mine. absurd (not_given v slot at link (whole q v is.node) is.next there
-                (given ∙ ap (λ (k2 : ℕ). LinkState.Quarantined (Some k2))
-                (sym key ∙ ap (λ (z : Face). slot_of z.pass.key) mine.1))))
-                (added_cases faces g j x at_j);
-          })))
+          let h = f.links q v is.node at link there in (
+            h.0,
+            subst (λ (m : ℕ). IsProcess w.group (processes_of w) m link h.0) (sym me) h.1,
+            record {
+              tickets = h.2.tickets;
+              hasty = h.2.hasty;
+              giver = λ j m x given at_j in_x key. ⊎_elim
+                  (λ was. h.2.giver j m x given was (was_in_v x in_x) key)
+                  (λ mine. absurd (not_given v slot at link (whole q v is.node) is.next there
+                  (given ∙ ap (λ (k2 : ℕ). LinkState.Quarantined (Some k2))
+                  (sym key ∙ ap (λ (z : Face). slot_of z.pass.key) mine.1))))
+                  (added_cases faces g j x at_j);
+            },
+          )))
           (set_cases w.nodes q k view n at_k));
       connections = f.connections;
       loads = record {
@@ -296,9 +306,11 @@ login_kept w q v n i s whole is f =
       safe = record {
         struck = λ j z at. let h = f.safe.struck j z at in
             record { came = h.came; there = h.there; owner = owner (any_identity_of h.came.key) z.label h.owner };
-        taken = (λ j z at. let h = f.safe.taken.0 j z at in
-            record { key = h.key; node = h.node; owner = owner (any_identity_of z.key) z.label h.owner },
-            f.safe.taken.1);
+        taken = (
+          λ j z at. let h = f.safe.taken.0 j z at in
+              record { key = h.key; node = h.node; owner = owner (any_identity_of z.key) z.label h.owner },
+          f.safe.taken.1,
+        );
         earned = λ j z at. let h = f.safe.earned j z at in record {
           came = h.came;
           there = h.there;
@@ -313,14 +325,17 @@ login_kept w q v n i s whole is f =
   where
     live_or_free : (c : Client) → Some (Some c) ≡ Some None → ⊥
     live_or_free c h = cc
+
     empty_lease : (l : LinkRecord) (k m : ℕ) → Hand.Empty ≡ Hand.Lease l k m → ⊥
     empty_lease l k m h = cc
+
     new_label_face : (w : World) (s : Session)
         → ((j : ℕ) (z : Session) → slice_get w.sessions j ≡ Some z → z.label ≢ s.label)
         → (j : ℕ) (x : Face) → slice_get (faces_of w) j ≡ Some x → x.label ≢ s.label
     new_label_face w s fresh j x at e =
         let z = from_map face_of w.sessions j x at in
         fresh j z.0 z.1 (ap (λ (y : Face). y.label) z.2 ∙ e)
+
     view_is : (w : World) (q : ℕ) (v n : NodeView) {i : Issue} (s : Session) → Facts w → IsLogin w q v n i s
         → (x : Face) (place : ℕ) (view : NodeView) → x ≡ face_of s → IsNode (set w.nodes q n) x.node place view
         → view ≡ n

@@ -1,5 +1,5 @@
 -- What a node's answer to a login makes known.
-use Rattle.std.proofs.Common.{◌≡◌, ◌≢◌, ℕ, ◌+◌, ◌<◌, ◌≤◌, ◌^◌, ⊎_elim, Bool, true, false, List, [], ◌∷◌, Option, Some, None, Result, Ok, Err, length, map, refl, ap, sym, subst, ◌∙◌, arith, length-set}
+use Rattle.std.proofs.Common.{◌≡◌, ◌≢◌, ℕ, ◌+◌, ◌<◌, ◌≤◌, ◌^◌, ⊎_elim, Bool, true, false, List, Option, Some, None, Result, Ok, Err, length, refl, ap, sym, subst, ◌∙◌, arith, length-set}
 use Rattle.std.proofs.Math.ListN.{set}
 use Rattle.std.specs.List.{slice_get}
 use Rattle.std.specs.Option.{is_some, option_map}
@@ -8,7 +8,7 @@ use Rattle.pg_ids.specs.Key.{IsKey, identity_of}
 use Rattle.pg_ids.specs.AnyKey.{any_key, any_identity_of, slot_of, short_of, long_part_of, peer_of}
 use Rattle.pg_ids.specs.declared.{any_key.AnyKey.AnyKey, any_key.Identity.Identity, any_key.Kind.Kind, client_key.ClientKey.ClientKey, long_part.LongPart.LongPart}
 use Rattle.key_table.specs.declared.entry.Entry.{Entry}
-use Rattle.key_table.specs.Slots.{Slots, IsNext, Issues, entry_of, first_key}
+use Rattle.key_table.specs.Slots.{IsNext, entry_of, first_key}
 use Rattle.lease.specs.declared.pass.PassRecord.{PassRecord}
 use Rattle.link_pool.specs.Pool.{PoolView}
 use Rattle.node_core.specs.declared.client.Client.{Client}
@@ -16,16 +16,15 @@ use Rattle.node_core.specs.declared.refusal.JoinRefusal.{JoinRefusal}
 use Rattle.node_core.specs.View.{NodeView, IsView}
 use Rattle.node_core.specs.NodeStep.{part_of, serial_after, Joins as NodeJoins, JoinStep}
 use Rattle.world.specs.declared.reply.Reply.{Reply}
-use Rattle.world.specs.World.{World, Hand, Issue, Session, HadBoot, IsNode, IsSession}
+use Rattle.world.specs.World.{World, Hand, Issue, Session, HadBoot, IsNode}
 use Rattle.world.specs.Changes.{and_then, with_nodes}
 use Rattle.world.specs.Admissible.{IsNewSecret, MayLogIn}
 use Rattle.world.specs.LinkEvents.{Joins, LogsIn}
 use Rattle.world.specs.Facts.{IsGiven, WasGiven, Facts, AreWhole}
 use Rattle.world.proofs.Lists.{set_cases, before_end}
-use Rattle.world.proofs.Nodes.{Grew}
 use Rattle.world.proofs.GivingBack.{same_nodes}
 use Rattle.world.proofs.Keys.{any_peer, any_part}
-use Rattle.world.proofs.LoggingIn.{IsLogin, login_kept}
+use Rattle.world.proofs.LoggingIn.{login_kept}
 
 -- the parts of a key that was put together
 short_of_key : (key : ClientKey) (part : Option LongPart) → short_of (any_key key part) ≡ key

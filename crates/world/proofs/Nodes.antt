@@ -1,22 +1,21 @@
 -- A node makes a step of its links: what stays true of it, and of the others.
-use Rattle.std.proofs.Common.{◌≡◌, ◌≢◌, ℕ, zero, suc, ◌+◌, ◌<◌, ◌≤◌, ◌^◌, ◌⊎◌, inl, inr, ⊎_elim, Bool, true, false, List, [], ◌∷◌, Option, Some, None, length, refl, ap, sym, subst, ◌∙◌, arith}
+use Rattle.std.proofs.Common.{◌≡◌, ◌≢◌, ℕ, ◌<◌, ◌≤◌, ◌^◌, ◌⊎◌, inl, inr, ⊎_elim, false, List, Option, Some, length, refl, ap, sym, subst, ◌∙◌, arith}
 use Rattle.std.proofs.Math.ListN.{set}
 use Rattle.std.specs.List.{slice_get}
-use Rattle.std.proofs.lemmas.Option.{same_Some, none-some}
+use Rattle.std.proofs.lemmas.Option.{same_Some}
 use Rattle.std.proofs.lemmas.Bool.{cases_eq}
 use Rattle.pg_ids.specs.AnyKey.{slot_of, short_of, long_part_of}
 use Rattle.key_table.specs.Slots.{entry_of}
-use Rattle.lease.specs.declared.{link_record.LinkRecord.LinkRecord, link_place.LinkPlace.LinkPlace}
-use Rattle.lease.specs.declared.{permit.PermitRecord.PermitRecord, ticket.TicketRecord.TicketRecord, pass.PassRecord.PassRecord}
+use Rattle.lease.specs.declared.{link_place.LinkPlace.LinkPlace}
+use Rattle.lease.specs.declared.{permit.PermitRecord.PermitRecord, pass.PassRecord.PassRecord}
 use Rattle.link_pool.specs.declared.place.{Place.Place, Link.Link, LinkState.LinkState, Claim.Claim}
-use Rattle.link_pool.specs.Pool.{PoolView, place_at, placed, with_place, with_queue, with_claim, out_of_queue, unqueued, others}
-use Rattle.link_pool.specs.PoolStep.{is_holding, IsHeld}
-use Rattle.link_pool.proofs.Changes.{one_place, place_here, place_there}
+use Rattle.link_pool.specs.Pool.{PoolView, place_at, placed, with_queue, with_claim, out_of_queue, unqueued, others}
+use Rattle.link_pool.specs.PoolStep.{is_holding}
+use Rattle.link_pool.proofs.Changes.{one_place, place_there}
 use Rattle.ini_config.specs.Node.{NodeSettings}
-use Rattle.node_core.specs.declared.client.Client.{Client}
-use Rattle.node_core.specs.View.{NodeView, IsView, IsClient}
-use Rattle.world.specs.World.{World, Backend, Connection, Issue, Start, HadBoot, IsNode}
-use Rattle.world.specs.Facts.{Process, Grip, Face, IsIn, GripFits, FitsSlot, FitSlots, AllFitSlots, AreNodes, WasGiven, IsGiven, AreIssues, NumbersLeft, IsProcess, LinkStands, LinksStand, AllLinksStand, is_with_client, load_of, AreAtRest}
+use Rattle.node_core.specs.View.{NodeView, IsClient}
+use Rattle.world.specs.World.{Backend, Connection, Issue, Start, HadBoot, IsNode}
+use Rattle.world.specs.Facts.{Process, Grip, Face, IsIn, GripFits, FitSlots, AllFitSlots, AreNodes, AreIssues, NumbersLeft, IsProcess, LinkStands, AllLinksStand, is_with_client, load_of, AreAtRest}
 use Rattle.world.proofs.Lists.{set_here, set_there, set_cases}
 
 -- a node keeps its number and its slots, and its next numbers grow
@@ -97,9 +96,10 @@ nodes_kept olds news kept h = record {
   once = λ i j a b at_i at_j same.
       let x = kept i a at_i in let y = kept j b at_j in
       h.once i j x.0 y.0 x.1 y.1 (sym x.2.me ∙ same ∙ y.2.me);
-  ranges = λ i v at. let x = kept i v at in let r = h.ranges i x.0 x.1 in
-      (subst (λ (k : ℕ). k < 2 ^ 14) (sym x.2.me) r.0,
-      subst (λ (k : ℕ). k ≤ 2 ^ 16) (sym x.2.slots) r.1);
+  ranges = λ i v at. let x = kept i v at in let r = h.ranges i x.0 x.1 in (
+    subst (λ (k : ℕ). k < 2 ^ 14) (sym x.2.me) r.0,
+    subst (λ (k : ℕ). k ≤ 2 ^ 16) (sym x.2.slots) r.1,
+  );
 }
 
 pub nodes_grew : (olds news : List NodeView) → AllGrew olds news → AreNodes olds → AreNodes news
@@ -324,9 +324,11 @@ one_regrips faces p f g there same = record {
       (λ new. (f, ap (slice_get faces) new.0 ∙ there, subst (SameBut f) (sym new.1) same))
       (set_cases faces p i x g h);
   to = λ i y h. ⊎_elim
-      (λ here. let is : f ≡ y = same_Some f y (sym there ∙ ap (slice_get faces) (sym here) ∙ h) in
-      (g, ap (slice_get (set faces p g)) here ∙ set_here faces p f g there,
-      subst (λ (z : Face). SameBut z g) is same))
+      (λ here. let is : f ≡ y = same_Some f y (sym there ∙ ap (slice_get faces) (sym here) ∙ h) in (
+        g,
+        ap (slice_get (set faces p g)) here ∙ set_here faces p f g there,
+        subst (λ (z : Face). SameBut z g) is same,
+      ))
       (λ apart. (y, set_there faces p i g apart ∙ h, same_face y))
       (cases_eq i p);
 }
@@ -405,13 +407,15 @@ other_grips v u at slot s Grip.Nothing alters belongs apart fits =
     ap is_holding (alters.claims s apart) ∙ fits
 other_grips v u at slot s (Grip.Permit permit) alters belongs apart fits =
     alters.places permit.at (λ e. apart (belongs.open_for permit s (ap (place_at v) (sym e) ∙ fits))) ∙ fits
-other_grips v u at slot s (Grip.Lease lease b) alters belongs apart fits =
-    (fits.0, record {
-      at = alters.places lease.at
-          (λ e. apart (belongs.held_by fits.0 s (ap (place_at v) (sym e) ∙ fits.1.at) fits.1.held)) ∙ fits.1.at;
-      says = fits.1.says;
-      held = fits.1.held;
-    })
+other_grips v u at slot s (Grip.Lease lease b) alters belongs apart fits = (
+  fits.0,
+  record {
+    at = alters.places lease.at
+        (λ e. apart (belongs.held_by fits.0 s (ap (place_at v) (sym e) ∙ fits.1.at) fits.1.held)) ∙ fits.1.at;
+    says = fits.1.says;
+    held = fits.1.held;
+  },
+)
 
 -- what is known of slots
 pub slots_moved : (nodes : List NodeView) (olds news : List Face) (q : ℕ) (v : NodeView) (u : PoolView)
@@ -427,9 +431,13 @@ slots_moved nodes olds news q v u there incarnation regrips old elsewhere grips 
       fits = λ j x at_j is. h.fits j x (elsewhere i j view x same.0 same.1 at_j is) is;
       filled = λ slot client live.
           let f = h.filled slot client live in
-          let to = regrips.to f.0 f.1 f.2 in
-          (f.0, to.0, to.1, is_in_still view view f.1 to.0 to.2 refl refl f.3,
-          same_slot f.1 to.0 to.2 ∙ f.4);
+          let to = regrips.to f.0 f.1 f.2 in (
+            f.0,
+            to.0,
+            to.1,
+            is_in_still view view f.1 to.0 to.2 refl refl f.3,
+            same_slot f.1 to.0 to.2 ∙ f.4,
+          );
     })
     (λ new. let h = old q v there in subst (FitSlots news) (sym new.1) (record {
       fits = λ j x at_j is.
@@ -447,9 +455,13 @@ slots_moved nodes olds news q v u there incarnation regrips old elsewhere grips 
           };
       filled = λ slot client live.
           let f = h.filled slot client live in
-          let to = regrips.to f.0 f.1 f.2 in
-          (f.0, to.0, to.1, is_in_still v (with_links v u) f.1 to.0 to.2 refl incarnation f.3,
-          same_slot f.1 to.0 to.2 ∙ f.4);
+          let to = regrips.to f.0 f.1 f.2 in (
+            f.0,
+            to.0,
+            to.1,
+            is_in_still v (with_links v u) f.1 to.0 to.2 refl incarnation f.3,
+            same_slot f.1 to.0 to.2 ∙ f.4,
+          );
     }))
     (set_cases nodes q i view (with_links v u) at_i)
 

@@ -1,5 +1,5 @@
 -- A client can't open a link.
-use Rattle.std.proofs.Common.{◌≡◌, ◌≢◌, ℕ, ◌<◌, ◌≤◌, Bool, true, false, List, Option, Some, None, refl, ap, sym, subst, ◌∙◌, arith}
+use Rattle.std.proofs.Common.{◌≡◌, ◌≢◌, ℕ, Bool, true, false, List, Option, Some, refl, ap, sym, subst, ◌∙◌}
 use Rattle.std.proofs.Math.ListN.{set}
 use Rattle.std.specs.List.{slice_get}
 use Rattle.std.proofs.lemmas.Option.{same_Some}
@@ -7,19 +7,19 @@ use Rattle.pg_ids.specs.AnyKey.{slot_of}
 use Rattle.lease.specs.declared.{link_record.LinkRecord.LinkRecord, permit.PermitRecord.PermitRecord}
 use Rattle.link_pool.specs.declared.place.{Place.Place, Link.Link, Claim.Claim}
 use Rattle.link_pool.specs.declared.replies.UpFailedReply.{UpFailedReply}
-use Rattle.link_pool.specs.Pool.{PoolView, place_at, placed, with_claim, is_free, give_back}
-use Rattle.link_pool.specs.OnePlace.{IsPool, Fits, PermitFits}
+use Rattle.link_pool.specs.Pool.{place_at, give_back}
+use Rattle.link_pool.specs.OnePlace.{Fits, PermitFits}
 use Rattle.link_pool.specs.PoolStep.{IsOpen, UpFailedStep}
-use Rattle.node_core.specs.View.{NodeView, IsView}
+use Rattle.node_core.specs.View.{NodeView}
 use Rattle.node_core.specs.NodeStep.{LinksStep}
 use Rattle.world.specs.declared.reply.Reply.{Reply}
 use Rattle.world.specs.World.{World, Hand, Session, IsNode}
 use Rattle.world.specs.Changes.{holding, with_nodes, with_session}
 use Rattle.world.specs.LinkEvents.{Fails}
-use Rattle.world.specs.Facts.{Grip, grip_of, Face, face_of, processes_of, lasts_of, faces_of, IsOwnGrip, IsIn, GripFits, FitsSlot, Facts, AreWhole}
+use Rattle.world.specs.Facts.{Grip, grip_of, Face, face_of, processes_of, lasts_of, IsOwnGrip, IsIn, GripFits, Facts, AreWhole}
 use Rattle.world.proofs.Lists.{read_map}
-use Rattle.world.proofs.Nodes.{with_links, Alters, Belongs, alters_written}
-use Rattle.world.proofs.Steps.{IsChange, changed, change_kept, emptied_kept}
+use Rattle.world.proofs.Nodes.{alters_written}
+use Rattle.world.proofs.Steps.{change_kept, emptied_kept}
 use Rattle.world.proofs.GivingBack.{open_belongs, free_after, written_at, new_is, stale_is}
 
 -- the grip of a session that has a permit
@@ -35,6 +35,7 @@ stays_with_permit face permit gone has = by_cases face.stays refl
   where
     differ : Grip.Nothing ≡ Grip.Permit permit → ⊥
     differ h = cc
+
     by_cases : (x : Bool) → face.stays ≡ x → face.stays ≡ true
     by_cases true e = e
     by_cases false e = absurd (differ (sym (gone e) ∙ has))
@@ -120,6 +121,7 @@ fail_by w new nodes p q s permit v n UpFailedReply.Freed f whole there hand is s
   where
     no_link : (l : Link) → Place.Free ≡ Place.Link l → ⊥
     no_link l h = cc
+
     empty_lease : (l : LinkRecord) (k m : ℕ) → Hand.Empty ≡ Hand.Lease l k m → ⊥
     empty_lease l k m h = cc
 fail_by w new nodes p q s permit v n UpFailedReply.Stale f whole there hand is step all after =

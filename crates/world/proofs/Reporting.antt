@@ -1,33 +1,25 @@
 -- The end of a cancel connection is reported to the node that sent it.
-use Rattle.std.proofs.Common.{◌≡◌, ◌≢◌, ℕ, zero, suc, ◌+◌, ◌-◌, ◌<◌, ◌≤◌, ◌⊎◌, inl, inr, ⊎_elim, Bool, true, false, List, [], ◌∷◌, Option, Some, None, refl, ap, sym, subst, ◌∙◌, arith, ◌==◌, ◌&&◌}
+use Rattle.std.proofs.Common.{◌≡◌, ◌≢◌, ℕ, zero, suc, ◌+◌, ◌≤◌, ⊎_elim, Bool, true, false, List, [], ◌∷◌, Option, Some, None, refl, ap, sym, subst, ◌∙◌, arith, ◌==◌, ◌&&◌}
 use Rattle.std.proofs.Math.ListN.{set}
 use Rattle.std.specs.List.{slice_get}
 use Rattle.std.proofs.lemmas.Option.{same_Some, none-some}
-use Rattle.std.proofs.lemmas.Bool.{eq-eqb, cases_eq}
+use Rattle.std.proofs.lemmas.Bool.{eq-eqb}
 use Rattle.pg_ids.specs.AnyKey.{slot_of}
-use Rattle.lease.specs.declared.{link_record.LinkRecord.LinkRecord, link_place.LinkPlace.LinkPlace, ticket.TicketRecord.TicketRecord}
+use Rattle.lease.specs.declared.{link_record.LinkRecord.LinkRecord, link_place.LinkPlace.LinkPlace}
 use Rattle.lease.specs.declared.permit.PermitRecord.{PermitRecord}
 use Rattle.quarantine.specs.OpenTickets.{OpenTickets}
 use Rattle.link_pool.specs.declared.place.{Place.Place, Link.Link, LinkState.LinkState, Claim.Claim}
-use Rattle.link_pool.specs.declared.replies.{EndedReply.EndedReply, FailedReply.FailedReply}
-use Rattle.link_pool.specs.Pool.{PoolView, place_at, placed, with_place, in_state, claims_without, nothing_for}
-use Rattle.link_pool.specs.PoolStep.{is_holding, is_quarantined, giver_of, IsHeld, IsTicket, link_of, with_hold, one_less, one_failed, EndedStep, FailedStep}
+use Rattle.link_pool.specs.Pool.{PoolView, place_at, with_place, claims_without, nothing_for}
+use Rattle.link_pool.specs.PoolStep.{is_holding, link_of, with_hold}
 use Rattle.link_pool.proofs.Changes.{place_here, place_there}
-use Rattle.node_core.specs.View.{NodeView, IsView}
-use Rattle.node_core.specs.NodeStep.{LinksStep}
-use Rattle.world.specs.declared.reply.Reply.{Reply}
+use Rattle.node_core.specs.View.{NodeView}
 use Rattle.world.specs.World.{World, Backend, Connection, Report, IsNode}
-use Rattle.world.specs.Changes.{with_nodes, with_connection}
-use Rattle.world.specs.Admissible.{IsUnreported}
-use Rattle.world.specs.CancelEvents.{Reports, Tells, Breaks}
-use Rattle.world.specs.Facts.{Process, Grip, Face, processes_of, lasts_of, faces_of, IsIn, GripFits, IsProcess, LinkStands, is_open_for, open_for, is_with_client, load_of, Facts, AreWhole}
+use Rattle.world.specs.Facts.{Process, Grip, processes_of, lasts_of, faces_of, GripFits, IsProcess, LinkStands, is_open_for, open_for, is_with_client, load_of, Facts, AreWhole}
 use Rattle.world.proofs.Lists.{set_cases}
 use Rattle.world.proofs.Holding.{link_fits, link_place}
 use Rattle.world.proofs.Connections.{Advances, OneAdvances, goes_on, connections_kept, numbers_kept, earned_kept, forwards_kept}
 use Rattle.world.proofs.Nodes.{one_grew, links_grew, nodes_grew, issues_grew, numbers_grew, with_links, Moves, same_face, regrips_not, was_in, links_moved, slots_moved, rest_moved, which_place}
-use Rattle.world.proofs.GivingBack.{process_again, written_at, same_nodes}
 use Rattle.world.proofs.GoingUp.{not_equal}
-use Rattle.world.proofs.Asking.{one_open}
 
 -- a connection to another process is reported
 open_other : (was : List Connection) (k : ℕ) (c d : Connection) (b : ℕ)
@@ -109,10 +101,11 @@ ticket_link w k q i c v view at link f whole there is at_i at_place process =
     (sym process.of ∙ ap (λ (p : Process). p.link) one ∙ h.link) in
     let fits = link_fits view.links at link (whole i view at_i).places at_place in
     let number : view.me ≡ c.ticket.peer = sym (whole i view at_i).node.own.1
-    ∙ ap (λ (l : LinkRecord). l.peer) (sym fits.says ∙ same) in
-    (f.nodes.once i q view v at_i is.there (number ∙ sym is.named),
-    sym (link_place view.links at link (whole i view at_i).places at_place) ∙ ap (λ (l : LinkRecord). l.at) same,
-    same)
+    ∙ ap (λ (l : LinkRecord). l.peer) (sym fits.says ∙ same) in (
+      f.nodes.once i q view v at_i is.there (number ∙ sym is.named),
+      sym (link_place view.links at link (whole i view at_i).places at_place) ∙ ap (λ (l : LinkRecord). l.at) same,
+      same,
+    )
 
 pub report_kept : (w : World) (k q : ℕ) (c d : Connection) (v : NodeView) (u : PoolView)
     → AreWhole w.nodes → IsReport w k q c d v u → Facts w
@@ -143,13 +136,16 @@ report_kept w k q c d v u whole r f =
           (λ e. let mine = ticket_link w k q i c v view at link f whole r.there r.node at_i at_place
           (subst (IsProcess w.group (processes_of w) view.me link) (sym e) process) in
           other mine.0 mine.1) me incarnation stands)
-          (λ l at_l. let h = r.here l at_l in
-          (h.0, h.1, record {
-            tickets = h.2.tickets;
-            hasty = h.2.hasty;
-            giver = λ i slot face given at is key. h.2.giver i slot face given at
-                (was_in v (with_links v u) face face (same_face face) refl r.moves.incarnation is) key;
-          }));
+          (λ l at_l. let h = r.here l at_l in (
+            h.0,
+            h.1,
+            record {
+              tickets = h.2.tickets;
+              hasty = h.2.hasty;
+              giver = λ i slot face given at is key. h.2.giver i slot face given at
+                  (was_in v (with_links v u) face face (same_face face) refl r.moves.incarnation is) key;
+            },
+          ));
       connections = connections_kept w.arrivals (processes_of w) (lasts_of w) w.connections k c d f.connections one;
       loads = record {
         own = f.loads.own;
@@ -191,16 +187,21 @@ grips_apart v at link p g there free s (Grip.Permit permit) fits =
   where
     link_or_open : (permit : PermitRecord) → Some (Place.Link link) ≡ Some (Place.Open permit s) → ⊥
     link_or_open permit h = cc
-grips_apart v at link p g there free s (Grip.Lease lease b) fits = (fits.0, record {
-  at = place_there v at lease.at p _ (λ e. not_held fits.0 (sym there ∙ ap (place_at v) (sym e) ∙ fits.1.at) fits.1.held) ∙ fits.1.at;
-  says = fits.1.says;
-  held = fits.1.held;
-})
+grips_apart v at link p g there free s (Grip.Lease lease b) fits = (
+  fits.0,
+  record {
+    at = place_there v at lease.at p _ (λ e. not_held fits.0 (sym there ∙ ap (place_at v) (sym e) ∙ fits.1.at) fits.1.held) ∙ fits.1.at;
+    says = fits.1.says;
+    held = fits.1.held;
+  },
+)
   where
     same_link : (l : Link) → Some (Place.Link link) ≡ Some (Place.Link l) → link ≡ l
     same_link l h = cc
+
     differ : true ≡ false → ⊥
     differ h = cc
+
     not_held : (l : Link) → Some (Place.Link link) ≡ Some (Place.Link l) → l.state ≡ LinkState.Held s → ⊥
     not_held l e h = differ (sym (ap (λ (z : Link). is_with_client z.state) (same_link l e) ∙ ap is_with_client h) ∙ free)
 
@@ -215,18 +216,23 @@ grips_held v at link hold there s (Grip.Permit permit) fits =
     link_or_open : (permit : PermitRecord) → Some (Place.Link link) ≡ Some (Place.Open permit s) → ⊥
     link_or_open permit h = cc
 grips_held v at link hold there s (Grip.Lease lease b) fits = ⊎_elim
-    (λ same. let one : link ≡ fits.0 = same_link fits.0 (sym there ∙ ap (place_at v) (sym same) ∙ fits.1.at) in
-    (with_hold link hold, record {
-      at = ap (place_at (with_place v at (Place.Link (with_hold link hold)))) same
-          ∙ place_here v at (Place.Link link) (Place.Link (with_hold link hold)) _ there;
-      says = ap (λ (z : Link). z.details) one ∙ fits.1.says;
-      held = ap (λ (z : Link). z.state) one ∙ fits.1.held;
-    }))
-    (λ apart. (fits.0, record {
-      at = place_there v at lease.at (Place.Link (with_hold link hold)) _ apart ∙ fits.1.at;
-      says = fits.1.says;
-      held = fits.1.held;
-    }))
+    (λ same. let one : link ≡ fits.0 = same_link fits.0 (sym there ∙ ap (place_at v) (sym same) ∙ fits.1.at) in (
+      with_hold link hold,
+      record {
+        at = ap (place_at (with_place v at (Place.Link (with_hold link hold)))) same
+            ∙ place_here v at (Place.Link link) (Place.Link (with_hold link hold)) _ there;
+        says = ap (λ (z : Link). z.details) one ∙ fits.1.says;
+        held = ap (λ (z : Link). z.state) one ∙ fits.1.held;
+      },
+    ))
+    (λ apart. (
+      fits.0,
+      record {
+        at = place_there v at lease.at (Place.Link (with_hold link hold)) _ apart ∙ fits.1.at;
+        says = fits.1.says;
+        held = fits.1.held;
+      },
+    ))
     (which_place lease.at at)
   where
     same_link : (l : Link) → Some (Place.Link link) ≡ Some (Place.Link l) → link ≡ l

@@ -1,26 +1,24 @@
 -- A node starts anew.
-use Rattle.std.proofs.Common.{◌≡◌, ◌≢◌, ℕ, zero, suc, ◌+◌, ◌<◌, ◌≤◌, ◌⊎◌, inl, inr, ⊎_elim, Bool, true, false, List, [], ◌∷◌, ◌++◌, Option, Some, None, length, map, refl, ap, sym, subst, ◌∙◌, arith}
+use Rattle.std.proofs.Common.{◌≡◌, ◌≢◌, ℕ, zero, suc, ◌+◌, ⊎_elim, List, [], ◌∷◌, Option, Some, None, length, ap, sym, subst, ◌∙◌, arith}
 use Rattle.std.proofs.Math.ListN.{set, replicate}
 use Rattle.std.specs.List.{slice_get}
 use Rattle.std.proofs.lemmas.List.{length-replicate}
-use Rattle.std.proofs.lemmas.Option.{same_Some, none-some}
-use Rattle.pg_ids.specs.declared.long_part.LongPart.{LongPart}
 use Rattle.lease.specs.declared.link_place.LinkPlace.{LinkPlace}
 use Rattle.link_pool.specs.declared.place.{Place.Place, Link.Link}
 use Rattle.link_pool.specs.declared.replies.RestartReply.{RestartReply}
 use Rattle.link_pool.specs.Pool.{DatabasePool, PoolView, place_at, place_in}
-use Rattle.link_pool.specs.PoolStep.{empty_pool, emptied, empty_pools}
+use Rattle.link_pool.specs.PoolStep.{emptied, empty_pools}
 use Rattle.node_core.specs.declared.client.Client.{Client}
-use Rattle.node_core.specs.View.{NodeView, IsClient}
+use Rattle.node_core.specs.View.{NodeView}
 use Rattle.node_core.specs.NodeStep.{Restarts as NodeRestarts, RestartStep}
 use Rattle.world.specs.declared.reply.Reply.{Reply}
-use Rattle.world.specs.World.{World, Issue, Start, HadBoot, IsNode}
+use Rattle.world.specs.World.{World, Start, HadBoot, IsNode}
 use Rattle.world.specs.Changes.{and_then, with_nodes}
 use Rattle.world.specs.Admissible.{IsNextBoot}
 use Rattle.world.specs.CancelEvents.{StartsAnew, Restarts}
-use Rattle.world.specs.Facts.{Face, processes_of, lasts_of, faces_of, IsIn, FitSlots, WasGiven, IsGiven, AreIssues, IsProcess, LinkStands, AreAtRest, Facts, AreWhole}
+use Rattle.world.specs.Facts.{processes_of, faces_of, FitSlots, AreAtRest, Facts}
 use Rattle.world.proofs.Lists.{set_cases, kept_behind, added_last}
-use Rattle.world.proofs.Nodes.{Kept, one_kept, nodes_kept, numbers_left}
+use Rattle.world.proofs.Nodes.{one_kept, nodes_kept, numbers_left}
 use Rattle.world.proofs.GivingBack.{same_nodes}
 
 -- nobody is logged in

@@ -1,27 +1,24 @@
 -- A request is sent to a server: there is one more cancel connection.
-use Rattle.std.proofs.Common.{◌≡◌, ◌≢◌, ℕ, zero, suc, ◌+◌, ◌<◌, ◌≤◌, ◌⊎◌, inl, inr, ⊎_elim, Bool, true, false, List, [], ◌∷◌, ◌++◌, Option, Some, None, length, refl, ap, sym, subst, ◌∙◌, arith, ◌==◌, ◌&&◌}
+use Rattle.std.proofs.Common.{◌≡◌, ◌≢◌, ℕ, ◌+◌, ◌<◌, ⊎_elim, true, false, List, [], ◌∷◌, ◌++◌, Option, Some, None, refl, ap, sym, subst, ◌∙◌, arith}
 use Rattle.std.proofs.Math.ListN.{set}
 use Rattle.std.specs.List.{slice_get}
 use Rattle.std.proofs.lemmas.Option.{same_Some, none-some}
 use Rattle.std.proofs.lemmas.Bool.{eq-eqb}
-use Rattle.pg_ids.specs.AnyKey.{any_identity_of, peer_of, slot_of, short_of}
+use Rattle.pg_ids.specs.AnyKey.{slot_of}
 use Rattle.pg_ids.specs.declared.any_key.AnyKey.{AnyKey}
-use Rattle.lease.specs.declared.{link_record.LinkRecord.LinkRecord, link_place.LinkPlace.LinkPlace, ticket.TicketRecord.TicketRecord}
-use Rattle.lease.specs.declared.permit.PermitRecord.{PermitRecord}
-use Rattle.quarantine.specs.OpenTickets.{OpenTickets}
-use Rattle.link_pool.specs.declared.place.{Place.Place, Link.Link, LinkState.LinkState, Claim.Claim}
+use Rattle.lease.specs.declared.{link_record.LinkRecord.LinkRecord, link_place.LinkPlace.LinkPlace}
+use Rattle.link_pool.specs.declared.place.{Place.Place, Link.Link, Claim.Claim}
 use Rattle.link_pool.specs.Pool.{PoolView, place_at, with_place}
 use Rattle.link_pool.specs.OnePlace.{IsPool, has_link, has_permit, held_by, open_for as kept_for, is_with}
-use Rattle.link_pool.specs.PoolStep.{is_holding, IsHeld, HasLink, Serves, link_of, with_hold, one_more}
+use Rattle.link_pool.specs.PoolStep.{is_holding, HasLink, link_of, with_hold, one_more}
 use Rattle.link_pool.proofs.Changes.{place_there, same_places}
-use Rattle.node_core.specs.declared.exchange.Order.{Order}
-use Rattle.node_core.specs.View.{NodeView, IsView}
-use Rattle.world.specs.World.{World, Arrival, Backend, Connection, Hand, Report, Server, Session, IsBackend, IsNode, IsOwner, IsServer}
+use Rattle.node_core.specs.View.{NodeView}
+use Rattle.world.specs.World.{World, Arrival, Connection, Hand, Report, IsNode}
 use Rattle.world.specs.Changes.{and_then}
-use Rattle.world.specs.CancelEvents.{Holds, IsHolder, IsConnection}
+use Rattle.world.specs.CancelEvents.{Holds, IsHolder}
 use Rattle.world.specs.SafeCancellation.{IsEarned}
-use Rattle.world.specs.Facts.{Process, process_of, Grip, grip_of, Face, face_of, processes_of, lasts_of, faces_of, IsOwnGrip, IsIn, GripFits, IsProcess, LinkStands, is_open_for, open_for, IsServed, ConnectionStands, AreConnections, NumbersLeft, is_with_client, load_of, Facts, AreWhole}
-use Rattle.world.proofs.Lists.{set_here, kept_behind, added_cases, added_last, before_end, read_map}
+use Rattle.world.specs.Facts.{Process, Grip, face_of, processes_of, lasts_of, faces_of, GripFits, IsProcess, LinkStands, open_for, IsServed, ConnectionStands, is_with_client, Facts, AreWhole}
+use Rattle.world.proofs.Lists.{set_here, kept_behind, added_cases, read_map}
 use Rattle.world.proofs.Holding.{link_fits, link_place}
 use Rattle.world.proofs.Connections.{forwards_kept}
 use Rattle.world.proofs.Nodes.{one_grew, links_grew, was_node, all_kept, nodes_grew, issues_grew, numbers_grew, with_links, Moves, same_face, regrips_not, was_in, links_moved, slots_moved, rest_moved}
@@ -102,7 +99,7 @@ pub served_kept : (w : World) (q b : ℕ) (v : NodeView) (at : LinkPlace) (link 
     → AreWhole w.nodes → IsNewConnection w q b v at link c → Facts w
     → Facts (record w {
       nodes = set w.nodes q (with_links v (record (with_place v.links at (Place.Link (with_hold link (one_more link.hold))))
-      { next_ticket = v.links.next_ticket + 1 }));
+          { next_ticket = v.links.next_ticket + 1 }));
       connections = and_then w.connections c;
     })
 served_kept w q b v at link c whole is f =
@@ -183,22 +180,25 @@ served_kept w q b v at link c whole is f =
                 (was_in view z face face (same_face face) me incarnation is_in) key;
           })
           (λ l e. subst (λ (r : Link). (d : ℕ) × IsProcess w.group (processes_of w) v.me r d
-          × LinkStands faces (lasts_of w) more n r d) (is_link l e)
-          (b, process_again link new b refl refl is.process, record {
-            tickets =
-                let was = at_b.2.tickets in
-                let count : open_for at_b.0 w.connections ≡ open_for b w.connections =
-                ap (λ (d : ℕ). open_for d w.connections) same_b in
-                let one = added_here w.connections c b is.backend is.report in
-                omega (arith, was, count, one);
-            hasty = λ j y how at_j of acted reported. ⊎_elim
-                (λ was. at_b.2.hasty j y how was (of ∙ sym same_b) acted reported)
-                (λ new_c. absurd (none-some how (sym is.report ∙ ap (λ (r : Connection). r.report) (sym new_c.1) ∙ reported)))
-                (added_cases w.connections c j y at_j);
-            giver = λ j slot face given at_j is_in key. ap (slice_get (lasts_of w)) (sym same_b)
-                ∙ at_b.2.giver j slot face given at_j
-                (was_in v n face face (same_face face) refl refl is_in) key;
-          }));
+          × LinkStands faces (lasts_of w) more n r d) (is_link l e) (
+            b,
+            process_again link new b refl refl is.process,
+            record {
+              tickets =
+                  let was = at_b.2.tickets in
+                  let count : open_for at_b.0 w.connections ≡ open_for b w.connections =
+                  ap (λ (d : ℕ). open_for d w.connections) same_b in
+                  let one = added_here w.connections c b is.backend is.report in
+                  omega (arith, was, count, one);
+              hasty = λ j y how at_j of acted reported. ⊎_elim
+                  (λ was. at_b.2.hasty j y how was (of ∙ sym same_b) acted reported)
+                  (λ new_c. absurd (none-some how (sym is.report ∙ ap (λ (r : Connection). r.report) (sym new_c.1) ∙ reported)))
+                  (added_cases w.connections c j y at_j);
+              giver = λ j slot face given at_j is_in key. ap (slice_get (lasts_of w)) (sym same_b)
+                  ∙ at_b.2.giver j slot face given at_j
+                  (was_in v n face face (same_face face) refl refl is_in) key;
+            },
+          ));
       connections = record {
         each = λ i y at_i. ⊎_elim (λ was. f.connections.each i y was)
             (λ new_c. subst (ConnectionStands w.arrivals (processes_of w) (lasts_of w)) (sym new_c.1) (record {
@@ -262,6 +262,7 @@ served_kept w q b v at link c whole is f =
   where
     same_link : (a b : Link) → Place.Link a ≡ Place.Link b → a ≡ b
     same_link a b h = cc
+
     differ : false ≡ true → ⊥
     differ h = cc
 

@@ -1,12 +1,12 @@
 -- Whatever is settled stays so, and of what is settled nothing is to come.
-use Rattle.std.proofs.Common.{◌≡◌, ◌≢◌, ℕ, ◌<◌, ◌≤◌, ◌⊎◌, inl, inr, Bool, true, false, List, Option, Some, None, length, refl, ap, sym, subst, ◌∙◌, arith}
+use Rattle.std.proofs.Common.{◌≡◌, ℕ, true, List, Option, Some, refl, ap, sym, subst, ◌∙◌}
 use Rattle.std.specs.List.{slice_get}
 use Rattle.std.proofs.lemmas.Option.{same_Some}
 use Rattle.lease.specs.declared.ticket.TicketRecord.{TicketRecord}
 use Rattle.node_core.specs.declared.exchange.Order.{Order}
-use Rattle.world.specs.World.{World, Arrival, Connection, Forward, Interrupt}
-use Rattle.world.specs.Settled.{IsNowhere, HasEnded, LedTo, Settled, ComesOf, IsSettled, NothingToCome, EndedIsSettled, SettledStays}
-use Rattle.world.specs.Facts.{Process, IsServed, IsForwarded, ConnectionStands, AreConnections, ForwardStands, AreForwards, Facts, processes_of, lasts_of}
+use Rattle.world.specs.World.{World, Arrival, Connection, Forward}
+use Rattle.world.specs.Settled.{IsNowhere, HasEnded, LedTo, Settled, ComesOf, NothingToCome, EndedIsSettled}
+use Rattle.world.specs.Facts.{Process, IsServed, IsForwarded, AreConnections, AreForwards, Facts, processes_of, lasts_of}
 
 -- arrivals stay, cancel connections stay for their arrivals and ended, and forward connections lead
 -- where they led

@@ -1,18 +1,16 @@
 -- A world in which nothing has happened.
-use Rattle.std.proofs.Common.{◌≡◌, ◌≢◌, ℕ, zero, suc, ◌<◌, ◌≤◌, ◌^◌, ◌⊎◌, ⊎_elim, Bool, true, false, List, [], ◌∷◌, Option, Some, None, length, map, refl, ap, sym, subst, ◌∙◌, arith}
-use Rattle.std.specs.List.{slice_get, AllZip}
-use Rattle.std.proofs.Math.ListN.{replicate}
+use Rattle.std.proofs.Common.{◌≡◌, ◌≢◌, ℕ, zero, suc, ◌<◌, ◌≤◌, ◌^◌, ⊎_elim, List, [], ◌∷◌, Some, None, length, refl, ap, sym, subst, ◌∙◌, arith}
+use Rattle.std.specs.List.{slice_get}
 use Rattle.std.proofs.lemmas.List.{length-replicate}
 use Rattle.std.proofs.lemmas.Option.{same_Some, none-some, get_or_from_slice_get}
 use Rattle.std.proofs.lemmas.Bool.{cases_eq, cases_lt}
 use Rattle.lease.specs.declared.link_place.LinkPlace.{LinkPlace}
 use Rattle.link_pool.specs.declared.place.{Place.Place, Link.Link}
-use Rattle.link_pool.specs.Pool.{DatabasePool, PoolView, place_at, place_in}
+use Rattle.link_pool.specs.Pool.{place_at}
 use Rattle.ini_config.specs.Node.{NodeSettings, DatabaseSettings, IsNode as IsNodeSettings}
 use Rattle.ini_config.specs.Group.{IsGroup, PeersDiffer}
-use Rattle.node_core.specs.declared.client.Client.{Client}
 use Rattle.node_core.specs.View.{NodeView, IsFresh, pool_sizes}
-use Rattle.world.specs.World.{World, Server, Start, HadBoot, IsServer, first_starts, nothing_yet}
+use Rattle.world.specs.World.{Server, Start, HadBoot, first_starts, nothing_yet}
 use Rattle.world.specs.WorldRun.{AreFresh}
 use Rattle.world.specs.Facts.{OneServer, Facts}
 use Rattle.world.proofs.Lists.{before_end, read_map}
@@ -69,10 +67,11 @@ nothing_facts group nodes is ranges fresh = record {
         (sym (ap (λ (v : NodeView). v.me) x.2.fields) ∙ same ∙ ap (λ (v : NodeView). v.me) y.2.fields);
     ranges = λ i v at.
         let x = fresh_at group nodes fresh i v at in
-        let r = ranges i x.0 x.1 in
-        (subst (λ (n : ℕ). n < 2 ^ 14) (sym (ap (λ (z : NodeView). z.me) x.2.fields)) r.peer,
-        subst (λ (n : ℕ). n ≤ 2 ^ 16) (sym (ap (λ (z : NodeView). length z.clients) x.2.fields
-        ∙ length-replicate x.0.max_client_conn None)) r.clients.1);
+        let r = ranges i x.0 x.1 in (
+          subst (λ (n : ℕ). n < 2 ^ 14) (sym (ap (λ (z : NodeView). z.me) x.2.fields)) r.peer,
+          subst (λ (n : ℕ). n ≤ 2 ^ 16) (sym (ap (λ (z : NodeView). length z.clients) x.2.fields
+              ∙ length-replicate x.0.max_client_conn None)) r.clients.1,
+        );
   };
   issues = record {
     booted = λ i v at.
@@ -124,8 +123,10 @@ nothing_facts group nodes is ranges fresh = record {
   };
   safe = record {
     struck = λ i struck at. absurd (none-some struck at);
-    taken = (λ i taken at. absurd (none-some taken at),
-        λ i j a b at_i at_j same. absurd (none-some a at_i));
+    taken = (
+      λ i taken at. absurd (none-some taken at),
+      λ i j a b at_i at_j same. absurd (none-some a at_i),
+    );
     earned = λ i connection at. absurd (none-some connection at);
   };
 }

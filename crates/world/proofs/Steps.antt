@@ -1,21 +1,20 @@
 -- A client and its node make a step of the node's links: what is known of the world stays known.
-use Rattle.std.proofs.Common.{◌≡◌, ◌≢◌, ℕ, zero, suc, ◌+◌, ◌<◌, ◌≤◌, ◌⊎◌, inl, inr, ⊎_elim, Bool, true, false, List, [], ◌∷◌, Option, Some, None, length, map, refl, ap, sym, subst, ◌∙◌, arith}
+use Rattle.std.proofs.Common.{◌≡◌, ℕ, ◌<◌, ◌≤◌, ⊎_elim, Bool, true, false, List, Option, Some, None, length, map, refl, ap, sym, subst, ◌∙◌, arith}
 use Rattle.std.proofs.Math.ListN.{set}
 use Rattle.std.specs.List.{slice_get}
-use Rattle.std.proofs.lemmas.Option.{same_Some, none-some, slice_get_past}
+use Rattle.std.proofs.lemmas.Option.{same_Some, slice_get_past}
 use Rattle.pg_ids.specs.AnyKey.{slot_of}
 use Rattle.lease.specs.declared.{link_record.LinkRecord.LinkRecord, link_place.LinkPlace.LinkPlace}
 use Rattle.lease.specs.declared.pass.PassRecord.{PassRecord}
-use Rattle.link_pool.specs.declared.place.{Place.Place, Link.Link, LinkState.LinkState, Claim.Claim}
+use Rattle.link_pool.specs.declared.place.{Place.Place, Link.Link}
 use Rattle.link_pool.specs.Pool.{PoolView, DatabasePool, place_at, place_in}
-use Rattle.link_pool.specs.PoolStep.{is_holding}
 use Rattle.node_core.specs.declared.client.Client.{Client}
-use Rattle.node_core.specs.View.{NodeView, IsClient}
+use Rattle.node_core.specs.View.{NodeView}
 use Rattle.world.specs.World.{World, Backend, Connection, Hand, Issue, Session}
 use Rattle.world.specs.Changes.{holding}
-use Rattle.world.specs.Facts.{Process, Grip, grip_of, Face, face_of, processes_of, lasts_of, faces_of, IsOwnGrip, IsClientOf, AreClients, IsIn, GripFits, FitsSlot, FitSlots, AllFitSlots, NumbersLeft, IsProcess, LinkStands, AllLinksStand, is_with_client, load_of, Facts}
-use Rattle.world.proofs.Lists.{set_here, set_there, set_cases, read_map, map_write}
-use Rattle.world.proofs.Nodes.{Grew, one_grew, links_grew, nodes_grew, issues_grew, numbers_grew, with_links, Alters, moves_of, Belongs, SameBut, same_face, Regrips, one_regrips, was_in, is_in_still, link_stands_still, links_moved, other_grips, slots_moved, rest_moved}
+use Rattle.world.specs.Facts.{Process, Grip, grip_of, Face, face_of, processes_of, lasts_of, faces_of, IsOwnGrip, IsClientOf, AreClients, IsIn, GripFits, AllFitSlots, NumbersLeft, IsProcess, LinkStands, AllLinksStand, is_with_client, load_of, Facts}
+use Rattle.world.proofs.Lists.{set_cases, read_map, map_write}
+use Rattle.world.proofs.Nodes.{one_grew, links_grew, nodes_grew, issues_grew, numbers_grew, with_links, Alters, moves_of, Belongs, SameBut, same_face, Regrips, one_regrips, was_in, is_in_still, link_stands_still, links_moved, other_grips, slots_moved, rest_moved}
 
 -- what is known of next numbers, whatever clients have in hand
 pub numbers_regripped : (nodes : List NodeView) (olds news : List Face) (processes : List Process) (connections : List Connection)
@@ -49,8 +48,13 @@ clients_moved issues processes lasts faces p f g there same gone own h =
           (let old = h.each p f there in record {
             key = rw same.pass old.key;
             node = rw (same.pass, same.node) old.node;
-            issued = (old.issued.0, old.issued.1, old.issued.2, rw same.pass old.issued.3,
-                old.issued.4 ∙ sym same.label);
+            issued = (
+              old.issued.0,
+              old.issued.1,
+              old.issued.2,
+              rw same.pass old.issued.3,
+              old.issued.4 ∙ sym same.label,
+            );
             gone = gone;
             grip = own;
           }))
@@ -202,9 +206,13 @@ emptied_kept w p s there out f =
             (set_cases faces p j x (face_of t) at_j);
         filled = λ slot client live.
             let g = h.filled slot client live in
-            let to = regrips.to g.0 g.1 g.2 in
-            (g.0, to.0, to.1, is_in_still view view g.1 to.0 to.2 refl refl g.3,
-            ap (λ (p : PassRecord). slot_of p.key) to.2.pass ∙ g.4);
+            let to = regrips.to g.0 g.1 g.2 in (
+              g.0,
+              to.0,
+              to.1,
+              is_in_still view view g.1 to.0 to.2 refl refl g.3,
+              ap (λ (p : PassRecord). slot_of p.key) to.2.pass ∙ g.4,
+            );
       });
       processes = f.processes;
       numbers = subst (λ (fs : List Face). NumbersLeft w.nodes fs (processes_of w) w.connections) back

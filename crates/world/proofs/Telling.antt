@@ -1,10 +1,8 @@
 -- A node learns that a cancel connection was ended, or that it broke.
-use Rattle.std.proofs.Common.{◌≡◌, ◌≢◌, ℕ, zero, suc, ◌+◌, ◌-◌, ◌<◌, ◌≤◌, ◌⊎◌, ⊎_elim, Bool, true, false, List, Option, Some, None, refl, ap, sym, subst, ◌∙◌, arith}
+use Rattle.std.proofs.Common.{◌≡◌, ℕ, ◌+◌, ⊎_elim, true, false, List, Some, None, refl, ap, sym, subst, ◌∙◌, arith}
 use Rattle.std.proofs.Math.ListN.{set}
 use Rattle.std.specs.List.{slice_get}
 use Rattle.std.proofs.lemmas.Option.{same_Some}
-use Rattle.std.proofs.lemmas.Bool.{cases_eq}
-use Rattle.lease.specs.declared.{link_record.LinkRecord.LinkRecord, link_place.LinkPlace.LinkPlace, ticket.TicketRecord.TicketRecord}
 use Rattle.quarantine.specs.OpenTickets.{OpenTickets}
 use Rattle.link_pool.specs.declared.place.{Place.Place, Link.Link, LinkState.LinkState}
 use Rattle.link_pool.specs.declared.replies.{EndedReply.EndedReply, FailedReply.FailedReply}
@@ -14,17 +12,17 @@ use Rattle.link_pool.proofs.Changes.{place_there}
 use Rattle.node_core.specs.View.{NodeView}
 use Rattle.node_core.specs.NodeStep.{LinksStep}
 use Rattle.world.specs.declared.reply.Reply.{Reply}
-use Rattle.world.specs.World.{World, Backend, Connection, Report, IsNode}
+use Rattle.world.specs.World.{World, Connection, Report, IsNode}
 use Rattle.world.specs.Changes.{with_nodes, with_connection}
 use Rattle.world.specs.Admissible.{IsUnreported}
-use Rattle.world.specs.CancelEvents.{Reports, Tells, Breaks}
-use Rattle.world.specs.Facts.{Process, process_of, Face, processes_of, lasts_of, faces_of, IsProcess, LinkStands, open_for, is_with_client, load_of, Facts, AreWhole}
-use Rattle.world.proofs.Lists.{set_cases, read_map}
+use Rattle.world.specs.CancelEvents.{Tells, Breaks}
+use Rattle.world.specs.Facts.{processes_of, lasts_of, faces_of, IsProcess, LinkStands, is_with_client, Facts, AreWhole}
+use Rattle.world.proofs.Lists.{set_cases}
 use Rattle.world.proofs.Connections.{Advances}
-use Rattle.world.proofs.Nodes.{with_links, Moves}
-use Rattle.world.proofs.GivingBack.{process_again, process_at, written_at, same_nodes}
+use Rattle.world.proofs.Nodes.{with_links}
+use Rattle.world.proofs.GivingBack.{process_again, process_at, written_at}
 use Rattle.world.proofs.Asking.{one_open}
-use Rattle.world.proofs.Reporting.{open_less, IsReport, other_stands, ticket_link, report_kept, grips_apart, grips_held}
+use Rattle.world.proofs.Reporting.{open_less, other_stands, ticket_link, report_kept, grips_apart, grips_held}
 
 -- a link has one open ticket less
 less_stands : (w : World) (k : ℕ) (c d : Connection) (v : NodeView) (link l : Link) (b : ℕ) (how : Report)
@@ -55,9 +53,13 @@ ticket_process : (w : World) (k q : ℕ) (c : Connection) (v : NodeView) (link :
     × LinkStands (faces_of w) (lasts_of w) w.connections v link b × (c.backend ≡ b)
 ticket_process w k q c v link f there at_q is =
     let h = f.links q v at_q c.ticket.at link is.at in
-    let x = f.connections.each k c there in
-    (h.0, h.1, h.2, process_at w f c.backend h.0 x.process h.1.process (link_of c.ticket) link.details
-    x.there h.1.there x.link h.1.of (sym is.says))
+    let x = f.connections.each k c there in (
+      h.0,
+      h.1,
+      h.2,
+      process_at w f c.backend h.0 x.process h.1.process (link_of c.ticket) link.details
+          x.there h.1.there x.link h.1.of (sym is.says),
+    )
 
 -- the world after a report
 reported_is : (w new : World) (nodes : List NodeView) (k q : ℕ) (d : Connection) (v n : NodeView) (u : PoolView)
@@ -101,10 +103,12 @@ held_report w k q c d v link hold how whole there step none some is ticket less 
       ticket = omega arith;
       grips = grips_held v.links c.ticket.at link hold ticket.at;
       here = λ l e. subst (λ (z : Link). (b : ℕ) × IsProcess w.group (processes_of w) v.me z b
-          × LinkStands (faces_of w) (lasts_of w) (set w.connections k d) v z b) (is_link l e)
-          (h.0, process_again link (with_hold link hold) h.0 refl refl h.1,
-          less_stands w k c d v link (with_hold link hold) h.0 how there h.3 none some h.2 less condemned hasty
-          (λ slot g. g));
+          × LinkStands (faces_of w) (lasts_of w) (set w.connections k d) v z b) (is_link l e) (
+            h.0,
+            process_again link (with_hold link hold) h.0 refl refl h.1,
+            less_stands w k c d v link (with_hold link hold) h.0 how there h.3 none some h.2 less condemned hasty
+                (λ slot g. g),
+          );
       rest = λ l j b e free at_j of. f.loads.rest q v is.there c.ticket.at link j b ticket.at
           (ap (λ (z : Link). is_with_client z.state) (is_link l e) ∙ free) at_j
           (of ∙ ap (λ (z : Link). Some z.details) (sym (is_link l e)));
@@ -141,10 +145,12 @@ freed_report w k q c d v link p how whole there step none some is ticket quarant
       here = λ l e.
           let is_new = idle l (is_link l e) in
           subst (λ (z : Link). (b : ℕ) × IsProcess w.group (processes_of w) v.me z b
-          × LinkStands (faces_of w) (lasts_of w) (set w.connections k d) v z b) (sym is_new.0)
-          (h.0, process_again link new h.0 refl refl h.1,
-          less_stands w k c d v link new h.0 how there h.3 none some h.2 (omega (arith, some_ticket)) (λ x. x)
-          (λ x. absurd (differ (sym is_new.1 ∙ x))) (λ slot g. absurd (idle_or_given slot g)));
+          × LinkStands (faces_of w) (lasts_of w) (set w.connections k d) v z b) (sym is_new.0) (
+            h.0,
+            process_again link new h.0 refl refl h.1,
+            less_stands w k c d v link new h.0 how there h.3 none some h.2 (omega (arith, some_ticket)) (λ x. x)
+                (λ x. absurd (differ (sym is_new.1 ∙ x))) (λ slot g. absurd (idle_or_given slot g)),
+          );
       rest = λ l j b e without at_j of.
           let is_new = idle l (is_link l e) in
           f.loads.rest q v is.there c.ticket.at link j b ticket.at free at_j
@@ -153,6 +159,7 @@ freed_report w k q c d v link p how whole there step none some is ticket quarant
   where
     differ : true ≡ false → ⊥
     differ h = cc
+
     idle_or_given : (slot : ℕ) → LinkState.Idle ≡ LinkState.Quarantined (Some slot) → ⊥
     idle_or_given slot h = cc
 
@@ -171,13 +178,16 @@ stale_report w k q c d v whole there step none is stale f =
       ticket = omega arith;
       grips = λ s g fits. fits;
       here = λ l e.
-          let h = f.links q v is.there c.ticket.at l e in
-          (h.0, h.1, other_stands w k c d v v l h.0 there step (λ same.
-          let mine = ticket_link w k q q c v v c.ticket.at l f whole there is is.there e
-          (subst (IsProcess w.group (processes_of w) v.me l) (sym same) h.1) in
-          let more = one_open w.connections k h.0 c there same none in
-          let tickets = h.2.tickets in
-          stale l (record { at = e; says = mine.2; some = omega (arith, more, tickets) })) refl refl h.2);
+          let h = f.links q v is.there c.ticket.at l e in (
+            h.0,
+            h.1,
+            other_stands w k c d v v l h.0 there step (λ same.
+                let mine = ticket_link w k q q c v v c.ticket.at l f whole there is is.there e
+                (subst (IsProcess w.group (processes_of w) v.me l) (sym same) h.1) in
+                let more = one_open w.connections k h.0 c there same none in
+                let tickets = h.2.tickets in
+                stale l (record { at = e; says = mine.2; some = omega (arith, more, tickets) })) refl refl h.2,
+          );
       rest = λ l j b e free at_j of. f.loads.rest q v is.there c.ticket.at l j b e free at_j of;
     }) f
 
@@ -189,12 +199,12 @@ told_by : (w new : World) (nodes : List NodeView) (k q : ℕ) (c : Connection) (
     → new ≡ with_connection k (record c { report = Some Report.Clean }) (with_nodes nodes w) → Facts new
 told_by w new nodes k q c v n given f whole there none ended is step all after = by_reply given step
   where
-
-
     acted : c.acted ≡ true
     acted = (f.connections.each k c there).acted ended
+
     differ : true ≡ false → ⊥
     differ h = cc
+
     advances : Advances c (record c { report = Some Report.Clean })
     advances = record {
       server = refl;
@@ -208,8 +218,10 @@ told_by w new nodes k q c v n given f whole there none ended is step all after =
       acted = (f.connections.each k c there).acted;
       clean = λ e. ended;
     }
+
     is_idle : (x : Link) (l : Link) → Place.Link x ≡ Place.Link l → l ≡ x
     is_idle x l h = cc
+
     by_reply : (given : EndedReply) → LinksStep (EndedStep c.ticket given) v n → Facts new
     by_reply EndedReply.Freed step =
         subst Facts (sym (reported_is w new nodes k q (record c { report = Some Report.Clean }) v n _ after all step.1 step.0.4))
@@ -245,8 +257,10 @@ broken_by w new nodes k q c v n given f whole there none is step all after = by_
   where
     no_clean : Some Report.Fault ≡ Some Report.Clean → ⊥
     no_clean h = cc
+
     no_link : (l : Link) → Place.Free ≡ Place.Link l → ⊥
     no_link l h = cc
+
     advances : Advances c (record c { report = Some Report.Fault })
     advances = record {
       server = refl;
@@ -260,6 +274,7 @@ broken_by w new nodes k q c v n given f whole there none is step all after = by_
       acted = (f.connections.each k c there).acted;
       clean = λ e. absurd (no_clean e);
     }
+
     by_reply : (given : FailedReply (Unit {0})) → LinksStep (FailedStep c.ticket given) v n → Facts new
     by_reply FailedReply.Condemned step =
         let some = step.0.2.some in

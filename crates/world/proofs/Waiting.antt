@@ -1,17 +1,17 @@
 -- A node makes a step in which no place changes, and nobody gets a link or a permit.
-use Rattle.std.proofs.Common.{◌≡◌, ◌≢◌, ℕ, zero, suc, ◌+◌, ◌<◌, ◌≤◌, ◌⊎◌, inl, inr, ⊎_elim, Bool, true, false, List, [], ◌∷◌, Option, Some, None, refl, ap, sym, subst, ◌∙◌, arith}
+use Rattle.std.proofs.Common.{◌≡◌, ℕ, zero, suc, ◌≤◌, false, List, [], ◌∷◌, Option, Some, refl, ap, sym, ◌∙◌, arith}
 use Rattle.std.proofs.Math.ListN.{set}
 use Rattle.std.specs.List.{slice_get}
-use Rattle.std.proofs.lemmas.Option.{same_Some, none-some}
+use Rattle.std.proofs.lemmas.Option.{none-some}
 use Rattle.pg_ids.specs.AnyKey.{slot_of}
 use Rattle.lease.specs.declared.link_place.LinkPlace.{LinkPlace}
 use Rattle.link_pool.specs.declared.place.{Place.Place, Link.Link, Claim.Claim}
 use Rattle.link_pool.specs.Pool.{PoolView, place_at, with_queue, with_claim, in_queue, queued, unwaited_by, unwaited, behind, others}
-use Rattle.link_pool.specs.PoolStep.{is_holding, IsHeld}
+use Rattle.link_pool.specs.PoolStep.{is_holding}
 use Rattle.node_core.specs.View.{NodeView}
 use Rattle.world.specs.World.{World}
-use Rattle.world.specs.Facts.{Grip, Face, IsIn, GripFits, AllFitSlots, processes_of, lasts_of, faces_of, Facts}
-use Rattle.world.proofs.Nodes.{Grew, one_grew, links_grew, nodes_grew, issues_grew, numbers_grew, with_links, Moves, same_face, regrips_not, was_in, link_stands_still, links_moved, slots_moved, rest_moved}
+use Rattle.world.specs.Facts.{Grip, GripFits, processes_of, lasts_of, faces_of, Facts}
+use Rattle.world.proofs.Nodes.{one_grew, links_grew, nodes_grew, issues_grew, numbers_grew, with_links, Moves, same_face, regrips_not, was_in, link_stands_still, links_moved, slots_moved, rest_moved}
 use Rattle.world.proofs.Steps.{nowhere, nothing_there}
 
 -- no place changes, and who has a link or a permit has it still
@@ -109,11 +109,14 @@ numbers_wait v link permit ticket more further = record {
 waiting_grips : (v u : PoolView) (s : ℕ) (g : Grip) → Waits v u → GripFits v s g → GripFits u s g
 waiting_grips v u s Grip.Nothing waits fits = waits.holding s ∙ fits
 waiting_grips v u s (Grip.Permit permit) waits fits = waits.places permit.at ∙ fits
-waiting_grips v u s (Grip.Lease lease b) waits fits = (fits.0, record {
-  at = waits.places lease.at ∙ fits.1.at;
-  says = fits.1.says;
-  held = fits.1.held;
-})
+waiting_grips v u s (Grip.Lease lease b) waits fits = (
+  fits.0,
+  record {
+    at = waits.places lease.at ∙ fits.1.at;
+    says = fits.1.says;
+    held = fits.1.held;
+  },
+)
 
 pub wait_kept : (w : World) (q : ℕ) (v : NodeView) (u : PoolView) → slice_get w.nodes q ≡ Some v
     → Waits v.links u → Facts w → Facts (record w { nodes = set w.nodes q (with_links v u) })

@@ -7,7 +7,7 @@ use Rattle.key_table.specs.Slots.{first_key}
 use Rattle.lease.specs.declared.{link_record.LinkRecord.LinkRecord, permit.PermitRecord.PermitRecord}
 use Rattle.node_core.specs.View.{NodeView}
 use Rattle.world.specs.declared.event.Event.{Event}
-use Rattle.world.specs.World.{World, Arrival, Backend, Connection, Forward, Hand, Empty, Permit, Lease, Issue, Report, Clean, Server, Session, Start, HadBoot, IsGreatestBoot, IsBackend, IsForward, IsNode, IsServer, IsSession}
+use Rattle.world.specs.World.{World, Arrival, Backend, Connection, Forward, Hand, Empty, Permit, Lease, Issue, Clean, Server, Session, Start, HadBoot, IsGreatestBoot, IsBackend, IsForward, IsNode, IsServer, IsSession}
 use Rattle.world.specs.Settled.{IsNowhere}
 
 -- the client is there, and has this in hand

@@ -1,11 +1,11 @@
 -- What cancel requests do to a world (own; PostgreSQL manual, "Canceling Requests in Progress"):
 -- their way from flight to server, their ends, and new starts of nodes.
-use Rattle.std.specs.Prelude.{ℕ, ◌≡◌, ◌⊎◌, Bool, true, false, List, Option, Some, None, length, slice_get}
+use Rattle.std.specs.Prelude.{ℕ, ◌≡◌, Bool, true, false, List, Option, Some, None, length, slice_get}
 use Rattle.pg_ids.specs.AnyKey.{IsAnyKey, any_key_bytes, slot_of}
 use Rattle.pg_ids.specs.declared.any_key.AnyKey.{AnyKey}
 use Rattle.startup.specs.Kinds.{none_seen}
 use Rattle.startup.specs.CancelPacket.{packet_bytes}
-use Rattle.startup.specs.FirstPacket.{Outcome, Cancel as CancelPacket, IsOutcome}
+use Rattle.startup.specs.FirstPacket.{Cancel as CancelPacket, IsOutcome}
 use Rattle.lease.specs.declared.{link_record.LinkRecord.LinkRecord, ticket.TicketRecord.TicketRecord}
 use Rattle.link_pool.specs.declared.replies.{EndedReply.EndedReply, FailedReply.FailedReply, RestartReply.RestartReply}
 use Rattle.cancel_router.specs.declared.refusal.RouteRefusal.{RouteRefusal}
@@ -14,7 +14,7 @@ use Rattle.node_core.specs.declared.refusal.CancelRefusal.{CancelRefusal}
 use Rattle.node_core.specs.declared.exchange.{Order.Order, Exchange.Exchange}
 use Rattle.node_core.specs.View.{NodeView, IsClient}
 use Rattle.world.specs.declared.reply.Reply.{Reply}
-use Rattle.world.specs.World.{World, Arrival, Backend, Connection, Forward, Interrupt, Report, Lease, Server, Session, Start, Taken, IsBackend, IsForward, IsNode, IsServer, IsSession}
+use Rattle.world.specs.World.{World, Backend, Connection, Forward, Report, Lease, Server, Session, Taken, IsBackend, IsForward, IsNode, IsServer, IsSession}
 use Rattle.world.specs.Changes.{and_then, Steps, with_nodes, with_backend, with_connection, with_forward}
 use Rattle.world.specs.Admissible.{IsNextBoot}
 use Rattle.world.specs.LinkEvents.{rests}

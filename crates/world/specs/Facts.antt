@@ -17,7 +17,7 @@ use Rattle.node_core.specs.View.{NodeView, IsView, IsClient}
 use Rattle.world.specs.declared.event.Event.{Event}
 use Rattle.world.specs.World.{World, Arrival, Backend, Connection, Forward, Hand, Issue, Report, Server, Session, Start, HadBoot, IsNode, IsServer}
 use Rattle.world.specs.Settled.{Settled}
-use Rattle.world.specs.SafeCancellation.{IsSafe, IsEarned}
+use Rattle.world.specs.SafeCancellation.{IsSafe}
 
 -- what of a server process never changes
 pub record Process : Type 0 where

@@ -11,7 +11,7 @@ use Rattle.node_core.specs.declared.exchange.{LeaveReply.LeaveReply, Exchange.Ex
 use Rattle.node_core.specs.View.{NodeView}
 use Rattle.node_core.specs.NodeStep.{Asked}
 use Rattle.world.specs.declared.reply.Reply.{Reply}
-use Rattle.world.specs.World.{World, Backend, Hand, Empty, Permit, Lease, Server, Session, IsServer, IsSession}
+use Rattle.world.specs.World.{World, Backend, Empty, Permit, Lease, Server, Session, IsServer, IsSession}
 use Rattle.world.specs.Changes.{and_then, Steps, with_nodes, with_session, with_backend, holding}
 
 -- a client logs in: who gets a slot gets a key

@@ -1,7 +1,6 @@
 -- When nothing more can come of a cancel request (own).
-use Rattle.std.specs.Prelude.{ℕ, ◌≡◌, ◌≤◌, ◌⊎◌, true, List, Some, slice_get, length}
+use Rattle.std.specs.Prelude.{ℕ, ◌≡◌, ◌≤◌, true, List, Some, slice_get, length}
 use Rattle.lease.specs.declared.ticket.TicketRecord.{TicketRecord}
-use Rattle.node_core.specs.declared.refusal.CancelRefusal.{CancelRefusal}
 use Rattle.node_core.specs.declared.exchange.Order.{Order}
 use Rattle.world.specs.World.{World, Arrival, Connection, Forward, Interrupt}
 

@@ -1,6 +1,6 @@
 -- The world of a group (own; PostgreSQL manual, "Canceling Requests in Progress"): its nodes, and
 -- what is true of its clients, servers and cancel requests, which no node sees.
-use Rattle.std.specs.Prelude.{ℕ, ◌≡◌, ◌≤◌, Bool, List, [], Option, Some, None, map, slice_get}
+use Rattle.std.specs.Prelude.{ℕ, ◌≡◌, ◌≤◌, Bool, List, [], Option, Some, map, slice_get}
 use Rattle.pg_ids.specs.declared.any_key.{AnyKey.AnyKey, Identity.Identity}
 use Rattle.lease.specs.declared.{link_record.LinkRecord.LinkRecord, pass.PassRecord.PassRecord}
 use Rattle.lease.specs.declared.{permit.PermitRecord.PermitRecord, ticket.TicketRecord.TicketRecord}

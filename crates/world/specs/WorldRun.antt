@@ -1,6 +1,6 @@
 -- What each event does in a world, and what a list of events brings about (own).
 use Rattle.std.specs.List.{AllZip}
-use Rattle.std.specs.Prelude.{ℕ, ◌≡◌, true, List, [], ◌∷◌, Some}
+use Rattle.std.specs.Prelude.{◌≡◌, true, List, [], ◌∷◌, Some}
 use Rattle.ini_config.specs.Node.{NodeSettings}
 use Rattle.node_core.specs.View.{NodeView, IsFresh}
 use Rattle.world.specs.declared.event.Event.{Event}
