@@ -1,9 +1,9 @@
 -- What is settled is settled for good: no later interruption is for it.
-use Rattle.std.proofs.Common.{◌≡◌, ℕ, ⊎_elim, Bool, true, false, List, [], ◌∷◌, Option, Some, None, Result, Ok, Err, length, ◌<◌, ◌≤◌, refl, ap, sym, subst, ◌∙◌, arith, length-append}
+use Rattle.std.proofs.Common.{◌≡◌, ℕ, ⊎_elim, Bool, true, false, List, [], ◌∷◌, Option, Some, None, get_or, Result, Ok, Err, length, ◌<◌, ◌≤◌, refl, ap, sym, subst, ◌∙◌, arith, length-append}
 use Rattle.std.proofs.Math.ListN.{set}
 use Rattle.std.specs.List.{slice_get}
-use Rattle.std.proofs.lemmas.Option.{same_Some, none-some}
-use Rattle.std.proofs.lemmas.Bool.{cases_eq}
+use Rattle.std.proofs.lemmas.Option.{same_Some, none-some, slice_get-get_or}
+use Rattle.std.proofs.lemmas.Bool.{cases_eq, cases_lt}
 use Rattle.pg_ids.specs.declared.any_key.{AnyKey.AnyKey}
 use Rattle.lease.specs.declared.{pass.PassRecord.PassRecord, ticket.TicketRecord.TicketRecord}
 use Rattle.link_pool.specs.declared.replies.{AcquireReply.AcquireReply, UpReply.UpReply, RestartReply.RestartReply}
@@ -19,7 +19,7 @@ use Rattle.world.specs.Admissible.{Admissible, StandsAt}
 use Rattle.world.specs.LinkEvents.{Joins, Acquires, Opened, GoesUp}
 use Rattle.world.specs.CancelEvents.{new_forward, bound_by, Makes, Arrives, Comes, Strikes, Acts, StartsAnew}
 use Rattle.world.specs.WorldRun.{Does, WorldStep}
-use Rattle.world.specs.Settled.{SettledStays}
+use Rattle.world.specs.Settled.{LedTo, IsSettled, ComesOf, SettledStays}
 use Rattle.world.specs.Facts.{Facts}
 use Rattle.world.proofs.Lists.{set_here, set_there, set_cases, kept_behind, added_cases, before_end}
 use Rattle.world.proofs.Settling.{GoesOn, all_same, settled_still, nothing_to_come}
@@ -50,6 +50,21 @@ quietly old new h = record {
       let below = before_end old.interrupts place struck
       (ap (λ (is : List Interrupt). slice_get is place) (sym h.1) ∙ at) in
       absurd (omega (arith, below, past));
+}
+
+-- from one world to a later one: what is settled stays so, requests go on, and what was interrupted
+-- is known still
+pub record Passes (old new : World) : Type 0 where
+  pub stays : SettledStays old new
+  pub grows : RequestsGrow old new
+  pub kept : (i : ℕ) (struck : Interrupt) → slice_get old.interrupts i ≡ Some struck
+      → slice_get new.interrupts i ≡ Some struck
+
+passes_quietly : (old new : World) → Follows old new → Passes old new
+passes_quietly old new h = record {
+  stays = quietly old new h;
+  grows = h.0;
+  kept = λ i struck at. ap (λ (is : List Interrupt). slice_get is i) h.1 ∙ at;
 }
 
 -- nothing of requests changes
@@ -290,20 +305,24 @@ report_follows old new nodes k c how there after = subst (λ (w : World). Follow
 act_by : (old new struck : World) (place at : ℕ) (c : Connection) (x : Backend) (runs : Option ℕ) (said : Reply)
     → slice_get old.connections place ≡ Some c → c.ended ≡ false
     → Strikes at x c.arrival runs said old struck
-    → new ≡ with_connection place (record c { acted = true }) struck → Facts old → SettledStays old new
+    → new ≡ with_connection place (record c { acted = true }) struck → Facts old → Passes old new
 act_by old new struck place at c x None said there going strikes after f =
-    quietly old new (subst (λ (w : World). Follows old w)
+    passes_quietly old new (subst (λ (w : World). Follows old w)
     (sym (after ∙ ap (λ (w : World). with_connection place (record c { acted = true }) w) strikes.1)) (connection_grows old place c (record c { acted = true }) there refl (λ e. e), refl))
 act_by old new struck place at c x (Some label) said there going strikes after f =
     let i : Interrupt = record { backend = at; label = label; arrival = c.arrival } in
-    subst (SettledStays old)
+    subst (Passes old)
     (sym (after ∙ ap (λ (w : World). with_connection place (record c { acted = true }) w) strikes.1)) (record {
+      grows = connection_grows old place c (record c { acted = true }) there refl (λ e. e);
+      kept = λ k z at_k. kept_behind old.interrupts (i ∷ []) k z at_k;
+      stays = record {
       still = λ n s. settled_still (connection_on old place c (record c { acted = true }) there refl (λ e. e)) n s;
       quiet = λ n later k z settled comes past at_k is. ⊎_elim
           (λ was. let below = before_end old.interrupts k z was in absurd (omega (arith, below, past)))
           (λ new_i. differ c.ended (nothing_to_come old f n later place c settled comes there
           (ap (λ (y : Interrupt). y.arrival) (sym new_i.1) ∙ is)) going)
           (added_cases old.interrupts i k z at_k);
+      };
     })
   where
     differ : (b : Bool) → b ≡ true → b ≡ false → ⊥
@@ -313,7 +332,7 @@ act_by old new struck place at c x (Some label) said there going strikes after f
         true_or_false h = cc
 
 act_follows : (old new : World) (place : ℕ) (said : Reply) → StandsAt old place false false
-    → Acts place said old new → Facts old → SettledStays old new
+    → Acts place said old new → Facts old → Passes old new
 act_follows old new place said may does f =
     let same : may.connection ≡ does.connection =
     same_Some may.connection does.connection (sym may.there ∙ does.there) in
@@ -322,59 +341,124 @@ act_follows old new place said may does f =
 
 -- what each event leaves
 follows : (event : Event) (said : Reply) (old new : World) → Admissible old event → Does event said old new
-    → Facts old → SettledStays old new
+    → Facts old → Passes old new
 follows (Event.Login node label database secret kind) said old new may does f =
-    quietly old new (join_follows node label database does.joined said does.nodes old new does.after)
+    passes_quietly old new (join_follows node label database does.joined said does.nodes old new does.after)
 follows (Event.Acquire label) said old new may does f =
-    quietly old new (acquire_follows does.place does.session does.given said does.nodes old new does.after)
+    passes_quietly old new (acquire_follows does.place does.session does.given said does.nodes old new does.after)
 follows (Event.Up label key) said old new may does f =
-    quietly old new (up_follows does.place does.session does.server key does.given said does.nodes old new does.after)
+    passes_quietly old new (up_follows does.place does.session does.server key does.given said does.nodes old new does.after)
 follows (Event.UpFailed label) said old new may does f =
-    quietly old new (subst (λ (w : World). Follows old w) (sym does.after) (unchanged old))
+    passes_quietly old new (subst (λ (w : World). Follows old w) (sym does.after) (unchanged old))
 follows (Event.Send label) said old new may does f =
-    quietly old new (subst (λ (w : World). Follows old w) (sym does.0.after) (unchanged old))
+    passes_quietly old new (subst (λ (w : World). Follows old w) (sym does.0.after) (unchanged old))
 follows (Event.Take at) said old new may does f =
-    quietly old new (subst (λ (w : World). Follows old w) (sym does.0.after) (unchanged old))
+    passes_quietly old new (subst (λ (w : World). Follows old w) (sym does.0.after) (unchanged old))
 follows (Event.Finish at) said old new may does f =
-    quietly old new (subst (λ (w : World). Follows old w) (sym does.0.after) (unchanged old))
+    passes_quietly old new (subst (λ (w : World). Follows old w) (sym does.0.after) (unchanged old))
 follows (Event.Ready label) said old new may does f =
-    quietly old new (subst (λ (w : World). Follows old w) (sym does.0.after) (unchanged old))
+    passes_quietly old new (subst (λ (w : World). Follows old w) (sym does.0.after) (unchanged old))
 follows (Event.Release label) said old new may does f =
-    quietly old new (subst (λ (w : World). Follows old w) (sym does.after) (unchanged old))
+    passes_quietly old new (subst (λ (w : World). Follows old w) (sym does.after) (unchanged old))
 follows (Event.Close label) said old new may does f =
-    quietly old new (subst (λ (w : World). Follows old w) (sym does.after) (unchanged old))
+    passes_quietly old new (subst (λ (w : World). Follows old w) (sym does.after) (unchanged old))
 follows (Event.Leave label) said old new may does f =
-    quietly old new (subst (λ (w : World). Follows old w) (sym does.after) (unchanged old))
+    passes_quietly old new (subst (λ (w : World). Follows old w) (sym does.after) (unchanged old))
 follows (Event.Put bytes) said old new may does f =
-    quietly old new (subst (λ (w : World). Follows old w) (sym does.after) (unchanged old))
+    passes_quietly old new (subst (λ (w : World). Follows old w) (sym does.after) (unchanged old))
 follows (Event.Deliver flight node) said old new may does f =
-    quietly old new (comes_follows old new flight node said does)
+    passes_quietly old new (comes_follows old new flight node said does)
 follows (Event.Accept flight node) said old new may does f =
     let accept = may.0 in
     let same = one_forward old f flight accept.place does.place accept.forward does.forward accept.is does.is in
-    quietly old new (bound_follows old new does.delivered flight node does.place said does.forward does.is.there
+    passes_quietly old new (bound_follows old new does.delivered flight node does.place said does.forward does.is.there
     (ap (λ (z : Forward). z.accepted) (sym same) ∙ accept.new) does.comes does.after)
 follows (Event.ForwardEnded flight) said old new may does f =
-    quietly old new (subst (λ (w : World). Follows old w) (sym does.0.after) (forward_grows old.arrivals old.connections old.forwards does.0.place does.0.forward _ does.0.is.there refl refl, refl))
+    passes_quietly old new (subst (λ (w : World). Follows old w) (sym does.0.after) (forward_grows old.arrivals old.connections old.forwards does.0.place does.0.forward _ does.0.is.there refl refl, refl))
 follows (Event.ForwardTold flight) said old new may does f =
-    quietly old new (subst (λ (w : World). Follows old w) (sym does.0.after) (forward_grows old.arrivals old.connections old.forwards does.0.place does.0.forward _ does.0.is.there refl refl, refl))
+    passes_quietly old new (subst (λ (w : World). Follows old w) (sym does.0.after) (forward_grows old.arrivals old.connections old.forwards does.0.place does.0.forward _ does.0.is.there refl refl, refl))
 follows (Event.ForwardBroken flight) said old new may does f =
-    quietly old new (subst (λ (w : World). Follows old w) (sym does.0.after) (forward_grows old.arrivals old.connections old.forwards does.0.place does.0.forward _ does.0.is.there refl refl, refl))
+    passes_quietly old new (subst (λ (w : World). Follows old w) (sym does.0.after) (forward_grows old.arrivals old.connections old.forwards does.0.place does.0.forward _ does.0.is.there refl refl, refl))
 follows (Event.Act place) said old new may does f = act_follows old new place said may does f
 follows (Event.End place) said old new may does f =
-    quietly old new (subst (λ (w : World). Follows old w) (sym does.0.after) (connection_grows old place does.0.connection _ does.0.there refl (λ e. refl), refl))
+    passes_quietly old new (subst (λ (w : World). Follows old w) (sym does.0.after) (connection_grows old place does.0.connection _ does.0.there refl (λ e. refl), refl))
 follows (Event.Told place) said old new may does f =
     let r = does.reports in
-    quietly old new (report_follows old new r.nodes place r.connection Report.Clean r.there r.after)
+    passes_quietly old new (report_follows old new r.nodes place r.connection Report.Clean r.there r.after)
 follows (Event.Broken place) said old new may does f =
     let r = does.reports in
-    quietly old new (report_follows old new r.nodes place r.connection Report.Fault r.there r.after)
+    passes_quietly old new (report_follows old new r.nodes place r.connection Report.Fault r.there r.after)
 follows (Event.Restart node asked) said old new may does f =
-    quietly old new (restart_follows node does.boot does.given said does.nodes old new does.after)
+    passes_quietly old new (restart_follows node does.boot does.given said does.nodes old new does.after)
 
--- what is settled stays so, and no interruption comes for it
-pub settled_stays : (event : Event) (did : Took) (old new : World) → WorldStep event did old new
-    → Facts old → SettledStays old new
-settled_stays event (Took.Done said) old new step f = follows event said old new step.0 step.1 f
-settled_stays event Took.Skipped old new step f =
-    quietly old new (subst (λ (w : World). Follows old w) (sym step.1) (unchanged old))
+-- each step passes to a later world
+pub step_passes : (event : Event) (did : Took) (old new : World) → WorldStep event did old new
+    → Facts old → Passes old new
+step_passes event (Took.Done said) old new step f = follows event said old new step.0 step.1 f
+step_passes event Took.Skipped old new step f =
+    passes_quietly old new (subst (λ (w : World). Follows old w) (sym step.1) (unchanged old))
+
+-- what comes of an arrival comes no earlier
+comes_later : (forwards : List Forward) → ((n m : ℕ) → LedTo forwards n m → n < m) → (n later : ℕ)
+    → ComesOf forwards n later → n ≤ later
+comes_later forwards rises n later (ComesOf.Itself a) = omega arith
+comes_later forwards rises n later (ComesOf.Onward a m l way rest) =
+    let first = rises a m way in
+    let more = comes_later forwards rises m l rest in
+    omega (arith, first, more)
+
+-- what comes of an arrival, and was there before, came of it before
+came_before : (came come : List Arrival) (was now : List Connection) (led lead : List Forward) → Grows came come was now led lead
+    → ((n m : ℕ) → LedTo lead n m → n < m) → (n later : ℕ) → ComesOf lead n later
+    → later < length came → ComesOf led n later
+came_before came come was now led lead grows rises n later (ComesOf.Itself a) below = ComesOf.Itself a
+came_before came come was now led lead grows rises n later (ComesOf.Onward a m l way rest) below =
+    let more = comes_later lead rises m l rest in
+    let old = grows.back way.place m way.forward way.there way.to (omega (arith, below, more)) in
+    ComesOf.Onward a m l (record {
+      place = way.place;
+      forward = old.0;
+      there = old.1;
+      from = old.2 ∙ way.from;
+      to = old.3;
+    }) (came_before came come was now led lead grows rises m l rest below)
+
+-- a forward connection leads to a later arrival
+rises : (w : World) → Facts w → (n m : ℕ) → LedTo w.forwards n m → n < m
+rises w f n m way =
+    let onward = (f.forwards.each way.place way.forward way.there).onward m way.to in
+    subst (λ (k : ℕ). k < m) way.from onward.3
+
+-- a world is no later than itself
+pub passes_not : (w : World) → Passes w w
+passes_not w = passes_quietly w w (unchanged w)
+
+-- one after another: over any number of steps what is settled is settled for good
+pub passes_twice : (old mid new : World) → Facts mid → Facts new → Passes old mid → Passes mid new
+    → Passes old new
+passes_twice old mid new at_mid at_new p q = record {
+  grows = grows_twice p.grows q.grows;
+  kept = λ i struck at. q.kept i struck (p.kept i struck at);
+  stays = record {
+    still = λ n s. q.stays.still n (p.stays.still n s);
+    quiet = λ n later place struck settled comes past at is. ⊎_elim
+        (λ below. early n later place struck settled comes past at is below)
+        (λ above. q.stays.quiet n later place struck (p.stays.still n settled) comes above at is)
+        (cases_lt place (length mid.interrupts));
+  };
+}
+  where
+    early : (n later place : ℕ) (struck : Interrupt) → IsSettled old n → ComesOf new.forwards n later
+        → length old.interrupts ≤ place → slice_get new.interrupts place ≡ Some struck
+        → struck.arrival ≡ later → place < length mid.interrupts → ⊥
+    early n later place struck settled comes past at is below =
+        let there = slice_get-get_or mid.interrupts place struck below in
+        let same : get_or mid.interrupts place struck ≡ struck =
+        same_Some (get_or mid.interrupts place struck) struck
+        (sym (q.kept place (get_or mid.interrupts place struck) there) ∙ at) in
+        let then : slice_get mid.interrupts place ≡ Some struck = there ∙ ap Some same in
+        let came = at_mid.safe.struck place struck then in
+        let before = before_end mid.arrivals struck.arrival came.came came.there in
+        p.stays.quiet n later place struck settled
+        (came_before mid.arrivals new.arrivals mid.connections new.connections mid.forwards new.forwards q.grows
+        (rises new at_new) n later comes (omega (arith, before, is))) past then is
