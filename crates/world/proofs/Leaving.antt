@@ -275,6 +275,7 @@ left_kept w p q s v keys u there empty at_q live departs entries f =
       kept = record {
         me = refl;
         slots = length-set v.clients slot None;
+        pools = refl;
         incarnation = omega (arith, incarnation);
         pass = omega arith;
         link = alters.link;

@@ -147,6 +147,7 @@ joined_kept w q node label database secret v n kind pass f whole is below fresh_
         kept = record {
           me = me;
           slots = ap length clients ∙ length-set v.clients slot _;
+          pools = ap (λ (z : NodeView). z.pools) j.after;
           incarnation = let e = ap (λ (u : PoolView). u.incarnation) links in omega (arith, e);
           pass = omega (arith, number);
           link = let e = ap (λ (u : PoolView). u.next_link) links in omega (arith, e);

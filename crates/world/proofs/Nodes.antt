@@ -22,6 +22,7 @@ use Rattle.world.proofs.Lists.{set_here, set_there, set_cases}
 pub record Kept (y x : NodeView) : Type 0 where
   pub me : x.me ≡ y.me
   pub slots : length x.clients ≡ length y.clients
+  pub pools : x.pools ≡ y.pools
   pub incarnation : y.links.incarnation ≤ x.links.incarnation
   pub pass : y.next_pass ≤ x.next_pass
   pub link : y.links.next_link ≤ x.links.next_link
@@ -37,6 +38,7 @@ pub kept_not : (x : NodeView) → Kept x x
 kept_not x = record {
   me = refl;
   slots = refl;
+  pools = refl;
   incarnation = omega arith;
   pass = omega arith;
   link = omega arith;
@@ -81,6 +83,7 @@ links_grew v u same link ticket = record {
   kept = record {
     me = refl;
     slots = refl;
+    pools = refl;
     incarnation = omega (arith, same);
     pass = omega arith;
     link = link;
@@ -91,7 +94,8 @@ links_grew v u same link ticket = record {
 }
 
 -- what is known of the nodes' numbers
-pub nodes_kept : (olds news : List NodeView) → AllKept olds news → AreNodes olds → AreNodes news
+pub nodes_kept : {group : List NodeSettings} (olds news : List NodeView) → AllKept olds news
+    → AreNodes group olds → AreNodes group news
 nodes_kept olds news kept h = record {
   once = λ i j a b at_i at_j same.
       let x = kept i a at_i in let y = kept j b at_j in
@@ -100,9 +104,12 @@ nodes_kept olds news kept h = record {
     subst (λ (k : ℕ). k < 2 ^ 14) (sym x.2.me) r.0,
     subst (λ (k : ℕ). k ≤ 2 ^ 16) (sym x.2.slots) r.1,
   );
+  settings = λ i v at. let x = kept i v at in let s = h.settings i x.0 x.1 in
+      (s.0, s.1, s.2 ∙ sym x.2.me, s.3 ∙ sym x.2.pools);
 }
 
-pub nodes_grew : (olds news : List NodeView) → AllGrew olds news → AreNodes olds → AreNodes news
+pub nodes_grew : {group : List NodeSettings} (olds news : List NodeView) → AllGrew olds news
+    → AreNodes group olds → AreNodes group news
 nodes_grew olds news grew h = nodes_kept olds news (all_kept olds news grew) h
 
 -- a node of the one list is of the other

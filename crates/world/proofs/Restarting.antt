@@ -81,6 +81,7 @@ restarted_kept w q node boot asked v n is next step f =
     let kept = one_kept w.nodes q v n is.there (record {
       me = me;
       slots = ap length clients ∙ length-replicate (length v.clients) None;
+      pools = ap (λ (z : NodeView). z.pools) step.after;
       incarnation = omega (arith, incarnation);
       pass = let e = ap (λ (z : NodeView). z.next_pass) step.after in omega (arith, e);
       link = let e = ap (λ (u : PoolView). u.next_link) links in omega (arith, e);

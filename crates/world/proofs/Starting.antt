@@ -72,6 +72,10 @@ nothing_facts group nodes is ranges fresh = record {
           subst (λ (n : ℕ). n ≤ 2 ^ 16) (sym (ap (λ (z : NodeView). length z.clients) x.2.fields
               ∙ length-replicate x.0.max_client_conn None)) r.clients.1,
         );
+    settings = λ i v at.
+        let x = fresh_at group nodes fresh i v at in
+        (x.0, x.1, sym (ap (λ (z : NodeView). z.me) x.2.fields),
+        sym (ap (λ (z : NodeView). z.pools) x.2.fields));
   };
   issues = record {
     booted = λ i v at.

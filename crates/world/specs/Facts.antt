@@ -13,7 +13,7 @@ use Rattle.link_pool.specs.PoolStep.{is_holding, IsHeld, link_of}
 use Rattle.ini_config.specs.Node.{NodeSettings}
 use Rattle.node_core.specs.declared.client.Client.{Client}
 use Rattle.node_core.specs.declared.exchange.Order.{Order}
-use Rattle.node_core.specs.View.{NodeView, IsView, IsClient}
+use Rattle.node_core.specs.View.{NodeView, IsView, IsClient, pool_sizes}
 use Rattle.world.specs.declared.event.Event.{Event}
 use Rattle.world.specs.World.{World, Arrival, Backend, Connection, Forward, Hand, Issue, Report, Server, Session, Start, HadBoot, IsNode, IsServer}
 use Rattle.world.specs.Settled.{Settled}
@@ -77,12 +77,16 @@ abbrev pub OneServer : List NodeSettings → Type 0
 OneServer group = (node database : ℕ) (a b : Server) → IsServer group node database a
     → IsServer group node database b → a ≡ b
 
--- no two nodes have one number, and numbers and slots are in their ranges
-pub record AreNodes (nodes : List NodeView) : Type 0 where
+-- no two nodes have one number, numbers and slots are in their ranges, and each node has the number
+-- and the databases of its settings
+pub record AreNodes (group : List NodeSettings) (nodes : List NodeView) : Type 0 where
   pub once : (i j : ℕ) (a b : NodeView) → slice_get nodes i ≡ Some a → slice_get nodes j ≡ Some b
       → a.me ≡ b.me → i ≡ j
   pub ranges : (i : ℕ) (v : NodeView) → slice_get nodes i ≡ Some v
       → (v.me < 2 ^ 14) × (length v.clients ≤ 2 ^ 16)
+  pub settings : (i : ℕ) (v : NodeView) → slice_get nodes i ≡ Some v
+      → (s : NodeSettings) × (slice_get group i ≡ Some s) × (s.peer_id ≡ v.me)
+      × (pool_sizes s ≡ v.pools)
 
 -- what a long key has behind its first eight bytes was given: the node had that boot, and in its
 -- present one the serials that are given next are greater
@@ -336,7 +340,7 @@ pub record AreForwards (flights : List (List ℕ)) (arrivals : List Arrival) (co
 -- what is true of every world
 pub record Facts (w : World) : Type 0 where
   pub servers : OneServer w.group
-  pub nodes : AreNodes w.nodes
+  pub nodes : AreNodes w.group w.nodes
   pub issues : AreIssues w.nodes w.starts w.issues
   pub clients : AreClients w.issues (processes_of w) (lasts_of w) (faces_of w)
   pub slots : AllFitSlots w.nodes (faces_of w)
