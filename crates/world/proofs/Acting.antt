@@ -11,7 +11,7 @@ use Rattle.world.specs.CancelEvents.{Strikes, Acts, Ends}
 use Rattle.world.specs.SafeCancellation.{IsForOwner}
 use Rattle.world.specs.Facts.{process_of, last_holder, Facts, processes_of, lasts_of, faces_of}
 use Rattle.world.proofs.Lists.{added_cases, read_map, set_cases}
-use Rattle.world.proofs.Connections.{Advances, OneAdvances, goes_on, connections_kept, numbers_kept, earned_kept, forwards_kept, open_same}
+use Rattle.world.proofs.Connections.{servers_kept, Advances, OneAdvances, goes_on, connections_kept, numbers_kept, earned_kept, forwards_kept, open_same}
 use Rattle.world.proofs.Loads.{rests_kept}
 
 -- a cancel connection advances, and nothing is reported of it
@@ -21,7 +21,8 @@ unreported_kept w k c d there step report f =
     let old = f.connections in
     let one : OneAdvances w.connections k c d = record { there = there; step = step } in
     record {
-      servers = f.servers;
+      servers = servers_kept w.arrivals (processes_of w) (lasts_of w) w.connections k c d old one
+          w.group (faces_of w) f.servers;
       nodes = f.nodes;
       issues = f.issues;
       clients = f.clients;

@@ -7,9 +7,10 @@ use Rattle.std.proofs.lemmas.Bool.{cases_eq}
 use Rattle.lease.specs.declared.ticket.TicketRecord.{TicketRecord}
 use Rattle.link_pool.specs.PoolStep.{link_of}
 use Rattle.node_core.specs.View.{NodeView}
-use Rattle.world.specs.World.{Arrival, Connection, Forward, Issue, Report, IsNode}
+use Rattle.ini_config.specs.Node.{NodeSettings}
+use Rattle.world.specs.World.{Server, IsServer, Arrival, Connection, Forward, Issue, Report, IsNode}
 use Rattle.world.specs.SafeCancellation.{IsEarned}
-use Rattle.world.specs.Facts.{Process, Face, is_open_for, open_for, IsServed, ConnectionStands, AreConnections, AreForwards, NumbersLeft}
+use Rattle.world.specs.Facts.{AreServers, Process, Face, is_open_for, open_for, IsServed, ConnectionStands, AreConnections, AreForwards, NumbersLeft}
 use Rattle.world.proofs.Lists.{set_here, set_there, set_cases}
 use Rattle.world.proofs.Settling.{GoesOn, settled_still}
 
@@ -126,6 +127,19 @@ module _ (arrivals : List Arrival) (processes : List Process) (lasts : List (Opt
         subst (λ (t : TicketRecord). t.number < view.links.next_ticket) (sym a.2.ticket)
         (h.tickets i place a.0 view a.1
         (subst (λ (t : TicketRecord). IsNode nodes t.peer place view) a.2.ticket is));
+  }
+
+  -- what is known of servers
+  pub servers_kept : (group : List NodeSettings) (faces : List Face) → AreServers group faces was
+      → AreServers group faces (set was k d)
+  servers_kept group faces h = record {
+    one = h.one;
+    clients = h.clients;
+    asked = λ i x there.
+        let a = came_from i x there in
+        let old = h.asked i a.0 a.1 in
+        (old.0, subst (λ (t : TicketRecord). IsServer group t.peer old.0 x.server) (sym a.2.ticket)
+        (subst (λ (s : Server). IsServer group a.0.ticket.peer old.0 s) (sym a.2.server) old.1));
   }
 
   -- each is earned

@@ -141,7 +141,7 @@ connection_of w f whole q label node database key server_key v u ticket c a is i
     let database_is : link.details.at.database ≡ database =
     ap (λ (k : LinkPlace). k.database) (link_place v.links at link (whole q v is.there).places there) ∙ sym serves.of.0 in
     let server : h.1.process.server ≡ conn.server =
-    f.servers node database h.1.process.server conn.server
+    f.servers.one node database h.1.process.server conn.server
     (subst (λ (d : ℕ). IsServer w.group node d h.1.process.server) database_is
     (subst (λ (m : ℕ). IsServer w.group m link.details.at.database h.1.process.server) is.named h.1.server)) conn.at in
     let key_is : h.1.process.key ≡ server_key = h.1.key ∙ sym serves.of.1 in

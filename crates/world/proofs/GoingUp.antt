@@ -261,7 +261,7 @@ up_kept old new label key said whole may does f =
     let s = does.session in
     let same = one_session old f label may.place does.place may.session s may.is does.step.is in
     let to = subst (λ (z : Session). IsServer old.group z.node z.database may.server) same.1 may.at in
-    let one : may.server ≡ does.server = f.servers s.node s.database may.server does.server to does.at in
+    let one : may.server ≡ does.server = f.servers.one s.node s.database may.server does.server to does.at in
     up_by old new does.nodes does.place does.step.step.place s does.permit does.server key does.step.step.view
     does.step.step.next does.given said f whole does.step.is.there does.hand does.at
     (subst (λ (z : Server). NewKey old z key) one may.new)

@@ -17,11 +17,12 @@ use Rattle.node_core.specs.View.{NodeView}
 use Rattle.node_core.specs.NodeStep.{LeaveStep}
 use Rattle.world.specs.declared.reply.Reply.{Reply}
 use Rattle.key_table.specs.declared.entry.Entry.{Entry}
+use Rattle.ini_config.specs.Node.{NodeSettings}
 use Rattle.world.specs.World.{World, Connection, Hand, Issue, Session, IsNode}
 use Rattle.world.specs.Changes.{with_nodes, with_session}
 use Rattle.world.specs.Admissible.{HasInHand}
 use Rattle.world.specs.LinkEvents.{Leaves, Goes}
-use Rattle.world.specs.Facts.{Process, Grip, grip_of, Face, face_of, processes_of, lasts_of, faces_of, IsClientOf, AreClients, IsIn, FitSlots, AllFitSlots, NumbersLeft, IsProcess, LinkStands, AllLinksStand, is_with_client, AreAtRest, Facts, AreWhole}
+use Rattle.world.specs.Facts.{AreServers, HasServer, Process, Grip, grip_of, Face, face_of, processes_of, lasts_of, faces_of, IsClientOf, AreClients, IsIn, FitSlots, AllFitSlots, NumbersLeft, IsProcess, LinkStands, AllLinksStand, is_with_client, AreAtRest, Facts, AreWhole}
 use Rattle.world.proofs.Lists.{set_there, set_cases, read_map, map_write}
 use Rattle.world.proofs.Holding.{one_session}
 use Rattle.world.proofs.Nodes.{one_grew, nodes_grew, issues_grew, numbers_grew, Alters, Belongs, alters_not, alters_twice, alters_written, alters_claim, queue_alters, moves_of, placed_cases, other_grips}
@@ -198,6 +199,18 @@ numbers_without nodes faces processes connections p f there h =
       tickets = h.tickets;
     }
 
+-- what is known of servers, whoever has gone
+servers_without : (group : List NodeSettings) (faces : List Face) (connections : List Connection) (p : ℕ) (f : Face)
+    → slice_get faces p ≡ Some f → AreServers group faces connections
+    → AreServers group (set faces p (record f { stays = false })) connections
+servers_without group faces connections p f there h = record {
+  one = h.one;
+  clients = λ i x at. ⊎_elim (λ was. h.clients i x was.1)
+      (λ new. subst (λ (z : Face). HasServer group z.node z.database) (sym new.1) (h.clients p f there))
+      (set_cases faces p i x (record f { stays = false }) at);
+  asked = h.asked;
+}
+
 -- a client that no node knows has gone
 gone_kept : (w : World) (p : ℕ) (s : Session) → slice_get w.sessions p ≡ Some s → s.hand ≡ Hand.Empty
     → ((i : ℕ) (v : NodeView) → slice_get w.nodes i ≡ Some v → IsIn v (face_of s) → ⊥)
@@ -207,7 +220,8 @@ gone_kept w p s there empty out f =
     let here = read_map face_of w.sessions p s there in
     let back = sym (map_write face_of w.sessions p (gone_now s)) in
     record {
-      servers = f.servers;
+      servers = subst (λ (fs : List Face). AreServers w.group fs w.connections) back
+          (servers_without w.group faces w.connections p (face_of s) here f.servers);
       nodes = f.nodes;
       issues = f.issues;
       clients = subst (AreClients w.issues (processes_of w) (lasts_of w)) back
@@ -289,8 +303,9 @@ left_kept w p q s v keys u there empty at_q live departs entries f =
     let apart : (j : ℕ) (x : Face) → slice_get faces j ≡ Some x → IsIn v x → j ≢ p → slot_of x.pass.key ≢ slot =
     λ j x at_j is other e. other (one_slot w f q j p v x (face_of s) at_q at_j here is live e) in
     record {
-      servers = f.servers;
-      nodes = nodes_grew w.nodes news grew f.nodes;
+      servers = subst (λ (fs : List Face). AreServers w.group fs w.connections) back
+          (servers_without w.group faces w.connections p (face_of s) here f.servers);
+      nodes = nodes_grew w.nodes news (length-set w.nodes q _) grew f.nodes;
       issues = issues_grew w.nodes news w.starts w.issues grew f.issues;
       clients = subst (AreClients w.issues (processes_of w) (lasts_of w)) back
           (clients_without w.issues (processes_of w) (lasts_of w) faces p (face_of s) here (ap grip_of empty) f.clients);

@@ -11,7 +11,7 @@ use Rattle.world.specs.World.{World, Backend, Hand, Session}
 use Rattle.world.specs.Changes.{and_then, holding, with_backend}
 use Rattle.world.specs.Admissible.{MayTake, IsRunning, MayGetReady}
 use Rattle.world.specs.LinkEvents.{Sends, GetsReady, Takes, Finishes, rests}
-use Rattle.world.specs.Facts.{Process, process_of, last_holder, Grip, Face, face_of, IsOwnGrip, load_of, IsOwnLoad, is_with_client, AreAtRest, AreLoads, AreClients, AllFitSlots, AreProcesses, NumbersLeft, AllLinksStand, AreConnections, Facts, processes_of, lasts_of, faces_of, AreWhole}
+use Rattle.world.specs.Facts.{AreServers, Process, process_of, last_holder, Grip, Face, face_of, IsOwnGrip, load_of, IsOwnLoad, is_with_client, AreAtRest, AreLoads, AreClients, AllFitSlots, AreProcesses, NumbersLeft, AllLinksStand, AreConnections, Facts, processes_of, lasts_of, faces_of, AreWhole}
 use Rattle.world.proofs.Lists.{set_here, set_cases, added_cases, read_map, same_map}
 use Rattle.world.proofs.Holding.{one_session, link_with_client, grip_of_lease}
 
@@ -21,7 +21,7 @@ pub carried : (w : World) (sessions : List Session) (backends : List Backend)
     → map last_holder backends ≡ lasts_of w → AreLoads w.nodes sessions backends → Facts w
     → Facts (record w { sessions = sessions; backends = backends })
 carried w sessions backends same_faces same_processes same_lasts loads f = record {
-  servers = f.servers;
+  servers = subst (λ (fs : List Face). AreServers w.group fs w.connections) (sym same_faces) f.servers;
   nodes = f.nodes;
   issues = f.issues;
   clients = subst (λ (fs : List Face). AreClients w.issues (map process_of backends) (map last_holder backends) fs)

@@ -1,5 +1,5 @@
 -- A client logs in.
-use Rattle.std.proofs.Common.{◌≡◌, ◌≢◌, ℕ, ◌+◌, ⊎_elim, true, false, List, [], ◌∷◌, ◌++◌, Option, Some, None, length, refl, ap, sym, subst, ◌∙◌, arith}
+use Rattle.std.proofs.Common.{◌≡◌, ◌≢◌, ℕ, ◌+◌, ⊎_elim, true, false, List, [], ◌∷◌, ◌++◌, Option, Some, None, length, refl, ap, sym, subst, ◌∙◌, arith, length-set}
 use Rattle.std.proofs.Math.ListN.{set}
 use Rattle.std.specs.List.{slice_get}
 use Rattle.std.proofs.lemmas.Bool.{eq-eqb}
@@ -17,7 +17,7 @@ use Rattle.node_core.specs.declared.client.Client.{Client}
 use Rattle.node_core.specs.View.{NodeView, IsView, Has}
 use Rattle.world.specs.World.{World, Hand, Issue, Session, IsNode, IsOwner}
 use Rattle.world.specs.Changes.{and_then}
-use Rattle.world.specs.Facts.{grip_of, Face, face_of, processes_of, lasts_of, faces_of, IsOwnGrip, GripFits, IsClientOf, AreClients, IsIn, FitsSlot, FitSlots, AllFitSlots, IsGiven, NumbersLeft, IsProcess, LinkStands, AllLinksStand, AreAtRest, Facts, AreWhole}
+use Rattle.world.specs.Facts.{AreServers, HasServer, grip_of, Face, face_of, processes_of, lasts_of, faces_of, IsOwnGrip, GripFits, IsClientOf, AreClients, IsIn, FitsSlot, FitSlots, AllFitSlots, IsGiven, NumbersLeft, IsProcess, LinkStands, AllLinksStand, AreAtRest, Facts, AreWhole}
 use Rattle.world.proofs.Lists.{set_here, set_there, set_cases, kept_behind, added_cases, added_last, from_map, map_added}
 use Rattle.world.proofs.Nodes.{one_grew, nodes_grew, issues_grew, numbers_grew, Grew}
 
@@ -61,6 +61,7 @@ pub record IsLogin (w : World) (q : ℕ) (v n : NodeView) (i : Issue) (s : Sessi
   pub incarnation : s.pass.incarnation ≡ v.links.incarnation
   pub number : s.pass.number ≡ v.next_pass
   pub next_number : n.next_pass ≡ v.next_pass + 1
+  pub server : HasServer w.group s.node s.database
 
 -- a free slot has nothing
 free_slot : (v : NodeView) (slot : ℕ) → IsView v → slice_get v.clients slot ≡ Some None
@@ -120,8 +121,14 @@ login_kept w q v n i s whole is f =
     → place_at v.links at ≡ Some (Place.Link link) =
     λ b at link e. ap (λ (u : PoolView). place_at u at) (sym is.links) ∙ e in
     record {
-      servers = f.servers;
-      nodes = nodes_grew w.nodes news grew f.nodes;
+      servers = subst (λ (fs : List Face). AreServers w.group fs w.connections) back (record {
+        one = f.servers.one;
+        clients = λ j x at. ⊎_elim (λ was. f.servers.clients j x was)
+            (λ new. subst (λ (z : Face). HasServer w.group z.node z.database) (sym new.1) is.server)
+            (added_cases faces g j x at);
+        asked = f.servers.asked;
+      });
+      nodes = nodes_grew w.nodes news (length-set w.nodes q _) grew f.nodes;
       issues = record {
         booted = old_issues.booted;
         each = λ j a at. ⊎_elim (λ was. old_issues.each j a was)

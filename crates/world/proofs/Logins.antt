@@ -1,5 +1,5 @@
 -- What a node's answer to a login makes known.
-use Rattle.std.proofs.Common.{◌≡◌, ◌≢◌, ℕ, ◌+◌, ◌<◌, ◌≤◌, ◌^◌, ⊎_elim, Bool, true, false, List, Option, Some, None, Result, Ok, Err, length, refl, ap, sym, subst, ◌∙◌, arith, length-set}
+use Rattle.std.proofs.Common.{◌≡◌, zero, suc, ◌∷◌, [], ◌≢◌, ℕ, ◌+◌, ◌<◌, ◌≤◌, ◌^◌, ⊎_elim, Bool, true, false, List, Option, Some, None, Result, Ok, Err, length, refl, ap, sym, subst, ◌∙◌, arith, length-set}
 use Rattle.std.proofs.Math.ListN.{set}
 use Rattle.std.specs.List.{slice_get}
 use Rattle.std.specs.Option.{is_some, option_map}
@@ -16,11 +16,13 @@ use Rattle.node_core.specs.declared.refusal.JoinRefusal.{JoinRefusal}
 use Rattle.node_core.specs.View.{NodeView, IsView}
 use Rattle.node_core.specs.NodeStep.{part_of, serial_after, Joins as NodeJoins, JoinStep}
 use Rattle.world.specs.declared.reply.Reply.{Reply}
+use Rattle.ini_config.specs.Node.{DatabaseSettings}
+use Rattle.std.proofs.lemmas.List.{length-map}
 use Rattle.world.specs.World.{World, Hand, Issue, Session, HadBoot, IsNode}
 use Rattle.world.specs.Changes.{and_then, with_nodes}
 use Rattle.world.specs.Admissible.{IsNewSecret, MayLogIn}
 use Rattle.world.specs.LinkEvents.{Joins, LogsIn}
-use Rattle.world.specs.Facts.{IsGiven, WasGiven, Facts, AreWhole}
+use Rattle.world.specs.Facts.{HasServer, IsGiven, WasGiven, Facts, AreWhole}
 use Rattle.world.proofs.Lists.{set_cases, before_end}
 use Rattle.world.proofs.GivingBack.{same_nodes}
 use Rattle.world.proofs.Keys.{any_peer, any_part}
@@ -96,18 +98,43 @@ part_given w f q node v n Kind.Long part is me serial has =
           (set_cases w.nodes q place view n node.there);
     }
 
+-- what is at a place before the end
+entry_at : (ds : List DatabaseSettings) (i : ℕ) → i < length ds
+    → (d : DatabaseSettings) × (slice_get ds i ≡ Some d)
+entry_at [] i below = absurd (omega (arith, below))
+entry_at (d ∷ ds) zero below = (d, refl)
+entry_at (d ∷ ds) (suc i) below = entry_at ds i (omega (arith, below))
+
+-- a database that a node has is one of its settings
+has_server : (w : World) → Facts w → (q node database : ℕ) (v : NodeView) → IsNode w.nodes node q v
+    → database < length v.pools → HasServer w.group node database
+has_server w f q node database v is few =
+    let settings = f.nodes.settings q v is.there in
+    let long : length v.pools ≡ length settings.0.databases = ap length (sym settings.3)
+    ∙ length-map settings.0.databases (λ (d : DatabaseSettings). d.pool_size) in
+    let at = entry_at settings.0.databases database (omega (arith, few, long)) in
+    (record { host = at.0.host; port = at.0.port }, record {
+      place = q;
+      settings = settings.0;
+      entry = at.0;
+      there = settings.1;
+      number = settings.2 ∙ is.named;
+      at = at.1;
+      is = refl;
+    })
+
 -- a client has logged in
 joined_kept : (w : World) (q node label database secret : ℕ) (v n : NodeView) (kind : Kind) (pass : PassRecord)
     → Facts w → AreWhole w.nodes → IsNode w.nodes node q v → secret < 2 ^ 32
     → ((j : ℕ) (z : Session) → slice_get w.sessions j ≡ Some z → z.label ≢ label)
     → IsNewSecret w.issues node kind secret v.keys.next
-    → NodeJoins database secret kind pass v n
+    → HasServer w.group node database → NodeJoins database secret kind pass v n
     → Facts (record w {
       nodes = set w.nodes q n;
       issues = and_then w.issues (record { node = node; incarnation = pass.incarnation; identity = any_identity_of pass.key; label = label });
       sessions = and_then w.sessions (record { label = label; node = node; database = database; pass = pass; stays = true; hand = Hand.Empty });
     })
-joined_kept w q node label database secret v n kind pass f whole is below fresh_label fresh j =
+joined_kept w q node label database secret v n kind pass f whole is below fresh_label fresh server j =
     let slot = slot_of pass.key in
     let view = whole q v is.there in
     let own = view.node.own.0 in
@@ -180,6 +207,7 @@ joined_kept w q node label database secret v n kind pass f whole is below fresh_
       incarnation = j.incarnation;
       number = j.number.0;
       next_number = number;
+      server = server;
     }) f
 
 -- a client logs in, or gets no slot
@@ -188,19 +216,19 @@ login_by : (w new : World) (nodes : List NodeView) (q node label database secret
     → Facts w → AreWhole w.nodes → IsNode w.nodes node q v → secret < 2 ^ 32
     → ((j : ℕ) (z : Session) → slice_get w.sessions j ≡ Some z → z.label ≢ label)
     → IsNewSecret w.issues node kind secret v.keys.next
-    → JoinStep database secret kind joined v n → nodes ≡ set w.nodes q n
+    → HasServer w.group node database → JoinStep database secret kind joined v n → nodes ≡ set w.nodes q n
     → Joins node label database joined said (with_nodes nodes w) new → Facts new
-login_by w new nodes q node label database secret v n kind (Ok pass) said f whole is below fresh_label fresh step all after =
+login_by w new nodes q node label database secret v n kind (Ok pass) said f whole is below fresh_label fresh server step all after =
     subst Facts (sym (after.1 ∙ ap (λ (ns : List NodeView). let z : World = record w {
       nodes = ns;
       issues = and_then w.issues (record { node = node; incarnation = pass.incarnation; identity = any_identity_of pass.key; label = label });
       sessions = and_then w.sessions (record { label = label; node = node; database = database; pass = pass; stays = true; hand = Hand.Empty });
     } in z) all))
-    (joined_kept w q node label database secret v n kind pass f whole is below fresh_label fresh step)
-login_by w new nodes q node label database secret v n kind (Err JoinRefusal.Full) said f whole is below fresh_label fresh step all after =
+    (joined_kept w q node label database secret v n kind pass f whole is below fresh_label fresh server step)
+login_by w new nodes q node label database secret v n kind (Err JoinRefusal.Full) said f whole is below fresh_label fresh server step all after =
     subst Facts (sym (after.1 ∙ ap (λ (ns : List NodeView). with_nodes ns w)
     (all ∙ ap (set w.nodes q) step.1 ∙ same_nodes w.nodes q v is.there))) f
-login_by w new nodes q node label database secret v n kind (Err JoinRefusal.Exhausted) said f whole is below fresh_label fresh step all after =
+login_by w new nodes q node label database secret v n kind (Err JoinRefusal.Exhausted) said f whole is below fresh_label fresh server step all after =
     subst Facts (sym (after.1 ∙ ap (λ (ns : List NodeView). with_nodes ns w)
     (all ∙ ap (set w.nodes q) step.2 ∙ same_nodes w.nodes q v is.there))) f
 
@@ -215,4 +243,5 @@ login_event_kept old new node label database secret kind said whole below may do
     login_by old new does.nodes does.step.place node label database secret does.step.view does.step.next kind does.joined said
     f whole does.step.is below (λ j z at e. may.new j z (record { there = at; named = e }))
     (subst (λ (x : NodeView). IsNewSecret old.issues node kind secret x.keys.next) one may.fresh)
+    (has_server old f may.place node database may.view may.is may.has)
     does.step.step does.step.after does.after

@@ -15,7 +15,7 @@ use Rattle.link_pool.proofs.Changes.{one_place, place_there}
 use Rattle.ini_config.specs.Node.{NodeSettings}
 use Rattle.node_core.specs.View.{NodeView, IsClient}
 use Rattle.world.specs.World.{Backend, Connection, Issue, Start, HadBoot, IsNode}
-use Rattle.world.specs.Facts.{Process, Grip, Face, IsIn, GripFits, FitSlots, AllFitSlots, AreNodes, AreIssues, NumbersLeft, IsProcess, LinkStands, AllLinksStand, is_with_client, load_of, AreAtRest}
+use Rattle.world.specs.Facts.{Process, Grip, Face, IsIn, GripFits, FitSlots, AllFitSlots, AreServers, HasServer, AreNodes, AreIssues, NumbersLeft, IsProcess, LinkStands, AllLinksStand, is_with_client, load_of, AreAtRest}
 use Rattle.world.proofs.Lists.{set_here, set_there, set_cases}
 
 -- a node keeps its number and its slots, and its next numbers grow
@@ -94,9 +94,10 @@ links_grew v u same link ticket = record {
 }
 
 -- what is known of the nodes' numbers
-pub nodes_kept : {group : List NodeSettings} (olds news : List NodeView) → AllKept olds news
-    → AreNodes group olds → AreNodes group news
-nodes_kept olds news kept h = record {
+pub nodes_kept : {group : List NodeSettings} (olds news : List NodeView) → length news ≡ length olds
+    → AllKept olds news → AreNodes group olds → AreNodes group news
+nodes_kept olds news long kept h = record {
+  long = long ∙ h.long;
   once = λ i j a b at_i at_j same.
       let x = kept i a at_i in let y = kept j b at_j in
       h.once i j x.0 y.0 x.1 y.1 (sym x.2.me ∙ same ∙ y.2.me);
@@ -108,9 +109,9 @@ nodes_kept olds news kept h = record {
       (s.0, s.1, s.2 ∙ sym x.2.me, s.3 ∙ sym x.2.pools);
 }
 
-pub nodes_grew : {group : List NodeSettings} (olds news : List NodeView) → AllGrew olds news
-    → AreNodes group olds → AreNodes group news
-nodes_grew olds news grew h = nodes_kept olds news (all_kept olds news grew) h
+pub nodes_grew : {group : List NodeSettings} (olds news : List NodeView) → length news ≡ length olds
+    → AllGrew olds news → AreNodes group olds → AreNodes group news
+nodes_grew olds news long grew h = nodes_kept olds news long (all_kept olds news grew) h
 
 -- a node of the one list is of the other
 pub was_node : (olds news : List NodeView) → AllKept olds news → (number place : ℕ) (x : NodeView)
@@ -338,6 +339,17 @@ one_regrips faces p f g there same = record {
       ))
       (λ apart. (y, set_there faces p i g apart ∙ h, same_face y))
       (cases_eq i p);
+}
+
+-- what is known of servers, whatever clients have in hand
+pub servers_regripped : (group : List NodeSettings) (olds news : List Face) (connections : List Connection)
+    → Regrips olds news → AreServers group olds connections → AreServers group news connections
+servers_regripped group olds news connections regrips h = record {
+  one = h.one;
+  clients = λ i x at. let from = regrips.from i x at in
+      subst (λ (d : ℕ). HasServer group x.node d) (sym from.2.database)
+      (subst (λ (n : ℕ). HasServer group n from.0.database) (sym from.2.node) (h.clients i from.0 from.1));
+  asked = h.asked;
 }
 
 -- who is in, was in

@@ -1,5 +1,5 @@
 -- The end of a cancel connection is reported to the node that sent it.
-use Rattle.std.proofs.Common.{◌≡◌, ◌≢◌, ℕ, zero, suc, ◌+◌, ◌≤◌, ⊎_elim, Bool, true, false, List, [], ◌∷◌, Option, Some, None, refl, ap, sym, subst, ◌∙◌, arith, ◌==◌, ◌&&◌}
+use Rattle.std.proofs.Common.{◌≡◌, ◌≢◌, ℕ, zero, suc, ◌+◌, ◌≤◌, ⊎_elim, Bool, true, false, List, [], ◌∷◌, Option, Some, None, refl, ap, sym, subst, ◌∙◌, arith, ◌==◌, ◌&&◌, length-set}
 use Rattle.std.proofs.Math.ListN.{set}
 use Rattle.std.specs.List.{slice_get}
 use Rattle.std.proofs.lemmas.Option.{same_Some, none-some}
@@ -17,7 +17,7 @@ use Rattle.world.specs.World.{World, Backend, Connection, Report, IsNode}
 use Rattle.world.specs.Facts.{Process, Grip, processes_of, lasts_of, faces_of, GripFits, IsProcess, LinkStands, is_open_for, open_for, is_with_client, load_of, Facts, AreWhole}
 use Rattle.world.proofs.Lists.{set_cases}
 use Rattle.world.proofs.Holding.{link_fits, link_place}
-use Rattle.world.proofs.Connections.{Advances, OneAdvances, goes_on, connections_kept, numbers_kept, earned_kept, forwards_kept}
+use Rattle.world.proofs.Connections.{servers_kept, Advances, OneAdvances, goes_on, connections_kept, numbers_kept, earned_kept, forwards_kept}
 use Rattle.world.proofs.Nodes.{one_grew, links_grew, nodes_grew, issues_grew, numbers_grew, with_links, Moves, same_face, regrips_not, was_in, links_moved, slots_moved, rest_moved, which_place}
 use Rattle.world.proofs.GoingUp.{not_equal}
 
@@ -117,8 +117,9 @@ report_kept w k q c d v u whole r f =
     let at_q = r.node.there in
     let grew = one_grew w.nodes q v (with_links v u) at_q (links_grew v u r.moves.incarnation r.link r.ticket) in
     record {
-      servers = f.servers;
-      nodes = nodes_grew w.nodes news grew f.nodes;
+      servers = servers_kept w.arrivals (processes_of w) (lasts_of w) w.connections k c d f.connections one
+          w.group faces f.servers;
+      nodes = nodes_grew w.nodes news (length-set w.nodes q _) grew f.nodes;
       issues = issues_grew w.nodes news w.starts w.issues grew f.issues;
       clients = f.clients;
       slots = slots_moved w.nodes faces faces q v u at_q r.moves.incarnation (regrips_not faces) f.slots

@@ -1,5 +1,5 @@
 -- A node starts anew.
-use Rattle.std.proofs.Common.{◌≡◌, ◌≢◌, ℕ, zero, suc, ◌+◌, ⊎_elim, List, [], ◌∷◌, Option, Some, None, length, ap, sym, subst, ◌∙◌, arith}
+use Rattle.std.proofs.Common.{◌≡◌, ◌≢◌, ℕ, zero, suc, ◌+◌, ⊎_elim, List, [], ◌∷◌, Option, Some, None, length, ap, sym, subst, ◌∙◌, arith, length-set}
 use Rattle.std.proofs.Math.ListN.{set, replicate}
 use Rattle.std.specs.List.{slice_get}
 use Rattle.std.proofs.lemmas.List.{length-replicate}
@@ -93,7 +93,7 @@ restarted_kept w q node boot asked v n is next step f =
     (sym (ap (λ (u : PoolView). u.pools) links)) ∙ e) in
     record {
       servers = f.servers;
-      nodes = nodes_kept w.nodes news kept f.nodes;
+      nodes = nodes_kept w.nodes news (length-set w.nodes q n) kept f.nodes;
       issues = record {
         booted = λ i x at. ⊎_elim (λ was. had_still w.starts start x.me x.boot (f.issues.booted i x was.1))
             (λ new. subst (λ (z : NodeView). HadBoot starts z.me z.boot) (sym new.1)

@@ -1,5 +1,5 @@
 -- A request is sent to a server: there is one more cancel connection.
-use Rattle.std.proofs.Common.{◌≡◌, ◌≢◌, ℕ, ◌+◌, ◌<◌, ⊎_elim, true, false, List, [], ◌∷◌, ◌++◌, Option, Some, None, refl, ap, sym, subst, ◌∙◌, arith}
+use Rattle.std.proofs.Common.{◌≡◌, ◌≢◌, ℕ, ◌+◌, ◌<◌, ⊎_elim, true, false, List, [], ◌∷◌, ◌++◌, Option, Some, None, refl, ap, sym, subst, ◌∙◌, arith, length-set}
 use Rattle.std.proofs.Math.ListN.{set}
 use Rattle.std.specs.List.{slice_get}
 use Rattle.std.proofs.lemmas.Option.{same_Some, none-some}
@@ -13,7 +13,7 @@ use Rattle.link_pool.specs.OnePlace.{IsPool, has_link, has_permit, held_by, open
 use Rattle.link_pool.specs.PoolStep.{is_holding, HasLink, link_of, with_hold, one_more}
 use Rattle.link_pool.proofs.Changes.{place_there, same_places}
 use Rattle.node_core.specs.View.{NodeView}
-use Rattle.world.specs.World.{World, Arrival, Connection, Hand, Report, IsNode}
+use Rattle.world.specs.World.{IsServer, Server, World, Arrival, Connection, Hand, Report, IsNode}
 use Rattle.world.specs.Changes.{and_then}
 use Rattle.world.specs.CancelEvents.{Holds, IsHolder}
 use Rattle.world.specs.SafeCancellation.{IsEarned}
@@ -125,8 +125,16 @@ served_kept w q b v at link c whole is f =
     → y.ticket.number < v.links.next_ticket =
     λ i y at_i same. f.numbers.tickets i q y v at_i (record { there = is.node; named = sym is.peer ∙ sym same }) in
     record {
-      servers = f.servers;
-      nodes = nodes_grew w.nodes news grew f.nodes;
+      servers = record {
+        one = f.servers.one;
+        clients = f.servers.clients;
+        asked = λ i y at_i. ⊎_elim (λ was. f.servers.asked i y was)
+            (λ new_c. subst (λ (z : Connection). (d : ℕ) × IsServer w.group z.ticket.peer d z.server) (sym new_c.1)
+            (link.details.at.database, subst (λ (m : ℕ). IsServer w.group m link.details.at.database c.server) (sym is.peer)
+            (subst (λ (z : Server). IsServer w.group v.me link.details.at.database z) is.server is.process.server)))
+            (added_cases w.connections c i y at_i);
+      };
+      nodes = nodes_grew w.nodes news (length-set w.nodes q _) grew f.nodes;
       issues = issues_grew w.nodes news w.starts w.issues grew f.issues;
       clients = f.clients;
       slots = slots_moved w.nodes faces faces q v u is.node refl (regrips_not faces) f.slots

@@ -3,6 +3,7 @@ use Rattle.std.proofs.Common.{◌≡◌, ◌≢◌, ℕ, zero, suc, ◌<◌, ◌
 use Rattle.std.specs.List.{slice_get}
 use Rattle.std.proofs.lemmas.List.{length-replicate}
 use Rattle.std.proofs.lemmas.Option.{same_Some, none-some, get_or_from_slice_get}
+use Rattle.std.proofs.lemmas.Slice.Zip.{AllZip-long}
 use Rattle.std.proofs.lemmas.Bool.{cases_eq, cases_lt}
 use Rattle.lease.specs.declared.link_place.LinkPlace.{LinkPlace}
 use Rattle.link_pool.specs.declared.place.{Place.Place, Link.Link}
@@ -58,7 +59,11 @@ pub nothing_facts : (group : List NodeSettings) (nodes : List NodeView) → IsGr
     → ((i : ℕ) (s : NodeSettings) → slice_get group i ≡ Some s → IsNodeSettings s)
     → AreFresh group nodes → Facts (nothing_yet group nodes)
 nothing_facts group nodes is ranges fresh = record {
-  servers = one_server group is.distinct;
+  servers = record {
+    one = one_server group is.distinct;
+    clients = λ i face at. absurd (none-some face at);
+    asked = λ i connection at. absurd (none-some connection at);
+  };
   nodes = record {
     once = λ i j a b at_i at_j same.
         let x = fresh_at group nodes fresh i a at_i in
@@ -72,6 +77,7 @@ nothing_facts group nodes is ranges fresh = record {
           subst (λ (n : ℕ). n ≤ 2 ^ 16) (sym (ap (λ (z : NodeView). length z.clients) x.2.fields
               ∙ length-replicate x.0.max_client_conn None)) r.clients.1,
         );
+    long = AllZip-long (λ (settings : NodeSettings). IsFresh settings 0) group nodes fresh;
     settings = λ i v at.
         let x = fresh_at group nodes fresh i v at in
         (x.0, x.1, sym (ap (λ (z : NodeView). z.me) x.2.fields),

@@ -1,5 +1,5 @@
 -- A client and its node make a step of the node's links: what is known of the world stays known.
-use Rattle.std.proofs.Common.{◌≡◌, ℕ, ◌<◌, ◌≤◌, ⊎_elim, Bool, true, false, List, Option, Some, None, length, map, refl, ap, sym, subst, ◌∙◌, arith}
+use Rattle.std.proofs.Common.{◌≡◌, ℕ, ◌<◌, ◌≤◌, ⊎_elim, Bool, true, false, List, Option, Some, None, length, map, refl, ap, sym, subst, ◌∙◌, arith, length-set}
 use Rattle.std.proofs.Math.ListN.{set}
 use Rattle.std.specs.List.{slice_get}
 use Rattle.std.proofs.lemmas.Option.{same_Some, slice_get_past}
@@ -12,9 +12,9 @@ use Rattle.node_core.specs.declared.client.Client.{Client}
 use Rattle.node_core.specs.View.{NodeView}
 use Rattle.world.specs.World.{World, Backend, Connection, Hand, Issue, Session}
 use Rattle.world.specs.Changes.{holding}
-use Rattle.world.specs.Facts.{Process, Grip, grip_of, Face, face_of, processes_of, lasts_of, faces_of, IsOwnGrip, IsClientOf, AreClients, IsIn, GripFits, AllFitSlots, NumbersLeft, IsProcess, LinkStands, AllLinksStand, is_with_client, load_of, Facts}
+use Rattle.world.specs.Facts.{AreServers, Process, Grip, grip_of, Face, face_of, processes_of, lasts_of, faces_of, IsOwnGrip, IsClientOf, AreClients, IsIn, GripFits, AllFitSlots, NumbersLeft, IsProcess, LinkStands, AllLinksStand, is_with_client, load_of, Facts}
 use Rattle.world.proofs.Lists.{set_cases, read_map, map_write}
-use Rattle.world.proofs.Nodes.{one_grew, links_grew, nodes_grew, issues_grew, numbers_grew, with_links, Alters, moves_of, Belongs, SameBut, same_face, Regrips, one_regrips, was_in, is_in_still, link_stands_still, links_moved, other_grips, slots_moved, rest_moved}
+use Rattle.world.proofs.Nodes.{servers_regripped, one_grew, links_grew, nodes_grew, issues_grew, numbers_grew, with_links, Alters, moves_of, Belongs, SameBut, same_face, Regrips, one_regrips, was_in, is_in_still, link_stands_still, links_moved, other_grips, slots_moved, rest_moved}
 
 -- what is known of next numbers, whatever clients have in hand
 pub numbers_regripped : (nodes : List NodeView) (olds news : List Face) (processes : List Process) (connections : List Connection)
@@ -132,8 +132,9 @@ change_kept w p q s v u at hand c f =
     let back = sym (after_faces w p s t) in
     let news = set w.nodes q (with_links v u) in
     record {
-      servers = f.servers;
-      nodes = nodes_grew w.nodes news grew f.nodes;
+      servers = subst (λ (fs : List Face). AreServers w.group fs w.connections) back
+          (servers_regripped w.group faces (set faces p (face_of t)) w.connections regrips f.servers);
+      nodes = nodes_grew w.nodes news (length-set w.nodes q _) grew f.nodes;
       issues = issues_grew w.nodes news w.starts w.issues grew f.issues;
       clients = subst (AreClients w.issues (processes_of w) (lasts_of w)) back
           (clients_moved w.issues (processes_of w) (lasts_of w) faces p (face_of s) (face_of t) here like
@@ -190,7 +191,8 @@ emptied_kept w p s there out f =
     one_regrips faces p (face_of s) (face_of t) here like in
     let back = sym (after_faces w p s t) in
     record {
-      servers = f.servers;
+      servers = subst (λ (fs : List Face). AreServers w.group fs w.connections) back
+          (servers_regripped w.group faces (set faces p (face_of t)) w.connections regrips f.servers);
       nodes = f.nodes;
       issues = f.issues;
       clients = subst (AreClients w.issues (processes_of w) (lasts_of w)) back

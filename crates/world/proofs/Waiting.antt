@@ -1,5 +1,5 @@
 -- A node makes a step in which no place changes, and nobody gets a link or a permit.
-use Rattle.std.proofs.Common.{◌≡◌, ℕ, zero, suc, ◌≤◌, false, List, [], ◌∷◌, Option, Some, refl, ap, sym, ◌∙◌, arith}
+use Rattle.std.proofs.Common.{◌≡◌, ℕ, zero, suc, ◌≤◌, false, List, [], ◌∷◌, Option, Some, refl, ap, sym, ◌∙◌, arith, length-set}
 use Rattle.std.proofs.Math.ListN.{set}
 use Rattle.std.specs.List.{slice_get}
 use Rattle.std.proofs.lemmas.Option.{none-some}
@@ -131,7 +131,7 @@ wait_kept w q v u there waits f =
     let grew = one_grew w.nodes q v (with_links v u) there (links_grew v u waits.incarnation waits.link waits.ticket) in
     record {
       servers = f.servers;
-      nodes = nodes_grew w.nodes news grew f.nodes;
+      nodes = nodes_grew w.nodes news (length-set w.nodes q _) grew f.nodes;
       issues = issues_grew w.nodes news w.starts w.issues grew f.issues;
       clients = f.clients;
       slots = slots_moved w.nodes faces faces q v u there waits.incarnation (regrips_not faces) f.slots

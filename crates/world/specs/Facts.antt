@@ -77,8 +77,20 @@ abbrev pub OneServer : List NodeSettings → Type 0
 OneServer group = (node database : ℕ) (a b : Server) → IsServer group node database a
     → IsServer group node database b → a ≡ b
 
--- no two nodes have one number, numbers and slots are in their ranges, and each node has the number
--- and the databases of its settings
+-- a node has this database
+abbrev pub HasServer : List NodeSettings → ℕ → ℕ → Type 0
+HasServer group node database = (server : Server) × IsServer group node database server
+
+-- each client's database, and each cancel connection's server, is one of its node
+pub record AreServers (group : List NodeSettings) (faces : List Face) (connections : List Connection) : Type 0 where
+  pub one : OneServer group
+  pub clients : (i : ℕ) (face : Face) → slice_get faces i ≡ Some face
+      → HasServer group face.node face.database
+  pub asked : (i : ℕ) (connection : Connection) → slice_get connections i ≡ Some connection
+      → (database : ℕ) × IsServer group connection.ticket.peer database connection.server
+
+-- no two nodes have one number, numbers and slots are in their ranges, and the nodes have the numbers
+-- and the databases of the group's settings
 pub record AreNodes (group : List NodeSettings) (nodes : List NodeView) : Type 0 where
   pub once : (i j : ℕ) (a b : NodeView) → slice_get nodes i ≡ Some a → slice_get nodes j ≡ Some b
       → a.me ≡ b.me → i ≡ j
@@ -87,6 +99,7 @@ pub record AreNodes (group : List NodeSettings) (nodes : List NodeView) : Type 0
   pub settings : (i : ℕ) (v : NodeView) → slice_get nodes i ≡ Some v
       → (s : NodeSettings) × (slice_get group i ≡ Some s) × (s.peer_id ≡ v.me)
       × (pool_sizes s ≡ v.pools)
+  pub long : length nodes ≡ length group
 
 -- what a long key has behind its first eight bytes was given: the node had that boot, and in its
 -- present one the serials that are given next are greater
@@ -339,7 +352,7 @@ pub record AreForwards (flights : List (List ℕ)) (arrivals : List Arrival) (co
 
 -- what is true of every world
 pub record Facts (w : World) : Type 0 where
-  pub servers : OneServer w.group
+  pub servers : AreServers w.group (faces_of w) w.connections
   pub nodes : AreNodes w.group w.nodes
   pub issues : AreIssues w.nodes w.starts w.issues
   pub clients : AreClients w.issues (processes_of w) (lasts_of w) (faces_of w)
