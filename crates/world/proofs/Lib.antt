@@ -27,3 +27,4 @@ pub mod Restarting
 pub mod Starting
 pub mod EveryStep
 pub mod Finality
+pub mod Possible
