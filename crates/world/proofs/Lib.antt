@@ -28,3 +28,4 @@ pub mod Starting
 pub mod EveryStep
 pub mod Finality
 pub mod Possible
+pub mod EveryRun
