@@ -137,9 +137,11 @@ module _ (arrivals : List Arrival) (processes : List Process) (lasts : List (Opt
     clients = h.clients;
     asked = λ i x there.
         let a = came_from i x there in
-        let old = h.asked i a.0 a.1 in
-        (old.0, subst (λ (t : TicketRecord). IsServer group t.peer old.0 x.server) (sym a.2.ticket)
-        (subst (λ (s : Server). IsServer group a.0.ticket.peer old.0 s) (sym a.2.server) old.1));
+        let old = h.asked i a.0 a.1 in (
+          old.0,
+          subst (λ (t : TicketRecord). IsServer group t.peer old.0 x.server) (sym a.2.ticket)
+              (subst (λ (s : Server). IsServer group a.0.ticket.peer old.0 s) (sym a.2.server) old.1),
+        );
   }
 
   -- each is earned

@@ -1,24 +1,23 @@
 -- Every run of a group: where the steps of a node keep its view whole, each world is safe, and what is
 -- settled stays so.
-use Rattle.std.proofs.Common.{◌≡◌, ℕ, ◌<◌, ◌≤◌, ⊎_elim, Bool, true, false, List, [], ◌∷◌, Option, Some, None, Result, Ok, Err, length, refl, ap, sym, subst, ◌∙◌, arith}
+use Rattle.std.proofs.Common.{◌≡◌, ℕ, ◌<◌, ⊎_elim, List, [], ◌∷◌, Option, Some, None, Result, Ok, Err, length, ap, sym, subst, ◌∙◌}
 use Rattle.std.specs.List.{slice_get}
 use Rattle.std.proofs.lemmas.Option.{same_Some}
-use Rattle.pg_ids.specs.declared.any_key.{AnyKey.AnyKey, Kind.Kind}
-use Rattle.lease.specs.declared.{pass.PassRecord.PassRecord, ticket.TicketRecord.TicketRecord}
+use Rattle.lease.specs.declared.{pass.PassRecord.PassRecord}
 use Rattle.link_pool.specs.declared.replies.{AcquireReply.AcquireReply, UpReply.UpReply, RestartReply.RestartReply}
 use Rattle.ini_config.specs.Node.{NodeSettings, IsNode as IsNodeSettings}
 use Rattle.ini_config.specs.Group.{IsGroup}
 use Rattle.node_core.specs.declared.refusal.JoinRefusal.{JoinRefusal}
-use Rattle.node_core.specs.declared.exchange.{Order.Order, Exchange.Exchange}
+use Rattle.node_core.specs.declared.exchange.{Exchange.Exchange}
 use Rattle.node_core.specs.View.{NodeView, IsView}
 use Rattle.node_core.specs.NodeStep.{Asked, NodeStep}
 use Rattle.world.specs.declared.event.Event.{Event}
 use Rattle.world.specs.declared.reply.{Reply.Reply, Took.Took}
 use Rattle.world.specs.World.{World, Backend, Server, Session, nothing_yet}
-use Rattle.world.specs.Changes.{Steps, with_nodes, with_forward}
+use Rattle.world.specs.Changes.{Steps, with_nodes}
 use Rattle.world.specs.Admissible.{Admissible}
 use Rattle.world.specs.LinkEvents.{Joins, Acquires, Opened, GoesUp}
-use Rattle.world.specs.CancelEvents.{Makes, Comes, Strikes, StartsAnew, bound_by}
+use Rattle.world.specs.CancelEvents.{Comes, Strikes, StartsAnew}
 use Rattle.world.specs.WorldRun.{Does, WorldStep, Runs, AreFresh}
 use Rattle.world.specs.Facts.{IsEvent, AreWhole, Facts}
 use Rattle.world.proofs.Lists.{set_cases}

@@ -120,10 +120,12 @@ forward_on arrivals connections forwards k f g there origin onward = record {
   arrivals = λ i a h. h;
   connections = λ i c h. (c, h, refl, λ e. e);
   forwards = λ i y h. ⊎_elim
-      (λ same. let one : y ≡ f = same_Some y f (sym h ∙ ap (slice_get forwards) same ∙ there) in
-      (g, ap (slice_get (set forwards k g)) same ∙ set_here forwards k f g there,
-      origin ∙ ap (λ (z : Forward). z.origin) (sym one),
-      λ n e. onward n (ap (λ (z : Forward). z.accepted) (sym one) ∙ e)))
+      (λ same. let one : y ≡ f = same_Some y f (sym h ∙ ap (slice_get forwards) same ∙ there) in (
+        g,
+        ap (slice_get (set forwards k g)) same ∙ set_here forwards k f g there,
+        origin ∙ ap (λ (z : Forward). z.origin) (sym one),
+        λ n e. onward n (ap (λ (z : Forward). z.accepted) (sym one) ∙ e),
+      ))
       (λ apart. (y, set_there forwards k i g apart ∙ h, refl, λ n e. e))
       (cases_eq i k);
 }
@@ -134,8 +136,12 @@ forward_grows : (arrivals : List Arrival) (connections : List Connection) (forwa
 forward_grows arrivals connections forwards k f g there origin onward = record {
   on = forward_on arrivals connections forwards k f g there origin (λ n e. onward ∙ e);
   back = λ i n y at e below. ⊎_elim (λ was. (y, was.1, refl, e))
-      (λ new. (f, ap (slice_get forwards) new.0 ∙ there, sym origin ∙ ap (λ (z : Forward). z.origin) (sym new.1),
-      sym onward ∙ ap (λ (z : Forward). z.accepted) (sym new.1) ∙ e))
+      (λ new. (
+        f,
+        ap (slice_get forwards) new.0 ∙ there,
+        sym origin ∙ ap (λ (z : Forward). z.origin) (sym new.1),
+        sym onward ∙ ap (λ (z : Forward). z.accepted) (sym new.1) ∙ e,
+      ))
       (set_cases forwards k i y g at);
   longer = omega arith;
 }
@@ -211,23 +217,29 @@ restart_follows node boot RestartReply.Exhausted said nodes old new h =
 makes_follows : (node : ℕ) (given : Order TicketRecord) (said : Reply) (old made : World) → Makes node given said old made
     → Follows old made
 makes_follows node (Order.Serve ticket database key) said old made h =
-    subst (λ (w : World). Follows old w) (sym h.3) (grows_by old.arrivals old.arrivals old.connections (and_then old.connections h.0) old.forwards (record {
-      arrivals = λ i a at. at;
-      connections = λ i c at. (c, kept_behind old.connections (h.0 ∷ []) i c at, refl, λ e. e);
-      forwards = λ i f at. (f, at, refl, λ n e. e);
-    }) (omega arith), refl)
-makes_follows node (Order.Forward to packet) said old made h =
-    subst (λ (w : World). Follows old w) (sym h.1) (record {
-      on = record {
+    subst (λ (w : World). Follows old w) (sym h.3) (
+      grows_by old.arrivals old.arrivals old.connections (and_then old.connections h.0) old.forwards (record {
         arrivals = λ i a at. at;
-        connections = λ i c at. (c, at, refl, λ e. e);
-        forwards = λ i f at. (f, kept_behind old.forwards (new_forward old ∷ []) i f at, refl, λ n e. e);
-      };
-      back = λ i n g at e below. ⊎_elim (λ was. (g, was, refl, e))
-          (λ new. absurd (none-some n (ap (λ (z : Forward). z.accepted) (sym new.1) ∙ e)))
-          (added_cases old.forwards (new_forward old) i g at);
-      longer = omega arith;
-    }, refl)
+        connections = λ i c at. (c, kept_behind old.connections (h.0 ∷ []) i c at, refl, λ e. e);
+        forwards = λ i f at. (f, at, refl, λ n e. e);
+      }) (omega arith),
+      refl,
+    )
+makes_follows node (Order.Forward to packet) said old made h =
+    subst (λ (w : World). Follows old w) (sym h.1) (
+      record {
+        on = record {
+          arrivals = λ i a at. at;
+          connections = λ i c at. (c, at, refl, λ e. e);
+          forwards = λ i f at. (f, kept_behind old.forwards (new_forward old ∷ []) i f at, refl, λ n e. e);
+        };
+        back = λ i n g at e below. ⊎_elim (λ was. (g, was, refl, e))
+            (λ new. absurd (none-some n (ap (λ (z : Forward). z.accepted) (sym new.1) ∙ e)))
+            (added_cases old.forwards (new_forward old) i g at);
+        longer = omega arith;
+      },
+      refl,
+    )
 makes_follows node (Order.Unwait slot) said old made h =
     subst (λ (w : World). Follows old w) (sym h.1) (unchanged old)
 makes_follows node (Order.Refused reason) said old made h =
@@ -239,15 +251,18 @@ arrive_follows old new flight node key said x =
     let m = makes_follows node x.given said old x.made x.makes in
     let a : Arrival = record { flight = flight; node = node; key = key; order = x.given } in
     let long = length-append old.arrivals (a ∷ []) in
-    subst (λ (w : World). Follows old w) (sym x.after) (record {
-      on = record {
-        arrivals = λ i b at. kept_behind old.arrivals (a ∷ []) i b at;
-        connections = m.0.on.connections;
-        forwards = m.0.on.forwards;
-      };
-      back = m.0.back;
-      longer = omega (arith, long);
-    }, m.1)
+    subst (λ (w : World). Follows old w) (sym x.after) (
+      record {
+        on = record {
+          arrivals = λ i b at. kept_behind old.arrivals (a ∷ []) i b at;
+          connections = m.0.on.connections;
+          forwards = m.0.on.forwards;
+        };
+        back = m.0.back;
+        longer = omega (arith, long);
+      },
+      m.1,
+    )
 
 comes_follows : (old new : World) (flight node : ℕ) (said : Reply) → Comes flight node said old new
     → Follows old new
@@ -316,12 +331,12 @@ act_by old new struck place at c x (Some label) said there going strikes after f
       grows = connection_grows old place c (record c { acted = true }) there refl (λ e. e);
       kept = λ k z at_k. kept_behind old.interrupts (i ∷ []) k z at_k;
       stays = record {
-      still = λ n s. settled_still (connection_on old place c (record c { acted = true }) there refl (λ e. e)) n s;
-      quiet = λ n later k z settled comes past at_k is. ⊎_elim
-          (λ was. let below = before_end old.interrupts k z was in absurd (omega (arith, below, past)))
-          (λ new_i. differ c.ended (nothing_to_come old f n later place c settled comes there
-          (ap (λ (y : Interrupt). y.arrival) (sym new_i.1) ∙ is)) going)
-          (added_cases old.interrupts i k z at_k);
+        still = λ n s. settled_still (connection_on old place c (record c { acted = true }) there refl (λ e. e)) n s;
+        quiet = λ n later k z settled comes past at_k is. ⊎_elim
+            (λ was. let below = before_end old.interrupts k z was in absurd (omega (arith, below, past)))
+            (λ new_i. differ c.ended (nothing_to_come old f n later place c settled comes there
+            (ap (λ (y : Interrupt). y.arrival) (sym new_i.1) ∙ is)) going)
+            (added_cases old.interrupts i k z at_k);
       };
     })
   where

@@ -112,16 +112,18 @@ has_server w f q node database v is few =
     let settings = f.nodes.settings q v is.there in
     let long : length v.pools ≡ length settings.0.databases = ap length (sym settings.3)
     ∙ length-map settings.0.databases (λ (d : DatabaseSettings). d.pool_size) in
-    let at = entry_at settings.0.databases database (omega (arith, few, long)) in
-    (record { host = at.0.host; port = at.0.port }, record {
-      place = q;
-      settings = settings.0;
-      entry = at.0;
-      there = settings.1;
-      number = settings.2 ∙ is.named;
-      at = at.1;
-      is = refl;
-    })
+    let at = entry_at settings.0.databases database (omega (arith, few, long)) in (
+      record { host = at.0.host; port = at.0.port },
+      record {
+        place = q;
+        settings = settings.0;
+        entry = at.0;
+        there = settings.1;
+        number = settings.2 ∙ is.named;
+        at = at.1;
+        is = refl;
+      },
+    )
 
 -- a client has logged in
 joined_kept : (w : World) (q node label database secret : ℕ) (v n : NodeView) (kind : Kind) (pass : PassRecord)

@@ -1,25 +1,25 @@
 -- What an event needs is there: the node of a session and of a ticket, the server process of a link
 -- and of a cancel connection, the client of a slot; and a node never answers that a client with
 -- nothing in hand holds something.
-use Rattle.std.proofs.Common.{◌≡◌, ◌≢◌, ℕ, ◌<◌, ◌≤◌, zero, suc, [], ◌∷◌, Bool, true, false, List, Option, Some, None, length, map, get_or, refl, ap, sym, subst, ◌∙◌, arith, ◌==◌, ◌&&◌}
+use Rattle.std.proofs.Common.{◌≡◌, ◌≢◌, ℕ, ◌<◌, zero, suc, [], ◌∷◌, Bool, true, false, List, Option, Some, None, length, refl, ap, sym, subst, ◌∙◌, arith, ◌==◌, ◌&&◌}
 use Rattle.std.specs.List.{slice_get}
 use Rattle.std.specs.Option.{is_some, option_map}
-use Rattle.std.proofs.lemmas.Option.{same_Some, none-some, slice_get-map, slice_get-get_or}
+use Rattle.std.proofs.lemmas.Option.{same_Some, none-some, slice_get-map}
 use Rattle.pg_ids.specs.AnyKey.{IsAnyKey, peer_of, slot_of}
 use Rattle.pg_ids.specs.declared.any_key.AnyKey.{AnyKey}
 use Rattle.key_table.specs.declared.entry.Entry.{Entry}
 use Rattle.key_table.specs.Slots.{is_opened}
-use Rattle.lease.specs.declared.{link_record.LinkRecord.LinkRecord, link_place.LinkPlace.LinkPlace, ticket.TicketRecord.TicketRecord}
-use Rattle.link_pool.specs.declared.place.{Place.Place, Link.Link, Claim.Claim}
+use Rattle.lease.specs.declared.{link_place.LinkPlace.LinkPlace, ticket.TicketRecord.TicketRecord}
+use Rattle.link_pool.specs.declared.place.{Place.Place, Link.Link}
 use Rattle.link_pool.specs.Pool.{PoolView, place_at}
 use Rattle.link_pool.specs.PoolStep.{is_holding, Serves as PoolServes}
 use Rattle.ini_config.specs.Node.{NodeSettings}
 use Rattle.node_core.specs.declared.client.Client.{Client}
 use Rattle.node_core.specs.View.{NodeView, IsView, IsClient}
-use Rattle.world.specs.World.{World, Backend, Connection, Hand, Server, Session, IsBackend, IsNode, IsServer}
+use Rattle.world.specs.World.{World, Backend, Connection, Hand, Session, IsBackend, IsNode, IsServer}
 use Rattle.world.specs.LinkEvents.{IsLeased}
-use Rattle.world.specs.CancelEvents.{IsInSlot, Holds, IsHolder, IsConnection}
-use Rattle.world.specs.Facts.{Process, process_of, Grip, grip_of, Face, face_of, processes_of, faces_of, IsIn, GripFits, HasServer, Facts, AreWhole}
+use Rattle.world.specs.CancelEvents.{IsInSlot, Holds, IsConnection}
+use Rattle.world.specs.Facts.{Process, process_of, grip_of, Face, face_of, IsIn, GripFits, HasServer, Facts, AreWhole}
 use Rattle.world.proofs.Lists.{before_end, read_map, from_map}
 use Rattle.world.proofs.Holding.{link_place}
 use Rattle.world.proofs.Keys.{TakesHome}
@@ -41,11 +41,14 @@ settings_node w f node place s there named =
     at_place : (o : Option NodeView) → slice_get w.nodes place ≡ o → place < length w.nodes → HasNodeAt w node
     at_place (Some v) at few =
         let settings = f.nodes.settings place v at in
-        let one : settings.0 ≡ s = same_Some settings.0 s (sym settings.1 ∙ there) in
-        (place, v, record {
-          there = at;
-          named = sym settings.2 ∙ ap (λ (z : NodeSettings). z.peer_id) one ∙ named;
-        })
+        let one : settings.0 ≡ s = same_Some settings.0 s (sym settings.1 ∙ there) in (
+          place,
+          v,
+          record {
+            there = at;
+            named = sym settings.2 ∙ ap (λ (z : NodeSettings). z.peer_id) one ∙ named;
+          },
+        )
     at_place None at few = absurd (within w.nodes place few at)
       where
         within : (vs : List NodeView) (i : ℕ) → i < length vs → slice_get vs i ≢ None
@@ -86,12 +89,14 @@ pub connection_backend : (w : World) → Facts w → (k : ℕ) (c : Connection) 
     → (backend : Backend) × IsBackend w.backends c.server c.key c.backend backend
 connection_backend w f k c there =
     let h = f.connections.each k c there in
-    let b = from_map process_of w.backends c.backend h.process h.there in
-    (b.0, record {
-      there = b.1;
-      of = ap (λ (p : Process). p.server) b.2 ∙ h.server;
-      by = ap (λ (p : Process). p.key) b.2 ∙ h.key;
-    })
+    let b = from_map process_of w.backends c.backend h.process h.there in (
+      b.0,
+      record {
+        there = b.1;
+        of = ap (λ (p : Process). p.server) b.2 ∙ h.server;
+        by = ap (λ (p : Process). p.key) b.2 ∙ h.key;
+      },
+    )
 
 both_true : (a b : Bool) → a && b ≡ true → b ≡ true
 both_true true b h = h
@@ -127,21 +132,25 @@ named_client w f whole q node v key is home =
     let fits = (f.slots q v is.there).fits face.0 face.1 face.2 face.3 in
     let client : Client = record { database = face.1.database; pass = face.1.pass.number } in
     let one : client ≡ live.0 = same_Some client live.0 (same_Some (Some client) (Some live.0)
-    (sym fits.client ∙ ap (slice_get v.clients) face.4 ∙ live.1)) in
-    (s.0.label, record {
-      at = q;
-      view = v;
-      is = is;
-      client = live.0;
-      live = live.1;
-      place = face.0;
-      session = s.0;
-      there = record { there = s.1; named = refl };
-      stays = stays;
-      here = ap (λ (z : Face). z.node) s.2 ∙ face.3.node ∙ is.named;
-      pass = (ap (λ (z : Face). z.pass.number) s.2 ∙ ap (λ (c : Client). c.pass) one,
-          ap (λ (z : Face). z.pass.incarnation) s.2 ∙ face.3.incarnation);
-    })
+    (sym fits.client ∙ ap (slice_get v.clients) face.4 ∙ live.1)) in (
+      s.0.label,
+      record {
+        at = q;
+        view = v;
+        is = is;
+        client = live.0;
+        live = live.1;
+        place = face.0;
+        session = s.0;
+        there = record { there = s.1; named = refl };
+        stays = stays;
+        here = ap (λ (z : Face). z.node) s.2 ∙ face.3.node ∙ is.named;
+        pass = (
+          ap (λ (z : Face). z.pass.number) s.2 ∙ ap (λ (c : Client). c.pass) one,
+          ap (λ (z : Face). z.pass.incarnation) s.2 ∙ face.3.incarnation,
+        );
+      },
+    )
 
 -- a client with nothing in hand holds nothing, as its node sees it
 pub holds_nothing : (w : World) → Facts w → (p q : ℕ) (s : Session) (v : NodeView)
@@ -177,20 +186,22 @@ order_connection w f whole q label node database v u key server_key ticket is is
       acted = false;
       ended = false;
       report = None;
-    } in
-    (c, record {
-      server = h.1.process.server;
-      place = h.0;
-      backend = b.0;
-      holder = Some label;
-      at = subst (λ (d : ℕ). IsServer w.group node d h.1.process.server) database_is
-          (subst (λ (m : ℕ). IsServer w.group m link.details.at.database h.1.process.server) is.named h.1.server);
-      runs = record {
-        there = b.1;
-        of = ap (λ (p : Process). p.server) b.2;
-        by = ap (λ (p : Process). p.key) b.2 ∙ h.1.key ∙ sym serves.of.1;
-      };
-      held = subst (λ (m : ℕ). Holds w node m h.0 label)
-          (sym (ap (λ (t : TicketRecord). t.incarnation) serves.says)) has.holds;
-      is = refl;
-    })
+    } in (
+      c,
+      record {
+        server = h.1.process.server;
+        place = h.0;
+        backend = b.0;
+        holder = Some label;
+        at = subst (λ (d : ℕ). IsServer w.group node d h.1.process.server) database_is
+            (subst (λ (m : ℕ). IsServer w.group m link.details.at.database h.1.process.server) is.named h.1.server);
+        runs = record {
+          there = b.1;
+          of = ap (λ (p : Process). p.server) b.2;
+          by = ap (λ (p : Process). p.key) b.2 ∙ h.1.key ∙ sym serves.of.1;
+        };
+        held = subst (λ (m : ℕ). Holds w node m h.0 label)
+            (sym (ap (λ (t : TicketRecord). t.incarnation) serves.says)) has.holds;
+        is = refl;
+      },
+    )

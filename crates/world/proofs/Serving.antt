@@ -129,9 +129,11 @@ served_kept w q b v at link c whole is f =
         one = f.servers.one;
         clients = f.servers.clients;
         asked = λ i y at_i. ⊎_elim (λ was. f.servers.asked i y was)
-            (λ new_c. subst (λ (z : Connection). (d : ℕ) × IsServer w.group z.ticket.peer d z.server) (sym new_c.1)
-            (link.details.at.database, subst (λ (m : ℕ). IsServer w.group m link.details.at.database c.server) (sym is.peer)
-            (subst (λ (z : Server). IsServer w.group v.me link.details.at.database z) is.server is.process.server)))
+            (λ new_c. subst (λ (z : Connection). (d : ℕ) × IsServer w.group z.ticket.peer d z.server) (sym new_c.1) (
+              link.details.at.database,
+              subst (λ (m : ℕ). IsServer w.group m link.details.at.database c.server) (sym is.peer)
+                  (subst (λ (z : Server). IsServer w.group v.me link.details.at.database z) is.server is.process.server),
+            ))
             (added_cases w.connections c i y at_i);
       };
       nodes = nodes_grew w.nodes news (length-set w.nodes q _) grew f.nodes;

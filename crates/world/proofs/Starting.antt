@@ -79,9 +79,12 @@ nothing_facts group nodes is ranges fresh = record {
         );
     long = AllZip-long (λ (settings : NodeSettings). IsFresh settings 0) group nodes fresh;
     settings = λ i v at.
-        let x = fresh_at group nodes fresh i v at in
-        (x.0, x.1, sym (ap (λ (z : NodeView). z.me) x.2.fields),
-        sym (ap (λ (z : NodeView). z.pools) x.2.fields));
+        let x = fresh_at group nodes fresh i v at in (
+          x.0,
+          x.1,
+          sym (ap (λ (z : NodeView). z.me) x.2.fields),
+          sym (ap (λ (z : NodeView). z.pools) x.2.fields),
+        );
   };
   issues = record {
     booted = λ i v at.
