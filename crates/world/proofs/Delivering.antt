@@ -32,7 +32,7 @@ use Rattle.world.proofs.Arriving.{slot_owner, arrived_kept, taken_kept, IsNewFor
 use Rattle.world.proofs.Serving.{IsNewConnection, served_kept, claim_holder, holder_is}
 
 -- what each order tells of the way that was found
-orders_serve : (slot : ℕ) (way : Route) (ticket : TicketRecord) (database : ℕ) (key : List ℕ) (v n : NodeView)
+pub orders_serve : (slot : ℕ) (way : Route) (ticket : TicketRecord) (database : ℕ) (key : List ℕ) (v n : NodeView)
     → Orders slot way (Order.Serve ticket database key) v n
     → IsHome way × LinksStep (ServeStep slot (ServeReply.Serve ticket database key)) v n
 orders_serve slot (Route.Send link) ticket database key v n h = (tt, h.1)
@@ -40,14 +40,14 @@ orders_serve slot (Route.Forward peer k) ticket database key v n h = absurd h
 orders_serve slot (Route.Unwait waiting) ticket database key v n h = absurd h
 orders_serve slot (Route.Refused reason) ticket database key v n h = absurd h
 
-orders_unwait : (slot : ℕ) (way : Route) (told : ℕ) (v n : NodeView) → Orders slot way (Order.Unwait told) v n
+pub orders_unwait : (slot : ℕ) (way : Route) (told : ℕ) (v n : NodeView) → Orders slot way (Order.Unwait told) v n
     → IsHome way × ((waiting : ℕ) × LinksStep (UnwaitStep waiting) v n)
 orders_unwait slot (Route.Unwait waiting) told v n h = (tt, (waiting, h.1))
 orders_unwait slot (Route.Send link) told v n h = absurd h
 orders_unwait slot (Route.Forward peer k) told v n h = absurd h
 orders_unwait slot (Route.Refused reason) told v n h = absurd h
 
-orders_forward : (slot : ℕ) (way : Route) (to : ℕ) (packet : Packet) (v n : NodeView)
+pub orders_forward : (slot : ℕ) (way : Route) (to : ℕ) (packet : Packet) (v n : NodeView)
     → Orders slot way (Order.Forward to packet) v n → n ≡ v
 orders_forward slot (Route.Forward peer k) to packet v n h = h.2
 orders_forward slot (Route.Send link) to packet v n h = absurd h
@@ -69,7 +69,7 @@ refused_home r reason same takes =
 same_links : (v n : NodeView) → n.links ≡ v.links → n ≡ with_links v n.links → n ≡ v
 same_links v n links node = node ∙ ap (with_links v) links
 
-orders_refused : (slot : ℕ) (way : Route) (reason : CancelRefusal) (v n : NodeView)
+pub orders_refused : (slot : ℕ) (way : Route) (reason : CancelRefusal) (v n : NodeView)
     → Orders slot way (Order.Refused reason) v n
     → (n ≡ v) × (takes_key (Order.Refused reason) ≡ true → IsHome way)
 orders_refused slot (Route.Refused r) reason v n h = (h.1, λ takes. refused_home r reason h.0 takes)
