@@ -92,11 +92,18 @@ fn long_keys(rt: HostRuntime) -> Result<(), Fail> {
     }
     let short = AnyKey::from_short_bytes([0, 8, 0, 0, 0, 0, 0, 7]);
     assert_eq!(rt; table.find(&short), None);
+    Ok(())
+}
 
-    // A slot with a short key, and a long one.
-    table.retire(SlotNo(0));
-    assert_eq!(rt; table.issue(Secret(1), None)?, short);
+// A slot whose key was long gets a short one, and the long one names it no more.
+#[test]
+fn one_slot_with_keys_of_both_kinds(rt: HostRuntime) -> Result<(), Fail> {
+    let peer = PeerNo::new(2).ok_or("no peer 2")?;
+    let mut table = KeyTable::new(rt.alloc(), peer, 1)?;
+    let long = table.issue(Secret(1), Some(LongPart::new(Boot(3), Serial(4))))?;
+    table.retire(long.slot());
+    let short = table.issue(Secret(1), None)?;
     assert_eq!(rt; table.find(&short), Some(SlotNo(0)));
-    assert_eq!(rt; table.find(&key), None);
+    assert_eq!(rt; table.find(&long), None);
     Ok(())
 }

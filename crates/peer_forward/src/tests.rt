@@ -119,12 +119,14 @@ struct Carried {
     reads: u32,
 }
 
-fn carried(outcome: Outcome, written: usize, writes: u32, reads: u32) -> Carried {
-    Carried {
-        outcome,
-        written,
-        writes,
-        reads,
+impl Carried {
+    const fn new(outcome: Outcome, written: usize, writes: u32, reads: u32) -> Carried {
+        Carried {
+            outcome,
+            written,
+            writes,
+            reads,
+        }
     }
 }
 
@@ -295,7 +297,7 @@ const STREAMS: [(usize, usize, usize, Full, Reply, Outcome, usize, u32, u32); 16
 #[test]
 fn outcomes(rt: HostRuntime) -> Result<(), Fail> {
     for (length, at_once, room, full, reply, outcome, written, writes, reads) in STREAMS {
-        let expected = carried(outcome, written, writes, reads);
+        let expected = Carried::new(outcome, written, writes, reads);
         for packet in &PACKETS {
             if packet.as_slice().len() == length {
                 let mut wire = Wire::new(rt.alloc(), at_once, room, full, reply)?;
@@ -315,7 +317,7 @@ fn assert_stops_at(
     full: Full,
 ) -> Result<(), AllocError> {
     let mut wire = Wire::new(rt.alloc(), 1, room as usize, full, Reply::End)?;
-    let expected = carried(Outcome::Failed, room as usize, room.saturating_add(1), 0);
+    let expected = Carried::new(Outcome::Failed, room as usize, room.saturating_add(1), 0);
     assert_carried(rt, &mut wire, packet, &expected);
     Ok(())
 }
@@ -349,6 +351,13 @@ struct Interrupted {
 }
 
 impl Interrupted {
+    fn new(alloc: Global, at: usize) -> Interrupted {
+        Interrupted {
+            at,
+            calls: Vec::new(alloc),
+        }
+    }
+
     // Lists a call, which fails where it is the interrupted one.
     fn call(&mut self, kind: Kind) -> io::Result<()> {
         let at = self.calls.len();
@@ -382,22 +391,14 @@ impl ReadCalls for Interrupted {
     }
 }
 
-// A stream whose call with this number is interrupted.
-fn interrupted(alloc: Global, at: usize) -> Interrupted {
-    Interrupted {
-        at,
-        calls: Vec::new(alloc),
-    }
-}
-
 // An interrupted call has failed, and is the last of those that carry the packet.
 fn assert_stops(rt: &(impl Abort + AllocGlobal), packet: &Packet, calls: &[Kind]) {
     for at in 0..calls.len() {
-        let mut stream = interrupted(rt.alloc(), at);
+        let mut stream = Interrupted::new(rt.alloc(), at);
         assert_eq!(rt; carry(&mut stream, *packet), Outcome::Failed);
         assert_eq!(rt; calls.get(..at + 1), Some(stream.calls.as_slice()));
     }
-    let mut stream = interrupted(rt.alloc(), calls.len());
+    let mut stream = Interrupted::new(rt.alloc(), calls.len());
     assert_eq!(rt; carry(&mut stream, *packet), Outcome::Ended);
     assert_eq!(rt; stream.calls.as_slice(), calls);
 }

@@ -138,7 +138,8 @@ fn cancel_requests(rt: HostRuntime) {
     is_request(&rt, &mut opening, CANCEL);
     is_request(&rt, &mut opening, LONG_CANCEL);
     let followed = b"\0\0\0\x10\x04\xd2\x16\x2e\0\x08\0\0\0\0\0\x07more";
-    assert!(rt; is_cancel_of(&opening.read(followed, false), &CANCEL[8..]));
+    let key = [0, 8, 0, 0, 0, 0, 0, 7];
+    assert!(rt; is_cancel_of(&opening.read(followed, false), &key));
 }
 
 // A key of 24 bytes that begins as this one; its boot and serial are 0.
@@ -326,8 +327,9 @@ fn ends_login(
 ) -> Result<(), StartupError> {
     let mut out = Vec::new(rt.alloc());
     write_login(key, &mut out)?;
-    assert_eq!(rt; out.get(..84), Some(GREETING.as_slice()));
-    assert_eq!(rt; out.get(84..), Some(ending));
+    assert!(rt; out.len() >= 84);
+    assert_eq!(rt; &out[..84], GREETING.as_slice());
+    assert_eq!(rt; &out[84..], ending);
     Ok(())
 }
 
@@ -358,10 +360,8 @@ fn replies(rt: HostRuntime) -> Result<(), Fail> {
     write_error(Severity::Fatal, code.code(), code.message(), &mut out)?;
     assert_eq!(rt; out.as_slice(), error.as_slice());
     write_startup("ann", "shop", &mut out)?;
-    assert_eq!(rt; out.get(45..), Some(STARTUP.as_slice()));
-    write_login(None, &mut out)?;
-    assert_eq!(rt; out.get(77..161), Some(GREETING.as_slice()));
-    assert_eq!(rt; out.len(), 167);
+    assert_eq!(rt; out.len(), 77);
+    assert_eq!(rt; &out[45..], STARTUP.as_slice());
     Ok(())
 }
 
