@@ -1,12 +1,14 @@
-//! The table: an entry for each live slot, and the free slots, of which the last is given next.
-ghost use Rattle.std.specs.Prelude.{◌≡◌, ◌≤◌, ◌↔◌, Option, None, Some, IsErr, IfOk, OnErr, [], length, replicate, vec_capacity, if◌then◌else◌};
+//! The table: a slab with an entry for each live slot, under the slot's number.
+ghost use Rattle.std.specs.Prelude.{◌≡◌, ◌≤◌, ◌↔◌, Option, None, Some, IsErr, IfOk, OnErr, length, replicate, slice_set, if◌then◌else◌};
+ghost use Rattle.slab.specs.Slab.{HasRoomFor};
 ghost use Rattle.pg_ids.specs.AnyKey.{slot_of};
 ghost use Rattle.key_table.specs.Slots.{Slots, names, IsNext, IsFree, IsLive, Issues, Frees};
-ghost use Rattle.key_table.specs.FreeList.{IsFreeList};
+ghost use Rattle.key_table.specs.Live.{slots_of, IsTable};
 
 use crate::entry::{Entry, Issued};
 use crate::refusal::Full;
 use pg_ids::{AnyKey, ClientKey, Hops, LongPart, PeerNo, Secret, SlotNo};
+use slab::Slab;
 use std::alloc::{AllocError, Global};
 use std::marker::Model;
 
@@ -14,26 +16,18 @@ use std::marker::Model;
 #[derive(Debug, Drop)]
 pub struct KeyTable {
     peer: PeerNo,
-    entries: Vec<Option<Entry>>,
-    free: Vec<SlotNo>,
+    live: Slab<Entry>,
 }
 
 impl Model for KeyTable {
-    ghost use Rattle.std.specs.Prelude.{◌≤◌, ◌-◌, length, slice_get, vec_len, vec_capacity};
     ghost use Rattle.key_table.specs.Slots.{Slots};
-    ghost use Rattle.key_table.specs.FreeList.{IsFreeList};
+    ghost use Rattle.key_table.specs.Live.{slots_of, next_of, IsTable};
 
     ghost Value = { Slots };
 
-    ghost view = { λ t. record {
-      peer = t.peer;
-      entries = t.entries.items;
-      next = slice_get t.free.items (length t.free.items - 1);
-    } };
+    ghost view = { λ t. record { peer = t.peer; entries = slots_of t.live; next = next_of t.live } };
 
-    ghost invariant = { λ t.
-        (vec_len t.entries ≤ 65536) × (vec_len t.entries ≤ vec_capacity t.free)
-        × IsFreeList t.entries.items t.free.items };
+    ghost invariant = { λ t. IsTable t.live };
 }
 
 impl KeyTable {
@@ -46,23 +40,24 @@ impl KeyTable {
         ensures free { IfOk result (λ t. t.entries ≡ replicate limit None) }
         ensures next { IfOk result (λ t. IsNext t.entries t.next) }
     {
-        let entries = vec![in alloc; None; limit as usize]?;
-        let mut free = Vec::with_capacity(alloc, limit as usize)?;
-        list_all(&mut free, limit);
-        Ok(KeyTable {
-            peer,
-            entries,
-            free,
-        })
+        let live = Slab::with_capacity(alloc, limit as usize)?;
+        // The slab may take more room than it is asked for, and each place is a slot.
+        if live.capacity() != limit as usize {
+            return Err(AllocError);
+        }
+        Ok(KeyTable { peer, live })
     }
 
-    #[tactic(auto, using(crate::proofs::FreeLists::next_of))]
     /// The slot that `issue` gives next, and none where each slot is live.
     pub fn next_slot(&self) -> Option<SlotNo>
         ensures value { result ≡ self.now.next }
         ensures free { IsNext self.now.entries result }
     {
-        self.free.last().copied()
+        if self.live.len() < self.live.capacity() {
+            Some(SlotNo(self.live.vacant_key() as u16))
+        } else {
+            None
+        }
     }
 
     /// Makes the next slot live with this secret, and returns its key, with all its hops: a long
@@ -76,26 +71,23 @@ impl KeyTable {
         ensures next { IsNext self.new.entries self.new.next }
         ensures err { OnErr result (self.new ≡ self.old) }
     {
-        let Some(slot) = self.free.pop() else {
+        let Some(slot) = self.next_slot() else {
             return Err(Full);
         };
         let first = ClientKey::new(self.peer, slot, secret, Hops::MAX);
         let issued = Issued::new(first, long);
-        self.entries[slot.get() as usize] = Some(issued.entry);
+        fill_next(&mut self.live, issued.entry);
         Ok(issued.key)
     }
 
     /// The slot that the key names: the peer is this table's, and the slot is live with a key of
     /// this kind, this secret and, if the key is long, this part.
+    #[tactic(auto, using(crate::proofs::Tables::opened_at))]
     pub fn find(&self, key: &AnyKey) -> Option<SlotNo>
         ensures { result ≡ (if names self.now key.now then Some (slot_of key.now) else None) }
     {
         let short = key.short();
-        let entry = self
-            .entries
-            .get(short.slot.get() as usize)
-            .copied()
-            .flatten()?;
+        let entry = self.live.get(short.slot.get() as usize).copied()?;
         if short.peer == self.peer && entry.opens(key) {
             Some(short.slot)
         } else {
@@ -109,8 +101,7 @@ impl KeyTable {
         ensures freed { Frees self.old slot self.new }
         ensures next { IsNext self.new.entries self.new.next }
     {
-        self.entries[slot.get() as usize] = None;
-        self.free.push_reserved(slot);
+        self.live.remove(slot.get() as usize);
     }
 
     /// Each slot is free again, as in a new table. It takes no memory.
@@ -119,22 +110,22 @@ impl KeyTable {
         ensures free { self.new.entries ≡ replicate (length self.old.entries) None }
         ensures next { IsNext self.new.entries self.new.next }
     {
-        let limit = self.entries.len() as u32;
-        self.entries.fill(None);
-        self.free.clear();
-        list_all(&mut self.free, limit);
+        self.live.clear();
     }
 }
 
-// Lists so many slots as free, the last one first.
-fn list_all(free: &mut Vec<SlotNo>, limit: u32)
-    requires none { free.old.items ≡ [] }
-    requires room { limit ≤ vec_capacity free.old }
-    requires within { limit ≤ 65536 }
-    ensures listed { IsFreeList (replicate limit None) free.new.items }
-    ensures capacity { vec_capacity free.new ≡ vec_capacity free.old }
+// Stores the entry in the next slot. The slab tells a key's range only as it gives the key, so
+// where a slot is left, the key after is given too, and taken back.
+fn fill_next(live: &mut Slab<Entry>, entry: Entry)
+    requires table { IsTable live.old }
+    requires room { HasRoomFor live.old 1 }
+    ensures table { IsTable live.new }
+    ensures filled { slots_of live.new ≡ slice_set (slots_of live.old) live.old.vacant_key (Some entry) }
 {
-    for slot in (0..limit).rev() {
-        free.push_reserved(SlotNo(slot as u16));
+    live.insert_reserved(entry);
+    if live.len() == live.capacity() {
+        return;
     }
+    let next = live.insert_reserved(Entry::Short(Secret(0)));
+    live.remove(next);
 }

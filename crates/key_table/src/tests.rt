@@ -70,6 +70,39 @@ fn retired(rt: HostRuntime) -> Result<(), Fail> {
     Ok(())
 }
 
+#[test]
+fn given_again(rt: HostRuntime) -> Result<(), Fail> {
+    let peer = PeerNo::new(0).ok_or("no peer 0")?;
+    let mut table = KeyTable::new(rt.alloc(), peer, 1)?;
+    let key = table.issue(Secret(7), None)?;
+    table.retire(key.short().slot);
+    let again = table.issue(Secret(8), None)?;
+    assert_eq!(rt; table.find(&again), Some(SlotNo(0)));
+    assert_eq!(rt; table.find(&key), None);
+    Ok(())
+}
+
+#[test]
+fn each_slot_once(rt: HostRuntime) -> Result<(), Fail> {
+    let (mut table, first, second) = two_live(rt.alloc(), 3)?;
+    let third = table.issue(Secret(6), None)?;
+    assert_eq!(rt; table.issue(Secret(7), None), Err(Full));
+    assert_eq!(rt; table.find(&first), Some(SlotNo(0)));
+    assert_eq!(rt; table.find(&second), Some(SlotNo(1)));
+    assert_eq!(rt; table.find(&third), Some(SlotNo(2)));
+    Ok(())
+}
+
+#[test]
+fn largest(rt: HostRuntime) -> Result<(), Fail> {
+    let (mut table, first, second) = two_live(rt.alloc(), 65_536)?;
+    assert_eq!(rt; table.next_slot(), Some(SlotNo(2)));
+    table.clear();
+    assert_eq!(rt; table.find(&first), table.find(&second));
+    assert_eq!(rt; table.next_slot(), Some(SlotNo(0)));
+    Ok(())
+}
+
 // The bytes of a long key of peer 2, slot 0, secret 1, by its boot and serial, both below 256.
 const fn long_bytes(boot: u8, serial: u8) -> [u8; 24] {
     [
