@@ -214,6 +214,9 @@ not_free_at pools at pool there not h =
 pub not_idle_at : {S : Type 0} (pools : List (Entries S)) (at : LinkPlace) (pool : Entries S) → slice_get pools at.database ≡ Some pool → idle_entry (slice_get pool.entries at.index) ≡ false → is_idle (place_in (slice_get (map pool_in pools) at.database) at.index) ≡ false
 not_idle_at pools at pool there not = ap is_idle (seen_at pools at ∙ ap (option_map place_of) (ap (λ o. entry_in o at.index) there)) ∙ not
 
+pub idle_at : {S : Type 0} (pools : List (Entries S)) (at : LinkPlace) (pool : Entries S) → slice_get pools at.database ≡ Some pool → idle_entry (slice_get pool.entries at.index) ≡ true → is_idle (place_in (slice_get (map pool_in pools) at.database) at.index) ≡ true
+idle_at pools at pool there is = ap is_idle (seen_at pools at ∙ ap (option_map place_of) (ap (λ o. entry_in o at.index) there)) ∙ is
+
 pub pool_seen : {S : Type 0} (pools : List (Entries S)) (d : ℕ) (pool : Entries S) → slice_get pools d ≡ Some pool → slice_get (map pool_in pools) d ≡ Some (pool_in pool)
 pool_seen pools d pool there = slice_get-map pool_in pools d ∙ ap (option_map pool_in) there
 

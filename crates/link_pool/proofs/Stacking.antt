@@ -1,5 +1,5 @@
 -- A pool's stacks, once a place has changed.
-use Rattle.std.proofs.Common.{◌≡◌, ◌≢◌, ℕ, zero, suc, ◌+◌, ◌-◌, ◌<◌, ◌≤◌, ◌==◌, Bool, true, false, List, [], ◌∷◌, ◌++◌, Option, None, Some, IfNone, length, replicate, take, refl, ap, subst, sym, ◌∙◌, arith, length-append, append_assoc, ⊎_elim, if◌then◌else◌}
+use Rattle.std.proofs.Common.{◌≡◌, ◌≢◌, ℕ, zero, suc, ◌+◌, ◌-◌, ◌<◌, ◌≤◌, ◌==◌, Bool, true, false, List, [], ◌∷◌, ◌++◌, Option, None, Some, IfNone, IfSome, length, replicate, take, refl, ap, subst, sym, ◌∙◌, arith, length-append, append_assoc, ⊎_elim, if◌then◌else◌}
 use Rattle.std.proofs.Math.ListN.{set}
 use Rattle.std.specs.List.{slice_get}
 use Rattle.std.proofs.lemmas.List.{length-replicate, get_or-replicate}
@@ -130,6 +130,11 @@ none_next kind xs stack (Some s) keeps e = tt
 
 pub of_top : {X : Type 0} (kind : Option X → Bool) (xs : List X) (stack : List ℕ) (s : ℕ) → IsStack kind xs stack → top stack ≡ Some s → kind (slice_get xs s) ≡ true
 of_top kind xs stack s keeps h = last_of kind xs stack (under_top stack) s (top_split stack s h) keeps
+
+-- what is taken next is of the kind
+pub next_listed : {X : Type 0} (kind : Option X → Bool) (xs : List X) (stack : List ℕ) (o : Option ℕ) → IsStack kind xs stack → o ≡ top stack → IfSome o (λ i. kind (slice_get xs i) ≡ true)
+next_listed kind xs stack None keeps e = tt
+next_listed kind xs stack (Some s) keeps e = of_top kind xs stack s keeps (sym e)
 
 -- the place that is taken next is taken off
 pub topped : {X : Type 0} (kind : Option X → Bool) (xs : List X) (stack : List ℕ) (s : ℕ) (old new : X) → top stack ≡ Some s → slice_get xs s ≡ Some old → kind (Some new) ≡ false → IsStack kind xs stack → IsStack kind (set xs s new) (under_top stack)

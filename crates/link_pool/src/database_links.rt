@@ -1,5 +1,5 @@
 //! The links of one database: its places, and which of them are free or have an idle link.
-ghost use Rattle.std.specs.Prelude.{vec_capacity, ◌≡◌, ◌≢◌, ◌<◌, ◌≤◌, ℕ, [], true, false, Some, IfSome, IfNone, IfOk, length, slice_get, option_map, replicate};
+ghost use Rattle.std.specs.Prelude.{vec_capacity, ◌≡◌, ◌≢◌, ◌<◌, ◌≤◌, ℕ, [], true, false, Some, IfSome, IfNone, IfOk, length, map, slice_get, option_map, replicate};
 ghost use Rattle.link_pool.specs.declared.entry.Entry.{Entry as EntryOf};
 ghost use Rattle.link_pool.specs.declared.entry.Entry.TheVariants as entry;
 ghost use Rattle.link_pool.specs.PoolStep.{is_idle};
@@ -106,6 +106,26 @@ impl<S: Drop> DatabaseLinks<S> {
         ensures none { IfNone result ((i : ℕ) → free_entry (slice_get self.now.entries i) ≡ false) }
     {
         self.free.last().copied()
+    }
+
+    // The place of the idle link that is got next, if one is idle.
+    pub(crate) fn next_idle(&self) -> Option<u16>
+        ensures idle { IfSome result
+            (λ index. idle_entry (slice_get self.now.entries index) ≡ true) }
+        ensures none { IfNone result ((i : ℕ) → idle_entry (slice_get self.now.entries i) ≡ false) }
+    {
+        self.idle.last().copied()
+    }
+
+    // What is at each place.
+    pub(crate) fn places(&self, alloc: Global) -> Result<Vec<Place>, AllocError>
+        ensures { IfOk result (λ places. places.items ≡ map place_of self.now.entries) }
+    {
+        let mut places = Vec::with_capacity(alloc, self.entries.len())?;
+        for index in 0..self.entries.len() {
+            places.push_reserved(self.entries[index].place());
+        }
+        Ok(places)
     }
 
     // The place that is taken next is kept for the link that the client of a slot opens by a

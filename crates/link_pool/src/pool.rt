@@ -106,6 +106,27 @@ impl<S: Drop> Pool<S> {
         self.incarnation
     }
 
+    /// What is at each place, by database.
+    pub fn places(&self, alloc: Global) -> Result<Vec<Vec<Place>>, AllocError>
+        ensures { IfOk result (λ all. map (λ places. places.items) all.items
+            ≡ map (λ pool. pool.places) self.now.view.pools) }
+    {
+        let mut all = Vec::with_capacity(alloc, self.pools.len())?;
+        for database in 0..self.pools.len() {
+            all.push_reserved(self.pools[database].places(alloc)?);
+        }
+        Ok(all)
+    }
+
+    /// What each client has, by slot.
+    pub fn claims(&self, alloc: Global) -> Result<Vec<Claim>, AllocError>
+        ensures { IfOk result (λ claims. claims.items ≡ self.now.view.claims) }
+    {
+        let mut claims = Vec::with_capacity(alloc, self.claims.len())?;
+        claims.extend_from_slice(&self.claims)?;
+        Ok(claims)
+    }
+
     // What is at a place that a client has changes, and so what the client has.
     fn change(&mut self, at: &LinkPlace, slot: SlotNo, entry: Entry<S>)
         requires taken { is_taken (place_at self.old.view at.now) ≡ true }

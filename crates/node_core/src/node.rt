@@ -1,5 +1,6 @@
 //! A node: what can be read of its state, and its steps by subject.
-ghost use Rattle.std.specs.Prelude.{◌≡◌, IfOk, length, slice_get};
+ghost use Rattle.std.specs.Prelude.{◌≡◌, ◌<◌, IfOk, length, slice_get};
+ghost use Rattle.link_pool.specs.Turns.{IsTurn};
 ghost use Rattle.link_pool.specs.Streams.{NothingStored, AreStored, RestartStreams};
 ghost use Rattle.node_core.specs.View.{IsView, IsFresh, client_at, links_of};
 ghost use Rattle.node_core.specs.declared.exchange.Exchange.TheVariants as call;
@@ -13,7 +14,7 @@ use crate::client::Client;
 use ini_config::Settings;
 use key_table::KeyTable;
 use link_pool::{NextNumber, Pool, RestartReply};
-use pg_ids::{Boot, PeerNo, SlotNo};
+use pg_ids::{Boot, DatabaseNo, PeerNo, SlotNo};
 use std::alloc::{AllocError, Global};
 use std::marker::Model;
 
@@ -127,6 +128,27 @@ impl<S: Drop> NodeCore<S> {
         ensures { result ≡ client_at (slice_get self.now.view.clients slot) }
     {
         self.clients.get(slot.get() as usize).copied().flatten()
+    }
+
+    // The client of each live slot, by slot.
+    pub(crate) fn clients(&self, alloc: Global) -> Result<Vec<Option<Client>>, AllocError>
+        ensures { IfOk result (λ clients. clients.items ≡ self.now.view.clients) }
+    {
+        let mut clients = Vec::with_capacity(alloc, self.clients.len())?;
+        clients.extend_from_slice(&self.clients)?;
+        Ok(clients)
+    }
+
+    /// The slot whose turn it is at a database: the first that waits for it, if a link is idle or a
+    /// place is free; and none where there is no such database.
+    pub fn turn(&self, database: DatabaseNo) -> Option<SlotNo>
+        ensures { database < length self.now.view.pools
+            → IsTurn database result self.now.view.links }
+    {
+        if database.get() as usize >= self.pools.len() {
+            return None;
+        }
+        self.links.turn(database)
     }
 
     /// The links, and what each client has of them.

@@ -6,7 +6,8 @@ ghost use Rattle.link_pool.specs.declared.place.Place.TheVariants as place;
 ghost use Rattle.slot_queues.specs.Queues.{behind};
 ghost use Rattle.link_pool.specs.Pool.{place_at, queue_at, with_queue, with_claim, unqueued, departed, queued};
 ghost use Rattle.link_pool.specs.OnePlace.{IsPool};
-ghost use Rattle.link_pool.specs.PoolStep.{is_holding, may_ask, is_first, nth_of, NoIdle, NoneFree, IsNextFree, Gets, GetsBack, AcquireStep, LeaveStep, UnwaitStep};
+ghost use Rattle.link_pool.specs.PoolStep.{is_holding, may_ask, is_first, nth_of, NoIdle, NoneFree, IsNextFree, is_idle, Gets, GetsBack, AcquireStep, LeaveStep, UnwaitStep};
+ghost use Rattle.link_pool.specs.Turns.{IsTurn};
 ghost use Rattle.link_pool.specs.Streams.{Takes, AcquireStreams};
 ghost use Rattle.link_pool.specs.Said.{acquire_said};
 
@@ -200,6 +201,35 @@ impl<S: Drop> Pool<S> {
             return None;
         };
         Some(LinkPlace { database, index })
+    }
+
+    // The place of the idle link of the database that is got next, if one is idle.
+    fn next_idle(&self, database: DatabaseNo) -> Option<LinkPlace>
+        requires { database < length self.now.view.pools }
+        ensures idle { IfSome result (λ at. (is_idle (place_at self.now.view at) ≡ true)
+            × (at.database ≡ database)) }
+        ensures none { IfNone result (NoIdle database self.now.view) }
+    {
+        let pool = &self.pools[database.get() as usize];
+        let Some(index) = pool.next_idle() else {
+            return None;
+        };
+        Some(LinkPlace { database, index })
+    }
+
+    /// The slot whose turn it is at a database: the first that waits for it, if a link is idle or a
+    /// place is free. Its client's next `acquire` doesn't wait.
+    pub fn turn(&self, database: DatabaseNo) -> Option<SlotNo>
+        requires { database < length self.now.view.pools }
+        ensures { IsTurn database result self.now.view }
+    {
+        let Some(first) = self.queues.first(database.get() as usize) else {
+            return None;
+        };
+        if self.next_idle(database).is_none() && self.next_free(database).is_none() {
+            return None;
+        }
+        Some(first)
     }
 
     // Whether nobody waits before the slot for the database.
