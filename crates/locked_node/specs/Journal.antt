@@ -105,14 +105,15 @@ pub record HasHistory (journal : JournalView) : Type 0 where
   pub after : Replay base journal.log.tail journal.view
   pub totals : IsTallyOf past journal.log.trimmed
 
--- how many calls have this answer, with keys of both kinds
-abbrev pub log_answers : LogView → CallAnswer → ℕ
-log_answers log answer = log_calls log (index_of (short answer)) + log_calls log (index_of (long answer))
+-- how many calls have this answer, with keys of both kinds, where so many are of each kind
+abbrev pub answers_in : (ℕ → ℕ) → CallAnswer → ℕ
+answers_in calls answer = calls (index_of (short answer)) + calls (index_of (long answer))
 
--- the view's incarnation and its next numbers are at least the counts of the calls that made them
-pub record CountsWithin (log : LogView) (view : NodeView) : Type 0 where
-  pub passes : log_answers log Joined ≤ view.next_pass
-  pub permits : log_answers log AcquireOpen ≤ view.links.next_permit
-  pub links : log_answers log WentUp ≤ view.links.next_link
-  pub tickets : log_answers log Served ≤ view.links.next_ticket
-  pub incarnations : log_answers log Restarted ≤ view.links.incarnation
+-- the view's incarnation and its next numbers are at least the counts of the calls that made them,
+-- where so many calls are of each kind
+pub record CountsWithin (calls : ℕ → ℕ) (view : NodeView) : Type 0 where
+  pub passes : answers_in calls Joined ≤ view.next_pass
+  pub permits : answers_in calls AcquireOpen ≤ view.links.next_permit
+  pub links : answers_in calls WentUp ≤ view.links.next_link
+  pub tickets : answers_in calls Served ≤ view.links.next_ticket
+  pub incarnations : answers_in calls Restarted ≤ view.links.incarnation

@@ -76,6 +76,7 @@ impl CallKind {
     }
 
     /// The kind of a call.
+    #[inline(always)]
     pub fn of(call: &Exchange) -> CallKind
         ensures { result ≡ kind_of call.now }
     {
@@ -92,6 +93,7 @@ impl CallKind {
     }
 
     /// Its place among the kinds.
+    #[inline(always)]
     pub fn index(self) -> usize
         ensures value { result ≡ index_of self }
         ensures within { result < KINDS }

@@ -24,6 +24,7 @@ use crate::shared::Shared;
 use crate::steps::{
     Acquire, Cancel, Close, Ended, Failed, Join, Leave, Release, Restart, Up, UpFailed,
 };
+use crate::turn::{Turn, Woken};
 use node_core::{
     AcquireReply, CloseReply, DatabaseNo, EndedReply, FailedReply, JoinRefusal, Lease, LeaveReply,
     Order, Pass, Permit, ReleaseReply, RestartReply, Ticket, UpFailedReply, UpReply,
@@ -34,7 +35,38 @@ use std::sync::Wait;
 impl<S: Drop> Shared<S> {
     ghost use Rattle.locked_node.specs.Lock.{Counted, Somewhere};
 
-    // Makes a call of any step.
+    // Makes a call of any step. Returns whom it wakes as well.
+    #[inline(always)]
+    fn step<R: Wait, C: Call<S>>(
+        &self,
+        rt: &R,
+        caller: &mut Caller<S>,
+        call: C,
+    ) -> (C::Reply, Turn)
+        requires own { caller.old.lock ≡ self.now }
+        requires can { C.can_make caller.old.start.view.pools call }
+        ensures counted { Counted (C.exchange (C.handed call) result.0) result.0 (C.at_end call)
+            caller.old caller.new }
+        ensures streams { Somewhere (C.streams call result.0) }
+    {
+        if caller.allowance == 0 {
+            let nobody = Turn {
+                incarnation: 0,
+                woken: Woken::Nobody,
+            };
+            return (call.forfeit(), nobody);
+        }
+        let details = call.details();
+        self.take(rt, &mut caller.seat);
+        let (reply, turn) = self.make(&mut caller.seat, call, &details);
+        self.give(&mut caller.seat);
+        caller.allowance -= 1;
+        caller.tally.count(&C::record(&details, &reply));
+        (reply, turn)
+    }
+
+    // Makes a call of any step, and then wakes whoever's turn it is.
+    #[inline(always)]
     fn call<R: Wait, C: Call<S>>(&self, rt: &R, caller: &mut Caller<S>, call: C) -> C::Reply
         requires own { caller.old.lock ≡ self.now }
         requires can { C.can_make caller.old.start.view.pools call }
@@ -42,15 +74,8 @@ impl<S: Drop> Shared<S> {
             caller.old caller.new }
         ensures streams { Somewhere (C.streams call result) }
     {
-        if caller.allowance == 0 {
-            return call.forfeit();
-        }
-        let details = call.details();
-        self.take(rt, &mut caller.seat);
-        let reply = self.make(&mut caller.seat, call, &details);
-        self.give(&mut caller.seat);
-        caller.allowance -= 1;
-        caller.tally.count(&C::record(&details, &reply));
+        let (reply, turn) = self.step(rt, caller, call);
+        self.wake(rt, caller, &turn);
         reply
     }
 
@@ -183,9 +208,9 @@ impl<S: Drop> Shared<S> {
         self.call(rt, caller, Failed(ticket))
     }
 
-    /// Starts the node anew, with this boot. It is the one step whose work under the lock grows with the node: each
-    /// slot is freed, and the streams of links that nobody holds are dropped. Returns `Exhausted`
-    /// without allowance.
+    /// Starts the node anew, with this boot. It is the one step whose work under the lock grows with
+    /// the node: each slot is freed, and the streams of links that nobody holds are dropped. Whoever
+    /// waits for a turn is woken. Returns `Exhausted` without allowance.
     pub fn restart<R: Wait>(&self, rt: &R, caller: &mut Caller<S>, boot: Boot) -> RestartReply
         requires own { caller.old.lock ≡ self.now }
         ensures counted { Counted (call.Restart boot result) result restart.Exhausted

@@ -14,6 +14,8 @@ mod rule;
 mod shared;
 mod steps;
 mod tally;
+mod turn;
+mod turns;
 
 pub use call::Call;
 pub use call_answer::{ANSWERS, CallAnswer};
@@ -27,3 +29,4 @@ pub use steps::{
     Acquire, Cancel, Close, Ended, Failed, Join, Leave, Release, Restart, Up, UpFailed,
 };
 pub use tally::{Row, Tally};
+pub use turn::Woken;

@@ -18,6 +18,7 @@ use startup::Packet;
 pub const WIDEST: usize = 12;
 
 // The number that eight bytes from this place on are, big-endian.
+#[inline(always)]
 fn eight_from(bytes: &[u8], place: usize) -> u64
     requires { place + 8 ≤ length bytes.now }
     ensures { result ≡ call.key_number (drop place bytes.now) }
@@ -27,7 +28,8 @@ fn eight_from(bytes: &[u8], place: usize) -> u64
 
 // Each adds to the sums from a position on, and returns the position behind.
 impl Row {
-    /// The numbers of a call, straight from it: an array in between would be slow to read.
+    /// Adds the numbers of a call, each to its sum.
+    #[inline(always)]
     pub(crate) fn add(&mut self, call: &Exchange)
         ensures { self.new ≡ with_numbers self.old 0 (numbers_of call.now) }
     {
@@ -69,6 +71,7 @@ impl Row {
         }
     }
 
+    #[inline(always)]
     #[tactic(auto, unfolding(crate::specs::Totals::with_number))]
     fn number(&mut self, at: usize, number: u64) -> usize
         requires { at < WIDEST }
@@ -80,6 +83,7 @@ impl Row {
     }
 
     // Eight key bytes.
+    #[inline(always)]
     fn key(&mut self, at: usize, bytes: &[u8; 8]) -> usize
         requires { at < WIDEST }
         ensures sums { self.new ≡ with_number self.old at (call.key_number bytes.now) }
@@ -89,6 +93,7 @@ impl Row {
     }
 
     // The key of a client: its first eight bytes and, if it is long, its boot and its serial.
+    #[inline(always)]
     fn any_key(&mut self, at: usize, key: &AnyKey) -> usize
         requires { at + 3 ≤ WIDEST }
         ensures sums { self.new ≡ with_numbers self.old at (call.key_numbers key.now) }
@@ -105,6 +110,7 @@ impl Row {
     }
 
     // The key of a CancelRequest, which follows its length and its code, of four bytes each.
+    #[inline(always)]
     fn packet(&mut self, at: usize, packet: &Packet)
         requires { at + 3 ≤ WIDEST }
         ensures { self.new ≡ with_numbers self.old at (call.packet_numbers packet.now) }
@@ -122,6 +128,7 @@ impl Row {
     }
 
     // A place of the pools.
+    #[inline(always)]
     fn place(&mut self, at: usize, place: &LinkPlace) -> usize
         requires { at + 2 ≤ WIDEST }
         ensures sums { self.new ≡ with_numbers self.old at (call.place_numbers place.now) }
@@ -131,6 +138,7 @@ impl Row {
         self.number(at, u64::from(place.index))
     }
 
+    #[inline(always)]
     fn pass(&mut self, at: usize, pass: &PassRecord) -> usize
         requires { at + 3 ≤ WIDEST }
         ensures sums { self.new ≡ with_numbers self.old at (call.pass_numbers pass.now) }
@@ -141,6 +149,7 @@ impl Row {
         self.number(at, pass.number)
     }
 
+    #[inline(always)]
     fn permit(&mut self, at: usize, permit: &PermitRecord) -> usize
         requires { at + 5 ≤ WIDEST }
         ensures sums { self.new ≡ with_numbers self.old at (call.permit_numbers permit.now) }
@@ -152,6 +161,7 @@ impl Row {
         self.place(at, &permit.at)
     }
 
+    #[inline(always)]
     fn link(&mut self, at: usize, lease: &LinkRecord) -> usize
         requires { at + 5 ≤ WIDEST }
         ensures sums { self.new ≡ with_numbers self.old at (call.link_numbers lease.now) }
@@ -163,6 +173,7 @@ impl Row {
         self.place(at, &lease.at)
     }
 
+    #[inline(always)]
     fn ticket(&mut self, at: usize, ticket: &TicketRecord) -> usize
         requires { at + 6 ≤ WIDEST }
         ensures sums { self.new ≡ with_numbers self.old at (call.ticket_numbers ticket.now) }
@@ -176,6 +187,7 @@ impl Row {
     }
 
     // A client that leaves, or stays.
+    #[inline(always)]
     fn leave(&mut self, pass: &PassRecord, reply: &LeaveReply<PassRecord>)
         ensures { self.new
             ≡ with_numbers self.old 0 (numbers_of (Exchange.Leave pass.now reply.now)) }
@@ -194,6 +206,7 @@ impl Row {
     }
 
     // The report of an open link.
+    #[inline(always)]
     fn up(
         &mut self,
         permit: &PermitRecord,
@@ -220,6 +233,7 @@ impl Row {
     }
 
     // A cancel request.
+    #[inline(always)]
     fn cancel(&mut self, key: &AnyKey, order: &Order<TicketRecord>)
         ensures { self.new
             ≡ with_numbers self.old 0 (numbers_of (Exchange.Cancel key.now order.now)) }

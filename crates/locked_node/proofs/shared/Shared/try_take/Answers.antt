@@ -11,5 +11,5 @@ compare_exchange-requires g c = (
   c.requires.own ∙ sym c.self.view_is,
   c.self.invariant.0,
   lock_takes _ _ _ c.args.seat.now.me (λ (n : ℕ). either (eqb n 0) 1 n) (step c.self.inside.table.shared.table_id.slots 0 0 1 none) (λ n. exchanged n 0 1 (λ (x : ℕ). x ≢ 0) (λ _ e. omega arith) (λ ne. ne))
-      (let m = c.requires.may in omega (arith, m)),
+      c.requires.some,
 )
