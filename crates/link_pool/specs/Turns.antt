@@ -1,5 +1,5 @@
 -- Whose turn it is to get a link (own; PgBouncer manual, transaction pooling).
-use Rattle.std.specs.Prelude.{ℕ, ◌≡◌, true, List, [], Option, Some, None, ◌⊎◌, slice_get}
+use Rattle.std.specs.Prelude.{ℕ, ◌≡◌, true, Option, Some, None, ◌⊎◌, slice_get}
 use Rattle.lease.specs.declared.link_place.LinkPlace.{LinkPlace}
 use Rattle.link_pool.specs.Pool.{PoolView, place_at, queue_at}
 use Rattle.link_pool.specs.PoolStep.{is_idle, NoIdle, NoneFree, IsNextFree}

@@ -16,3 +16,5 @@ mod steps;
 mod sums;
 #[cfg(test)]
 mod threads;
+#[cfg(test)]
+mod turns;

@@ -37,12 +37,7 @@ impl<S: Drop> Shared<S> {
 
     // Makes a call of any step. Returns whom it wakes as well.
     #[inline(always)]
-    fn step<R: Wait, C: Call<S>>(
-        &self,
-        rt: &R,
-        caller: &mut Caller<S>,
-        call: C,
-    ) -> (C::Reply, Turn)
+    fn step<R: Wait, C: Call<S>>(&self, rt: &R, caller: &mut Caller<S>, call: C) -> (C::Reply, Turn)
         requires own { caller.old.lock ≡ self.now }
         requires can { C.can_make caller.old.start.view.pools call }
         ensures counted { Counted (C.exchange (C.handed call) result.0) result.0 (C.at_end call)

@@ -143,7 +143,9 @@ impl<S: Drop> Shared<S> {
                     return;
                 }
             } else if found == asleep || self.change(seat, word, found, asleep) {
-                self.table.shared.park(rt, word, (asleep % (1 << 32)) as u32);
+                self.table
+                    .shared
+                    .park(rt, word, (asleep % (1 << 32)) as u32);
             }
         }
         unreachable!()

@@ -33,7 +33,7 @@ impl<S> Model for View<S> {
         × (v.clients.items ≡ v.node.value.view.clients)
         × (v.claims.items ≡ v.node.value.view.links.claims)
         × (map (λ places. places.items) v.places.items
-          ≡ map (λ pool. pool.places) v.node.value.view.links.pools) };
+        ≡ map (λ pool. pool.places) v.node.value.view.links.pools) };
 }
 
 impl<S: Drop> View<S> {

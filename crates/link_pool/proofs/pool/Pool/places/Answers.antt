@@ -1,4 +1,4 @@
-use Rattle.std.proofs.Common.{rules, ◌≡◌, ◌≤◌, ◌∙◌, sym, length, arith, ap, map, take, take_all}
+use Rattle.std.proofs.Common.{rules, ◌≡◌, ◌∙◌, sym, length, arith, ap, map, take_all}
 use Rattle.std.proofs.lemmas.Simd.{map-map}
 use Rattle.link_pool.specs.Pool.{DatabasePool}
 use Rattle.link_pool.specs.Entries.{place_of, pool_in}

@@ -1,4 +1,4 @@
-use Rattle.std.proofs.Common.{rules, ◌≡◌, Some, ◌∙◌, ◌<◌, length, slice_get, subst, ap, arith}
+use Rattle.std.proofs.Common.{rules, ◌≡◌, Some, ◌∙◌, length, slice_get, subst, ap, arith}
 use Rattle.link_pool.specs.Pool.{place_at}
 use Rattle.link_pool.proofs.Changes.{was_read}
 use Rattle.node_core.specs.View.{NodeView}
