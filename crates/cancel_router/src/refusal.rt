@@ -4,13 +4,14 @@ ghost use Rattle.cancel_router.specs.Refusals.{number_of};
 
 use thiserror::Error;
 
-/// Why a cancel request goes nowhere. Nobody is told: the requester's connection is closed all the same.
+/// Why a cancel request goes nowhere. Nobody is told: the requester's connection is closed all the
+/// same.
 #[derive(Clone, Copy, Debug, PartialEq, Eq, Hash, Error)]
 pub enum RouteRefusal {
     /// The request has passed through as many poolers as it may.
     #[error("60 Spent")]
     Spent,
-    /// No live slot has this number and this secret.
+    /// The key opens no live slot.
     #[error("61 Unknown")]
     Unknown,
     /// The key's pooler isn't in the list of peers.

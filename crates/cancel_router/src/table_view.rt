@@ -1,12 +1,14 @@
 //! What a route depends on of a pooler's state.
 use key_table::KeyTable;
-use pg_ids::{ClientKey, LinkNo, SlotNo};
+use pg_ids::{AnyKey, LinkNo, SlotNo};
 
 /// What the client of a slot has to do with links.
 #[derive(Clone, Copy, Debug, PartialEq, Eq, Hash)]
 pub enum Standing {
-    /// It holds no link.
+    /// It holds no link and waits for none.
     Without,
+    /// It waits for a link.
+    Waits,
     /// It holds this link.
     Holds(LinkNo),
 }
@@ -14,6 +16,7 @@ pub enum Standing {
 /// A pooler's live slots, and how the client of each stands.
 pub trait TableView {
     ghost use Rattle.std.specs.Prelude.{◌≡◌, ℕ, Some, None, if◌then◌else◌};
+    ghost use Rattle.pg_ids.specs.AnyKey.{slot_of};
     ghost use Rattle.key_table.specs.Slots.{Slots, names};
     ghost use Rattle.cancel_router.specs.declared.table_view.Standing.{Standing};
 
@@ -24,8 +27,9 @@ pub trait TableView {
     ghost standing: { Self → ℕ → Standing };
 
     /// The slot that the key names.
-    fn find(&self, key: &ClientKey) -> Option<SlotNo>
-        ensures { result ≡ (if names (slots self.now) key.now then Some key.now.slot else None) };
+    fn find(&self, key: &AnyKey) -> Option<SlotNo>
+        ensures { result ≡ (if names (slots self.now) key.now
+            then Some (slot_of key.now) else None) };
 
     /// How the client of a live slot stands.
     fn standing(&self, slot: SlotNo) -> Standing
@@ -40,7 +44,7 @@ impl TableView for KeyTable {
 
     ghost standing = { λ _ _. Without };
 
-    fn find(&self, key: &ClientKey) -> Option<SlotNo> {
+    fn find(&self, key: &AnyKey) -> Option<SlotNo> {
         KeyTable::find(self, key)
     }
 

@@ -1,3 +1,3 @@
 pub mod Refusals
 pub mod Slots
-pub mod FreeList
+pub mod Live

@@ -1,44 +1,72 @@
--- The slots of a node's view (own): a finite map from slot to secret, and the next slot.
-use Rattle.std.specs.Prelude.{ℕ, ◌≡◌, ◌≢◌, ◌==◌, ◌&&◌, Bool, false, List, Option, Some, None, slice_get, slice_set}
+-- The slots of a node's view (own): a finite map from slot to what its key has, and the next slot.
+use Rattle.std.specs.Prelude.{ℕ, ◌≡◌, ◌≢◌, ◌==◌, ◌&&◌, Bool, false, List, Option, Some, None, is_none, slice_get, slice_set}
+use Rattle.pg_ids.specs.AnyKey.{any_key, short_of, peer_of, slot_of, long_part_of}
 use Rattle.pg_ids.specs.declared.client_key.ClientKey.{ClientKey}
+use Rattle.pg_ids.specs.declared.any_key.AnyKey.{AnyKey}
+use Rattle.pg_ids.specs.declared.long_part.LongPart.{LongPart}
+use Rattle.key_table.specs.declared.entry.Entry.{Entry}
+use Rattle.key_table.specs.declared.entry.Entry.TheVariants.{Short, Long}
 
--- A pooler's number; by slot number the secret, where the slot is live; the slot that is given next.
+-- A pooler's number; by slot number, where the slot is live, its secret and, if its key is long, the
+-- key's boot and serial; the slot that is given next.
 pub record Slots : Type 0 where
   pub peer : ℕ
-  pub secrets : List (Option ℕ)
+  pub entries : List (Option Entry)
   pub next : Option ℕ
 
 -- the slot is free
-abbrev pub IsFree : List (Option ℕ) → ℕ → Type 0
-IsFree secrets slot = slice_get secrets slot ≡ Some None
+abbrev pub IsFree : List (Option Entry) → ℕ → Type 0
+IsFree entries slot = slice_get entries slot ≡ Some None
 
 -- the slot is live
 abbrev pub IsLive : Slots → ℕ → Type 0
-IsLive t slot = (secret : ℕ) × (slice_get t.secrets slot ≡ Some (Some secret))
+IsLive t slot = (entry : Entry) × (slice_get t.entries slot ≡ Some (Some entry))
 
 -- the next slot is any free slot, and none where none is free
-abbrev pub IsNext : List (Option ℕ) → Option ℕ → Type 0
-IsNext secrets None = (slot : ℕ) → slice_get secrets slot ≢ Some None
-IsNext secrets (Some slot) = IsFree secrets slot
+abbrev pub IsNext : List (Option Entry) → Option ℕ → Type 0
+IsNext entries None = (slot : ℕ) → slice_get entries slot ≢ Some None
+IsNext entries (Some slot) = IsFree entries slot
 
--- a place of the table is live with this very secret
-abbrev pub has_secret : Option (Option ℕ) → ℕ → Bool
-has_secret None secret = false
-has_secret (Some None) secret = false
-has_secret (Some (Some live)) secret = live == secret
+-- the entry of a slot with this secret and, if its key is long, this part
+abbrev pub entry_of : ℕ → Option LongPart → Entry
+entry_of secret None = Short secret
+entry_of secret (Some part) = Long secret part.boot part.serial
 
--- whether the key names a live slot of the table: the peer is the table's, the slot live, its secret the key's
-abbrev pub names : Slots → ClientKey → Bool
-names t key = (key.peer == t.peer) && has_secret (slice_get t.secrets key.slot) key.secret
+-- whether a key has this boot and this serial
+abbrev pub has_part : ℕ → ℕ → Option LongPart → Bool
+has_part boot serial None = false
+has_part boot serial (Some part) = (boot == part.boot) && (serial == part.serial)
 
--- from old, a client is given this key with this secret: the next slot becomes live, and no other changes
-pub record Issues (old : Slots) (secret : ℕ) (issued : ClientKey) (new : Slots) : Type 0 where
-  pub slot : old.next ≡ Some issued.slot
-  pub key : issued ≡ record { peer = old.peer; slot = issued.slot; secret = secret; hops = 3 }
-  pub secrets : new.secrets ≡ slice_set old.secrets issued.slot (Some secret)
+-- whether a key is of the slot's kind, with its secret and, if it is long, its boot and serial
+abbrev pub opens : Entry → AnyKey → Bool
+opens (Short secret) key = (secret == (short_of key).secret) && is_none (long_part_of key)
+opens (Long secret boot serial) key =
+    (secret == (short_of key).secret) && has_part boot serial (long_part_of key)
+
+-- a place of the table is live, and the key opens it
+abbrev pub is_opened : Option (Option Entry) → AnyKey → Bool
+is_opened None key = false
+is_opened (Some None) key = false
+is_opened (Some (Some entry)) key = opens entry key
+
+-- whether the key names a live slot: the peer is the table's, the slot live, and the key opens it
+abbrev pub names : Slots → AnyKey → Bool
+names t key =
+    (peer_of key == t.peer) && is_opened (slice_get t.entries (slot_of key)) key
+
+-- the first eight bytes of a slot's key, with all its hops
+abbrev pub first_key : ℕ → ℕ → ℕ → ClientKey
+first_key peer slot secret = record { peer = peer; slot = slot; secret = secret; hops = 3 }
+
+-- from old, a client is given this key with this secret and, if it is long, this part: the next slot
+-- becomes live, and no other changes
+pub record Issues (old : Slots) (secret : ℕ) (long : Option LongPart) (issued : AnyKey) (new : Slots) : Type 0 where
+  pub slot : old.next ≡ Some (slot_of issued)
+  pub key : issued ≡ any_key (first_key old.peer (slot_of issued) secret) long
+  pub entries : new.entries ≡ slice_set old.entries (slot_of issued) (Some (entry_of secret long))
   pub peer : new.peer ≡ old.peer
 
 -- from old, a slot is freed, and no other changes
 pub record Frees (old : Slots) (slot : ℕ) (new : Slots) : Type 0 where
-  pub secrets : new.secrets ≡ slice_set old.secrets slot None
+  pub entries : new.entries ≡ slice_set old.entries slot None
   pub peer : new.peer ≡ old.peer

@@ -1,10 +1,14 @@
-//! The table: a secret for each live slot, and the free slots, of which the last is given next.
-ghost use Rattle.std.specs.Prelude.{◌≡◌, ◌≤◌, ◌↔◌, Option, None, Some, IsErr, IfOk, OnErr, [], length, replicate, vec_capacity, if◌then◌else◌};
+//! The table: a slab with an entry for each live slot, under the slot's number.
+ghost use Rattle.std.specs.Prelude.{◌≡◌, ◌≤◌, ◌↔◌, Option, None, Some, IsErr, IfOk, OnErr, length, replicate, slice_set, if◌then◌else◌};
+ghost use Rattle.slab.specs.Slab.{HasRoomFor};
+ghost use Rattle.pg_ids.specs.AnyKey.{slot_of};
 ghost use Rattle.key_table.specs.Slots.{Slots, names, IsNext, IsFree, IsLive, Issues, Frees};
-ghost use Rattle.key_table.specs.FreeList.{IsFreeList};
+ghost use Rattle.key_table.specs.Live.{slots_of, IsTable};
 
+use crate::entry::{Entry, Issued};
 use crate::refusal::Full;
-use pg_ids::{ClientKey, Hops, PeerNo, Secret, SlotNo};
+use pg_ids::{AnyKey, ClientKey, Hops, LongPart, PeerNo, Secret, SlotNo};
+use slab::Slab;
 use std::alloc::{AllocError, Global};
 use std::marker::Model;
 
@@ -12,74 +16,80 @@ use std::marker::Model;
 #[derive(Debug, Drop)]
 pub struct KeyTable {
     peer: PeerNo,
-    secrets: Vec<Option<Secret>>,
-    free: Vec<SlotNo>,
+    live: Slab<Entry>,
 }
 
 impl Model for KeyTable {
-    ghost use Rattle.std.specs.Prelude.{◌≤◌, ◌-◌, length, slice_get, vec_len, vec_capacity};
     ghost use Rattle.key_table.specs.Slots.{Slots};
-    ghost use Rattle.key_table.specs.FreeList.{IsFreeList};
+    ghost use Rattle.key_table.specs.Live.{slots_of, next_of, IsTable};
 
     ghost Value = { Slots };
 
-    ghost view = { λ t. record { peer = t.peer; secrets = t.secrets.items; next = slice_get t.free.items (length t.free.items - 1) } };
+    ghost view = { λ t. record { peer = t.peer; entries = slots_of t.live; next = next_of t.live } };
 
-    ghost invariant = { λ t. (vec_len t.secrets ≤ 65536) × (vec_len t.secrets ≤ vec_capacity t.free) × IsFreeList t.secrets.items t.free.items };
+    ghost invariant = { λ t. IsTable t.live };
 }
 
 impl KeyTable {
-    /// A table of `limit` slots, 1 to 65,536, each of them free. It takes all the memory that the table needs.
+    /// A table of `limit` slots, 1 to 65,536, each of them free. It takes all the memory that the
+    /// table needs.
     pub fn new(alloc: Global, peer: PeerNo, limit: u32) -> Result<KeyTable, AllocError>
         requires some { 1 ≤ limit }
         requires within { limit ≤ 65536 }
         ensures peer { IfOk result (λ t. t.peer ≡ peer) }
-        ensures free { IfOk result (λ t. t.secrets ≡ replicate limit None) }
-        ensures next { IfOk result (λ t. IsNext t.secrets t.next) }
+        ensures free { IfOk result (λ t. t.entries ≡ replicate limit None) }
+        ensures next { IfOk result (λ t. IsNext t.entries t.next) }
     {
-        let secrets = vec![in alloc; None; limit as usize]?;
-        let mut free = Vec::with_capacity(alloc, limit as usize)?;
-        list_all(&mut free, limit);
-        Ok(KeyTable {
-            peer,
-            secrets,
-            free,
-        })
+        let live = Slab::with_capacity(alloc, limit as usize)?;
+        // The slab may take more room than it is asked for, and each place is a slot.
+        if live.capacity() != limit as usize {
+            return Err(AllocError);
+        }
+        Ok(KeyTable { peer, live })
     }
 
-    #[tactic(auto, using(crate::proofs::FreeLists::next_of))]
     /// The slot that `issue` gives next, and none where each slot is live.
     pub fn next_slot(&self) -> Option<SlotNo>
         ensures value { result ≡ self.now.next }
-        ensures free { IsNext self.now.secrets result }
+        ensures free { IsNext self.now.entries result }
     {
-        self.free.last().copied()
+        if self.live.len() < self.live.capacity() {
+            Some(SlotNo(self.live.vacant_key() as u16))
+        } else {
+            None
+        }
     }
 
-    /// Makes the next slot live with this secret, and answers its key, with all its hops.
-    pub fn issue(&mut self, secret: Secret) -> Result<ClientKey, Full>
+    /// Makes the next slot live with this secret, and returns its key, with all its hops: a long
+    /// one if a long key's part is given.
+    pub fn issue(&mut self, secret: Secret, long: Option<LongPart>) -> Result<AnyKey, Full>
         // No slot is free exactly where there is no next one.
         ensures full { IsErr result ↔ (self.old.next ≡ None) }
-        ensures was_next { IsNext self.old.secrets self.old.next }
-        ensures issued { IfOk result (λ key. Issues self.old secret key self.new) }
-        ensures live { IfOk result (λ key. IsLive self.new key.slot) }
-        ensures next { IsNext self.new.secrets self.new.next }
+        ensures was_next { IsNext self.old.entries self.old.next }
+        ensures issued { IfOk result (λ key. Issues self.old secret long key self.new) }
+        ensures live { IfOk result (λ key. IsLive self.new (slot_of key)) }
+        ensures next { IsNext self.new.entries self.new.next }
         ensures err { OnErr result (self.new ≡ self.old) }
     {
-        let Some(slot) = self.free.pop() else {
+        let Some(slot) = self.next_slot() else {
             return Err(Full);
         };
-        self.secrets[slot.get() as usize] = Some(secret);
-        Ok(ClientKey::new(self.peer, slot, secret, Hops::MAX))
+        let first = ClientKey::new(self.peer, slot, secret, Hops::MAX);
+        let issued = Issued::new(first, long);
+        fill_next(&mut self.live, issued.entry);
+        Ok(issued.key)
     }
 
-    /// The slot that the key names: the peer is this table's, the slot is live and its secret is the key's.
-    pub fn find(&self, key: &ClientKey) -> Option<SlotNo>
-        ensures { result ≡ (if names self.now key.now then Some key.now.slot else None) }
+    /// The slot that the key names: the peer is this table's, and the slot is live with a key of
+    /// this kind, this secret and, if the key is long, this part.
+    #[tactic(auto, using(crate::proofs::Tables::opened_at))]
+    pub fn find(&self, key: &AnyKey) -> Option<SlotNo>
+        ensures { result ≡ (if names self.now key.now then Some (slot_of key.now) else None) }
     {
-        let secret = self.secrets.get(key.slot.get() as usize).copied().flatten();
-        if key.peer == self.peer && secret == Some(key.secret) {
-            Some(key.slot)
+        let short = key.short();
+        let entry = self.live.get(short.slot.get() as usize).copied()?;
+        if short.peer == self.peer && entry.opens(key) {
+            Some(short.slot)
         } else {
             None
         }
@@ -89,34 +99,33 @@ impl KeyTable {
     pub fn retire(&mut self, slot: SlotNo)
         requires { IsLive self.old slot }
         ensures freed { Frees self.old slot self.new }
-        ensures next { IsNext self.new.secrets self.new.next }
+        ensures next { IsNext self.new.entries self.new.next }
     {
-        self.secrets[slot.get() as usize] = None;
-        self.free.push_reserved(slot);
+        self.live.remove(slot.get() as usize);
     }
 
     /// Each slot is free again, as in a new table. It takes no memory.
     pub fn clear(&mut self)
         ensures peer { self.new.peer ≡ self.old.peer }
-        ensures free { self.new.secrets ≡ replicate (length self.old.secrets) None }
-        ensures next { IsNext self.new.secrets self.new.next }
+        ensures free { self.new.entries ≡ replicate (length self.old.entries) None }
+        ensures next { IsNext self.new.entries self.new.next }
     {
-        let limit = self.secrets.len() as u32;
-        self.secrets.fill(None);
-        self.free.clear();
-        list_all(&mut self.free, limit);
+        self.live.clear();
     }
 }
 
-// Lists so many slots as free, the last one first.
-fn list_all(free: &mut Vec<SlotNo>, limit: u32)
-    requires none { free.old.items ≡ [] }
-    requires room { limit ≤ vec_capacity free.old }
-    requires within { limit ≤ 65536 }
-    ensures listed { IsFreeList (replicate limit None) free.new.items }
-    ensures capacity { vec_capacity free.new ≡ vec_capacity free.old }
+// Stores the entry in the next slot. The slab tells a key's range only as it gives the key, so
+// where a slot is left, the key after is given too, and taken back.
+fn fill_next(live: &mut Slab<Entry>, entry: Entry)
+    requires table { IsTable live.old }
+    requires room { HasRoomFor live.old 1 }
+    ensures table { IsTable live.new }
+    ensures filled { slots_of live.new ≡ slice_set (slots_of live.old) live.old.vacant_key (Some entry) }
 {
-    for slot in (0..limit).rev() {
-        free.push_reserved(SlotNo(slot as u16));
+    live.insert_reserved(entry);
+    if live.len() == live.capacity() {
+        return;
     }
+    let next = live.insert_reserved(Entry::Short(Secret(0)));
+    live.remove(next);
 }

@@ -2,13 +2,13 @@
 ghost use Rattle.std.specs.Prelude.{◌≡◌};
 
 use crate::token::Token;
-use pg_ids::ClientKey;
+use pg_ids::AnyKey;
 
 /// What a pass says.
 #[derive(Clone, Copy, Debug, PartialEq, Eq, Hash)]
 pub struct PassRecord {
     /// The client's cancel key, which names the node and the slot.
-    pub key: ClientKey,
+    pub key: AnyKey,
     /// The node's incarnation.
     pub incarnation: u64,
     /// The number of the pass there, which no other pass has.
@@ -21,7 +21,7 @@ pub type Pass = Token<PassRecord>;
 
 impl Token<PassRecord> {
     /// The client's cancel key.
-    pub const fn key(&self) -> ClientKey
+    pub const fn key(&self) -> AnyKey
         ensures { result ≡ self.now.key }
     {
         self.details().key

@@ -5,7 +5,7 @@ use crate::{
     IdleLink, Lease, LinkPlace, LinkRecord, Pass, PassRecord, Permit, PermitRecord, TicketRecord,
     Token,
 };
-use pg_ids::{ClientKey, DatabaseNo, LinkNo, PeerNo};
+use pg_ids::{AnyKey, DatabaseNo, Kind, LinkNo, PeerNo};
 use std::fmt::Debug;
 use std::process::Abort;
 use std::test::Fail;
@@ -40,9 +40,19 @@ fn expect_record<R: Copy + Debug + Drop + PartialEq>(rt: &impl Abort, said: R) {
     assert_eq!(rt; Token::new(said).forfeit(), said);
 }
 
-fn pass_record() -> PassRecord {
+// The key of peer 2, slot 0, secret 1, and behind a long one boot 1 and serial 515.
+fn key(kind: Kind) -> AnyKey {
+    match kind {
+        Kind::Short => AnyKey::from_short_bytes([0, 8, 0, 0, 0, 0, 0, 7]),
+        Kind::Long => AnyKey::from_long_bytes([
+            0, 8, 0, 0, 0, 0, 0, 7, 0, 0, 0, 0, 0, 0, 0, 1, 0, 0, 0, 0, 0, 0, 2, 3,
+        ]),
+    }
+}
+
+fn pass_record(kind: Kind) -> PassRecord {
     PassRecord {
-        key: ClientKey::from_bytes([0, 8, 0, 0, 0, 0, 0, 7]),
+        key: key(kind),
         incarnation: 3,
         number: 5,
     }
@@ -50,15 +60,18 @@ fn pass_record() -> PassRecord {
 
 #[test]
 fn a_pass(rt: HostRuntime) {
-    expect_record(&rt, pass_record());
+    for kind in [Kind::Short, Kind::Long] {
+        expect_record(&rt, pass_record(kind));
+    }
 }
 
 #[test]
-fn the_key_of_a_pass(rt: HostRuntime) -> Result<(), Fail> {
-    let pass = Pass::new(pass_record());
-    assert_eq!(rt; pass.key().to_bytes(), [0, 8, 0, 0, 0, 0, 0, 7]);
-    assert_eq!(rt; pass.spend(), pass_record());
-    Ok(())
+fn the_key_of_a_pass(rt: HostRuntime) {
+    for kind in [Kind::Short, Kind::Long] {
+        let pass = Pass::new(pass_record(kind));
+        assert_eq!(rt; pass.key(), key(kind));
+        assert_eq!(rt; pass.spend(), pass_record(kind));
+    }
 }
 
 #[test]

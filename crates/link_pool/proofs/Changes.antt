@@ -7,7 +7,7 @@ use Rattle.std.proofs.lemmas.Bool.{cases_eq}
 use Rattle.std.proofs.lemmas.List.{get_or-set_same, get_or-set_other}
 use Rattle.lease.specs.declared.link_place.LinkPlace.{LinkPlace}
 use Rattle.link_pool.specs.declared.place.Place.{Place}
-use Rattle.link_pool.specs.Pool.{DatabasePool, PoolView, at_place, place_in, place_at, queue_at, changed, with_place, with_queue}
+use Rattle.link_pool.specs.Pool.{DatabasePool, PoolView, at_place, place_in, place_at, queue_at, changed, placed, with_queue}
 use Rattle.link_pool.specs.OnePlace.{same_place}
 use Rattle.link_pool.proofs.Places.{slice_get-set_same, slice_get-set_other}
 use Rattle.slot_queues.proofs.Times.{eq_self, eq_yes}
@@ -67,23 +67,27 @@ pub same_place_no : (a b : LinkPlace) → a ≢ b → same_place a b ≡ false
 same_place_no a b h = is_false (same_place a b) (λ yes. h (same_places a b yes))
 
 -- what is in a changed pool
-in_changed_pool : (o : Option DatabasePool) (i : ℕ) (old p : Place) → place_in o i ≡ Some old → place_in (option_map (λ (pool : DatabasePool). at_place pool i p) o) i ≡ Some p
-in_changed_pool None i old p h = absurd (cc)
-in_changed_pool (Some pool) i old p h = slice_get-set_same pool.places i p (slice_get_within pool.places i old h)
+in_changed_pool : (o : Option DatabasePool) (i : ℕ) (old p : Place) (f : List ℕ → List ℕ) → place_in o i ≡ Some old
+    → place_in (option_map (λ (pool : DatabasePool). at_place pool i p f) o) i ≡ Some p
+in_changed_pool None i old p f h = absurd (cc)
+in_changed_pool (Some pool) i old p f h = slice_get-set_same pool.places i p (slice_get_within pool.places i old h)
 
-beside_in_pool : (o : Option DatabasePool) (i j : ℕ) (p : Place) → j ≢ i → place_in (option_map (λ (pool : DatabasePool). at_place pool i p) o) j ≡ place_in o j
-beside_in_pool None i j p h = refl
-beside_in_pool (Some pool) i j p h = slice_get-set_other pool.places i j p h
+beside_in_pool : (o : Option DatabasePool) (i j : ℕ) (p : Place) (f : List ℕ → List ℕ) → j ≢ i
+    → place_in (option_map (λ (pool : DatabasePool). at_place pool i p f) o) j ≡ place_in o j
+beside_in_pool None i j p f h = refl
+beside_in_pool (Some pool) i j p f h = slice_get-set_other pool.places i j p h
 
-pub place_here : (v : PoolView) (at : LinkPlace) (old p : Place) → place_at v at ≡ Some old → place_at (with_place v at p) at ≡ Some p
-place_here v at old p h = ap (λ (o : Option DatabasePool). place_in o at.index) (changed_here v.pools at.database _) ∙ in_changed_pool (slice_get v.pools at.database) at.index old p h
+pub place_here : (v : PoolView) (at : LinkPlace) (old p : Place) (f : List ℕ → List ℕ) → place_at v at ≡ Some old
+    → place_at (placed v at p f) at ≡ Some p
+place_here v at old p f h = ap (λ (o : Option DatabasePool). place_in o at.index) (changed_here v.pools at.database _) ∙ in_changed_pool (slice_get v.pools at.database) at.index old p f h
 
-pub place_there : (v : PoolView) (at other : LinkPlace) (p : Place) → other ≢ at → place_at (with_place v at p) other ≡ place_at v other
-place_there v at other p h = ⊎_elim
+pub place_there : (v : PoolView) (at other : LinkPlace) (p : Place) (f : List ℕ → List ℕ) → other ≢ at
+    → place_at (placed v at p f) other ≡ place_at v other
+place_there v at other p f h = ⊎_elim
     (λ same. let index : other.index ≢ at.index = λ e. h (one_place other at same e) in
-    ap (λ (d : ℕ). place_in (slice_get (with_place v at p).pools d) other.index) same
+    ap (λ (d : ℕ). place_in (slice_get (placed v at p f).pools d) other.index) same
     ∙ ap (λ (o : Option DatabasePool). place_in o other.index) (changed_here v.pools at.database _)
-    ∙ beside_in_pool (slice_get v.pools at.database) at.index other.index p index
+    ∙ beside_in_pool (slice_get v.pools at.database) at.index other.index p f index
     ∙ ap (λ (d : ℕ). place_in (slice_get v.pools d) other.index) (sym same))
     (λ apart. ap (λ (o : Option DatabasePool). place_in o other.index) (changed_there v.pools at.database other.database _ apart))
     (cases_eq other.database at.database)

@@ -6,7 +6,8 @@ use Rattle.std.proofs.lemmas.Option.{slice_get_within, slice_get-map, same_Some}
 use Rattle.std.proofs.lemmas.Bool.{cases_eq}
 use Rattle.std.proofs.lemmas.List.{map-set, length-map}
 use Rattle.lease.specs.declared.link_place.LinkPlace.{LinkPlace}
-use Rattle.link_pool.specs.Pool.{DatabasePool, at_place, place_in, changed}
+use Rattle.link_pool.specs.Pool.{DatabasePool, at_place, place_in, is_free, changed}
+use Rattle.link_pool.specs.Stacks.{put_on}
 use Rattle.link_pool.specs.Streams.{stream_there, stored_in, stored_at, has_stream, Moves}
 use Rattle.link_pool.proofs.Places.{slice_get-set_same, slice_get-set_other, set_same}
 use Rattle.link_pool.proofs.Changes.{changed_here, changed_there, changed_is_set, wrote, was_read, one_place}
@@ -14,34 +15,35 @@ use Rattle.link_pool.specs.declared.entry.Entry.{Entry}
 use Rattle.link_pool.specs.declared.entry.Entry.TheVariants as entry
 use Rattle.link_pool.specs.declared.place.Place.{Place}
 use Rattle.link_pool.specs.declared.place.Place.TheVariants as place
-use Rattle.link_pool.specs.Entries.{Entries, place_of, stream_of, idle_entry, pool_in, streams_in, with_entry}
+use Rattle.link_pool.specs.Entries.{Entries, place_of, stream_of, idle_entry, free_entry, pool_in, streams_in, put_at, with_entry}
 use Rattle.link_pool.specs.PoolStep.{is_idle}
-use Rattle.link_pool.specs.Parts.{is_bare, Stores}
+use Rattle.link_pool.specs.Parts.{is_taken, Stores}
 use Rattle.lease.specs.LinkValue.{LinkValue}
 
 -- what is free in the view is free
-pub is_free : {S : Type 0} (o : Option (Entry S)) → option_map place_of o ≡ Some place.Free → o ≡ Some entry.Free
-is_free None h = absurd (cc)
-is_free (Some entry.Free) h = refl
-is_free (Some (entry.Open permit slot)) h = absurd (cc)
-is_free (Some (entry.Held details key hold slot)) h = absurd (cc)
-is_free (Some (entry.Idle link key)) h = absurd (cc)
-is_free (Some (entry.Quarantined link key hold)) h = absurd (cc)
+pub free_is : {S : Type 0} (o : Option (Entry S)) → option_map place_of o ≡ Some place.Free → o ≡ Some entry.Free
+free_is None h = absurd (cc)
+free_is (Some entry.Free) h = refl
+free_is (Some (entry.Open permit slot)) h = absurd (cc)
+free_is (Some (entry.Held details key hold slot)) h = absurd (cc)
+free_is (Some (entry.Idle link key)) h = absurd (cc)
+free_is (Some (entry.Quarantined link key hold giver)) h = absurd (cc)
 
--- a place without a stream
-pub record IsBareEntry {S : Type 0} (o : Option (Entry S)) : Type 0 where
+-- a place that a client has: no stream lies there
+pub record IsTakenEntry {S : Type 0} (o : Option (Entry S)) : Type 0 where
   pub was : Entry S
   pub is : o ≡ Some was
   pub not_idle : idle_entry (Some was) ≡ false
+  pub not_free : free_entry (Some was) ≡ false
   pub no_stream : stream_of was ≡ None
 
-pub bare_entry : {S : Type 0} (o : Option (Entry S)) → is_bare (option_map place_of o) ≡ true → IsBareEntry o
-bare_entry None h = absurd (cc)
-bare_entry (Some entry.Free) h = record { was = entry.Free; is = refl; not_idle = refl; no_stream = refl }
-bare_entry (Some (entry.Open permit slot)) h = record { was = entry.Open permit slot; is = refl; not_idle = refl; no_stream = refl }
-bare_entry (Some (entry.Held details key hold slot)) h = record { was = entry.Held details key hold slot; is = refl; not_idle = refl; no_stream = refl }
-bare_entry (Some (entry.Idle link key)) h = absurd (cc)
-bare_entry (Some (entry.Quarantined link key hold)) h = absurd (cc)
+pub taken_entry : {S : Type 0} (o : Option (Entry S)) → is_taken (option_map place_of o) ≡ true → IsTakenEntry o
+taken_entry None h = absurd (cc)
+taken_entry (Some entry.Free) h = absurd (cc)
+taken_entry (Some (entry.Open permit slot)) h = record { was = entry.Open permit slot; is = refl; not_idle = refl; not_free = refl; no_stream = refl }
+taken_entry (Some (entry.Held details key hold slot)) h = record { was = entry.Held details key hold slot; is = refl; not_idle = refl; not_free = refl; no_stream = refl }
+taken_entry (Some (entry.Idle link key)) h = absurd (cc)
+taken_entry (Some (entry.Quarantined link key hold giver)) h = absurd (cc)
 
 -- an idle link
 pub record IsIdleEntry {S : Type 0} (o : Option (Entry S)) : Type 0 where
@@ -55,7 +57,11 @@ idle_one (Some entry.Free) h = absurd (cc)
 idle_one (Some (entry.Open permit slot)) h = absurd (cc)
 idle_one (Some (entry.Held details key hold slot)) h = absurd (cc)
 idle_one (Some (entry.Idle link key)) h = record { link = link; key = key; is = refl }
-idle_one (Some (entry.Quarantined link key hold)) h = absurd (cc)
+idle_one (Some (entry.Quarantined link key hold giver)) h = absurd (cc)
+
+pub free_one : {S : Type 0} (o : Option (Entry S)) → free_entry o ≡ true → o ≡ Some entry.Free
+free_one (Some entry.Free) h = refl
+free_one o h = absurd (cc)
 
 -- what is at a place of the pools
 abbrev pub entry_in : {S : Type 0} → Option (Entries S) → ℕ → Option (Entry S)
@@ -86,7 +92,7 @@ has_its_stream (Some entry.Free) = refl
 has_its_stream (Some (entry.Open permit slot)) = refl
 has_its_stream (Some (entry.Held details key hold slot)) = refl
 has_its_stream (Some (entry.Idle link key)) = refl
-has_its_stream (Some (entry.Quarantined link key hold)) = refl
+has_its_stream (Some (entry.Quarantined link key hold giver)) = refl
 
 -- a stream lies exactly where a link is idle or quarantined
 pub are_stored : {S : Type 0} (pools : List (Entries S)) (at : LinkPlace) → is_some (stored_at (map streams_in pools) at) ≡ has_stream (place_in (slice_get (map pool_in pools) at.database) at.index)
@@ -143,12 +149,22 @@ pub stays : {S : Type 0} (pools : List (Entries S)) (at : LinkPlace) (was : Entr
 stays pools at was stream h e = same_in_row (slice_get (map streams_in pools) at.database) (map streams_in pools) at stream refl (row_at pools at was h ∙ ap Some e)
 
 -- a write of one entry, as the view sees it
-pub wrote_place : {S : Type 0} (pools : List (Entries S)) (at : LinkPlace) (n : ℕ) (pool new : Entries S) (e : Entry S) → n ≡ at.database → slice_get pools at.database ≡ Some pool → new ≡ with_entry at.index e pool → map pool_in (set pools n new) ≡ changed (map pool_in pools) at.database (λ q. at_place q at.index (place_of e))
-wrote_place pools at n pool new e same is made = wrote pool_in (with_entry at.index e) (λ q. at_place q at.index (place_of e))
-    (λ p. ap {B = DatabasePool} (λ (ps : List Place). record { places = ps }) (map-set place_of p.entries at.index e)) pools n at.database pool new same is made
+pub wrote_placed : {S : Type 0} (pools : List (Entries S)) (at : LinkPlace) (n : ℕ) (pool new : Entries S) (e : Entry S) (f : List ℕ → List ℕ) → n ≡ at.database → slice_get pools at.database ≡ Some pool → new ≡ put_at at.index e f pool
+    → map pool_in (set pools n new) ≡ changed (map pool_in pools) at.database (λ q. at_place q at.index (place_of e) f)
+wrote_placed pools at n pool new e f same is made = wrote pool_in (put_at at.index e f) (λ q. at_place q at.index (place_of e) f)
+    (λ p. ap {B = DatabasePool} (λ (ps : List Place). record { places = ps; free = f p.free }) (map-set place_of p.entries at.index e)) pools n at.database pool new same is made
+
+pub wrote_streamed : {S : Type 0} (pools : List (Entries S)) (at : LinkPlace) (n : ℕ) (pool new : Entries S) (e : Entry S) (f : List ℕ → List ℕ) → n ≡ at.database → slice_get pools at.database ≡ Some pool → new ≡ put_at at.index e f pool
+    → map streams_in (set pools n new) ≡ with_stream (map streams_in pools) at (stream_of e)
+wrote_streamed pools at n pool new e f same is made = wrote streams_in (put_at at.index e f) (λ row. set row at.index (stream_of e)) (λ p. map-set stream_of p.entries at.index e) pools n at.database pool new same is made
+
+-- where it wasn't free
+pub wrote_place : {S : Type 0} (pools : List (Entries S)) (at : LinkPlace) (n : ℕ) (pool new : Entries S) (e : Entry S) → n ≡ at.database → slice_get pools at.database ≡ Some pool → new ≡ with_entry at.index e pool
+    → map pool_in (set pools n new) ≡ changed (map pool_in pools) at.database (λ q. at_place q at.index (place_of e) (put_on (is_free (Some (place_of e))) at.index))
+wrote_place pools at n pool new e same is made = wrote_placed pools at n pool new e (put_on (is_free (Some (place_of e))) at.index) same is made
 
 pub wrote_stream : {S : Type 0} (pools : List (Entries S)) (at : LinkPlace) (n : ℕ) (pool new : Entries S) (e : Entry S) → n ≡ at.database → slice_get pools at.database ≡ Some pool → new ≡ with_entry at.index e pool → map streams_in (set pools n new) ≡ with_stream (map streams_in pools) at (stream_of e)
-wrote_stream pools at n pool new e same is made = wrote streams_in (with_entry at.index e) (λ row. set row at.index (stream_of e)) (λ p. map-set stream_of p.entries at.index e) pools n at.database pool new same is made
+wrote_stream pools at n pool new e same is made = wrote_streamed pools at n pool new e (put_on (is_free (Some (place_of e))) at.index) same is made
 
 -- a place of the view, as an entry
 pub record IsEntry {S : Type 0} (o : Option (Entry S)) (p : Place) : Type 0 where
@@ -163,15 +179,18 @@ entry_of (Some e) p h = record { was = e; is = refl; same = same_Some (place_of 
 pub entry_seen : {S : Type 0} (pools : List (Entries S)) (at : LinkPlace) (p : Place) → place_in (slice_get (map pool_in pools) at.database) at.index ≡ Some p → IsEntry (entry_at pools at) p
 entry_seen pools at p h = entry_of (entry_at pools at) p (sym (seen_at pools at) ∙ h)
 
-pub bare_seen : {S : Type 0} (pools : List (Entries S)) (at : LinkPlace) → is_bare (place_in (slice_get (map pool_in pools) at.database) at.index) ≡ true → IsBareEntry (entry_at pools at)
-bare_seen pools at h = bare_entry (entry_at pools at) (ap is_bare (sym (seen_at pools at)) ∙ h)
+pub free_seen : {S : Type 0} (pools : List (Entries S)) (at : LinkPlace) → place_in (slice_get (map pool_in pools) at.database) at.index ≡ Some place.Free → entry_at pools at ≡ Some entry.Free
+free_seen pools at h = free_is (entry_at pools at) (sym (seen_at pools at) ∙ h)
+
+pub taken_seen : {S : Type 0} (pools : List (Entries S)) (at : LinkPlace) → is_taken (place_in (slice_get (map pool_in pools) at.database) at.index) ≡ true → IsTakenEntry (entry_at pools at)
+taken_seen pools at h = taken_entry (entry_at pools at) (ap is_taken (sym (seen_at pools at)) ∙ h)
 
 -- an entry is in a pool that there is
 pool_inside : {S : Type 0} (o : Option (Entries S)) (i : ℕ) (was : Entry S) → entry_in o i ≡ Some was → (pool : Entries S) × (o ≡ Some pool)
 pool_inside None i was h = absurd (cc)
 pool_inside (Some pool) i was h = (pool, refl)
 
-pool_within : {S : Type 0} (pools : List (Entries S)) (at : LinkPlace) (was : Entry S) → entry_at pools at ≡ Some was → at.database < length pools
+pub pool_within : {S : Type 0} (pools : List (Entries S)) (at : LinkPlace) (was : Entry S) → entry_at pools at ≡ Some was → at.database < length pools
 pool_within pools at was h = let pool = pool_inside (slice_get pools at.database) at.index was h in slice_get_within pools at.database pool.0 pool.1
 
 -- the entry in the pool that was read
@@ -187,11 +206,16 @@ stores pools at was (Some stream) h none = let moved = moves pools at was (Some 
 pub seen : {S : Type 0} (pools : List (Entries S)) (at : LinkPlace) (pool : Entries S) (e : Entry S) → slice_get pools at.database ≡ Some pool → slice_get pool.entries at.index ≡ Some e → place_in (slice_get (map pool_in pools) at.database) at.index ≡ Some (place_of e)
 seen pools at pool e there is = seen_at pools at ∙ ap (option_map place_of) (ap (λ o. entry_in o at.index) there ∙ is)
 
-pub not_free_at : {S : Type 0} (pools : List (Entries S)) (at : LinkPlace) (pool : Entries S) → slice_get pools at.database ≡ Some pool → slice_get pool.entries at.index ≢ Some entry.Free → place_in (slice_get (map pool_in pools) at.database) at.index ≢ Some place.Free
-not_free_at pools at pool there not h = not (ap (λ o. entry_in o at.index) (sym there) ∙ is_free (entry_at pools at) (sym (seen_at pools at) ∙ h))
+pub not_free_at : {S : Type 0} (pools : List (Entries S)) (at : LinkPlace) (pool : Entries S) → slice_get pools at.database ≡ Some pool → free_entry (slice_get pool.entries at.index) ≡ false → place_in (slice_get (map pool_in pools) at.database) at.index ≢ Some place.Free
+not_free_at pools at pool there not h =
+    let yes : free_entry (slice_get pool.entries at.index) ≡ true = ap is_free (sym (seen_at pools at ∙ ap (option_map place_of) (ap (λ o. entry_in o at.index) there)) ∙ h) in
+    absurd (cc)
 
 pub not_idle_at : {S : Type 0} (pools : List (Entries S)) (at : LinkPlace) (pool : Entries S) → slice_get pools at.database ≡ Some pool → idle_entry (slice_get pool.entries at.index) ≡ false → is_idle (place_in (slice_get (map pool_in pools) at.database) at.index) ≡ false
 not_idle_at pools at pool there not = ap is_idle (seen_at pools at ∙ ap (option_map place_of) (ap (λ o. entry_in o at.index) there)) ∙ not
+
+pub idle_at : {S : Type 0} (pools : List (Entries S)) (at : LinkPlace) (pool : Entries S) → slice_get pools at.database ≡ Some pool → idle_entry (slice_get pool.entries at.index) ≡ true → is_idle (place_in (slice_get (map pool_in pools) at.database) at.index) ≡ true
+idle_at pools at pool there is = ap is_idle (seen_at pools at ∙ ap (option_map place_of) (ap (λ o. entry_in o at.index) there)) ∙ is
 
 pub pool_seen : {S : Type 0} (pools : List (Entries S)) (d : ℕ) (pool : Entries S) → slice_get pools d ≡ Some pool → slice_get (map pool_in pools) d ≡ Some (pool_in pool)
 pool_seen pools d pool there = slice_get-map pool_in pools d ∙ ap (option_map pool_in) there

@@ -6,5 +6,6 @@ pub mod Whole
 pub mod Handing
 pub mod Queues
 pub mod Asking
+pub mod GivenBack
 pub mod Settling
 pub mod NewLinks

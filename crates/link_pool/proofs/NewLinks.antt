@@ -10,13 +10,14 @@ use Rattle.link_pool.specs.declared.place.Claim.{Claim}
 use Rattle.link_pool.specs.declared.place.Claim.TheVariants as claim
 use Rattle.link_pool.specs.declared.place.Place.{Place}
 use Rattle.link_pool.specs.declared.place.Place.TheVariants as place
-use Rattle.link_pool.specs.Pool.{DatabasePool, PoolView, place_in, place_at}
-use Rattle.link_pool.specs.OnePlace.{Fits, has_link, has_permit, held_by, open_for, waits, link_number, permit_number, IsPool}
+use Rattle.link_pool.specs.Pool.{DatabasePool, PoolView, place_in, place_at, is_free}
+use Rattle.link_pool.specs.OnePlace.{Fits, has_link, has_permit, has_given, held_by, open_for, given_by, waits, link_number, permit_number, IsStacked, IsPool}
 use Rattle.slot_queues.specs.Queues.{times, queue_of}
 use Rattle.link_pool.specs.PoolStep.{empty_pool, empty_pools, emptied, fresh}
 use Rattle.link_pool.specs.Entries.{Entries, place_of, stream_of, idle_entry, freed, new_links, pool_in, streams_in}
 use Rattle.link_pool.specs.Streams.{stream_there, stored_in, NothingStored}
-use Rattle.link_pool.specs.Stacks.{how_many, IsStack}
+use Rattle.link_pool.specs.Stacks.{how_many, IsStack, all_places}
+use Rattle.link_pool.proofs.Stacking.{all_stacked}
 
 none_idle : (S : Type 0) (n : ℕ) → how_many (idle_entry {S = S}) (replicate n entry.Free) ≡ 0
 none_idle S zero = refl
@@ -53,6 +54,11 @@ none_waits s zero d = refl
 none_waits s (suc n) zero = refl
 none_waits s (suc n) (suc d) = none_waits s n d
 
+-- a new pool's stack has all places
+stacked_empty : {X : Type 0} (size : X → ℕ) (o : Option X) → IsStacked (option_map (λ x. empty_pool (size x)) o)
+stacked_empty size None = tt
+stacked_empty size (Some x) = all_stacked is_free place.Free (size x) refl refl
+
 -- pools with nothing at any place, for which nobody waits
 whole_empty : {X : Type 0} (peer incarnation link permit ticket slots : ℕ) (size : X → ℕ) (xs : List X)
     → (link ≤ 2 ^ 64) × (permit ≤ 2 ^ 64) × (ticket ≤ 2 ^ 64) × (incarnation < 2 ^ 64)
@@ -67,10 +73,12 @@ whole_empty peer incarnation link permit ticket slots size xs numbers =
       fits = λ at. ⊎_elim (λ n. subst (Fits v at) (sym n) tt) (λ s. subst (Fits v at) (sym s) tt) (free at);
       links = λ s at. alike (has_link at) claim.Nothing (slice_get v.claims s) refl (none s) ∙ sym (alike (held_by s) place.Free (place_at v at) refl (free at));
       permits = λ s at. alike (has_permit at) claim.Nothing (slice_get v.claims s) refl (none s) ∙ sym (alike (open_for s) place.Free (place_at v at) refl (free at));
+      given = λ s at. alike (has_given at) claim.Nothing (slice_get v.claims s) refl (none s) ∙ sym (alike (given_by s) place.Free (place_at v at) refl (free at));
       queues = λ s d. alike (waits d) claim.Nothing (slice_get v.claims s) refl (none s) ∙ sym (none_waits s (length xs) d);
       link_once = λ at other n h k. let e : None ≡ Some n = sym (alike link_number place.Free (place_at v at) refl (free at)) ∙ h in absurd (cc);
       permit_once = λ at other n h k. let e : None ≡ Some n = sym (alike permit_number place.Free (place_at v at) refl (free at)) ∙ h in absurd (cc);
       numbers = numbers;
+      stacks = λ d. subst IsStacked (sym (pool d)) (stacked_empty size (slice_get xs d));
       beside = length-replicate {A = List ℕ} (length xs) [] ∙ sym (length-map xs (λ x. empty_pool (size x)));
     }
 
@@ -88,7 +96,7 @@ places_free S zero = refl
 places_free S (suc n) = ap (λ (ps : List Place). place.Free ∷ ps) (places_free S n)
 
 new_pool_seen : (S : Type 0) (size : ℕ) → pool_in (new_links {S = S} size) ≡ empty_pool size
-new_pool_seen S size = ap {B = DatabasePool} (λ (ps : List Place). record { places = ps }) (places_free S size)
+new_pool_seen S size = ap {B = DatabasePool} (λ (ps : List Place). record { places = ps; free = all_places size }) (places_free S size)
 
 pub new_seen : (S : Type 0) (sizes : List ℕ) → map pool_in (map (new_links {S = S}) sizes) ≡ empty_pools sizes
 new_seen S [] = refl
@@ -118,7 +126,7 @@ new_stored S sizes at = none_stored S (λ size. size) sizes at.database at.index
 pub freed_stored : {S : Type 0} (pools : List (Entries S)) → NothingStored (map streams_in (map freed pools))
 freed_stored {S} pools at = none_stored S (λ (pool : Entries S). length pool.entries) pools at.database at.index
 
--- the first so many of a list are changed
+-- the first items of a list are changed
 pub get_mapped : {X : Type 0} (f : X → X) (old : List X) (i : ℕ) (d : X) → i < length old → get_or (map f (take i old) ++ drop i old) i d ≡ get_or old i d
 get_mapped f [] i d h = absurd (omega arith)
 get_mapped f (x ∷ xs) zero d h = refl

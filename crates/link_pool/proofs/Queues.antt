@@ -1,5 +1,5 @@
 -- Who waits, once a client has joined a queue or left it.
-use Rattle.std.proofs.Common.{◌≡◌, ◌≢◌, ℕ, zero, suc, ◌<◌, List, [], ◌∷◌, map, Option, Some, length, length-set, refl, ap, sym, subst, ◌∙◌, arith, ⊎_elim, inl, inr}
+use Rattle.std.proofs.Common.{◌≡◌, ◌≢◌, ℕ, zero, suc, ◌<◌, Bool, List, [], ◌∷◌, map, Some, length, length-set, refl, ap, sym, ◌∙◌, arith, ⊎_elim, inl, inr}
 use Rattle.std.proofs.Math.ListN.{set}
 use Rattle.std.specs.List.{slice_get}
 use Rattle.std.proofs.lemmas.Option.{slice_get_within}
@@ -10,38 +10,31 @@ use Rattle.slot_queues.proofs.Times.{eq_self, eq_no, one_yes, one_no, times_join
 use Rattle.link_pool.specs.declared.place.Claim.{Claim}
 use Rattle.link_pool.specs.declared.place.Claim.TheVariants as claim
 use Rattle.link_pool.specs.Pool.{PoolView, place_at, queue_at, with_queue, with_claim}
-use Rattle.link_pool.specs.OnePlace.{has_link, has_permit, held_by, open_for, waits, IsPool}
+use Rattle.link_pool.specs.OnePlace.{waits, IsPool}
 use Rattle.link_pool.proofs.Places.{slice_get-set_same}
 use Rattle.link_pool.proofs.Changes.{queue_here, queue_there}
-use Rattle.link_pool.proofs.Whole.{agree_changed, slot_cases, fits_more}
+use Rattle.link_pool.proofs.Whole.{says, tells, ties, agree_changed, slot_cases, same_had, fits_more}
 
 -- what a change of one queue and for one client has to keep
 pub record Requeues (v : PoolView) (d : ℕ) (change : List ℕ → List ℕ) (slot : ℕ) (was claim : Claim) : Type 0 where
   pub there : d < length v.queues
   pub had : slice_get v.claims slot ≡ Some was
-  pub links : (k : LinkPlace) → has_link k (Some claim) ≡ has_link k (Some was)
-  pub permits : (k : LinkPlace) → has_permit k (Some claim) ≡ has_permit k (Some was)
+  pub same : (k : LinkPlace) → says k (Some claim) ≡ says k (Some was)
   pub others_wait : (s : ℕ) → s ≢ slot → times s (change (queue_at v d)) ≡ times s (queue_at v d)
   pub here : waits d (Some claim) ≡ times slot (change (queue_at v d))
   pub elsewhere : (e : ℕ) → e ≢ d → waits e (Some claim) ≡ waits e (Some was)
-
--- what a client had is as before, once one claim has changed
-same_had : {K R : Type 0} (f : K → Option Claim → R) (g : ℕ → K → R) (claims : List Claim) (slot : ℕ) (was claim : Claim) → slice_get claims slot ≡ Some was → ((k : K) → f k (Some claim) ≡ f k (Some was)) → ((s : ℕ) (k : K) → f k (slice_get claims s) ≡ g s k)
-    → (s : ℕ) (k : K) → f k (slice_get (set claims slot claim) s) ≡ g s k
-same_had f g claims slot was claim had same agree s k = ⊎_elim
-    (λ e. subst (λ (t : ℕ). f k (slice_get (set claims slot claim) t) ≡ g t k) (sym e) (ap (f k) (slice_get-set_same claims slot claim (slice_get_within claims slot was had)) ∙ same k ∙ ap (f k) (sym had) ∙ agree slot k))
-    (λ n. ap (f k) n.1 ∙ agree s k)
-    (slot_cases claims slot s claim)
 
 -- after a change of one queue and for one client
 pub requeued : (v : PoolView) (d : ℕ) (change : List ℕ → List ℕ) (slot : ℕ) (was claim : Claim) → IsPool v → Requeues v d change slot was claim → IsPool (with_claim (with_queue v d change) slot claim)
 requeued v d change slot was claim whole m =
     let now = slice_get-set_same v.claims slot claim (slice_get_within v.claims slot was m.had) in
     let made = queue_here v d change m.there in
+    let tie = same_had says (λ s k. tells s (place_at v k)) v.claims slot was claim m.had m.same (ties v whole) in
     record {
       fits = λ k. fits_more v (with_claim (with_queue v d change) slot claim) k (place_at v k) refl refl (omega arith) (omega arith) (whole.fits k);
-      links = same_had has_link (λ s k. held_by s (place_at v k)) v.claims slot was claim m.had m.links whole.links;
-      permits = same_had has_permit (λ s k. open_for s (place_at v k)) v.claims slot was claim m.had m.permits whole.permits;
+      links = λ s k. ap (λ (t : Bool × Bool × Bool). t.0) (tie s k);
+      permits = λ s k. ap (λ (t : Bool × Bool × Bool). t.1) (tie s k);
+      given = λ s k. ap (λ (t : Bool × Bool × Bool). t.2) (tie s k);
       queues = agree_changed waits times (queue_at v) (queue_at (with_queue v d change)) (slice_get v.claims) (slice_get (set v.claims slot claim)) d slot whole.queues
           (λ e. ⊎_elim (λ same. inl same) (λ n. inr (n, queue_there v d e change n)) (cases_eq e d))
           (λ s. slot_cases v.claims slot s claim)
@@ -51,6 +44,7 @@ requeued v d change slot was claim whole m =
       link_once = whole.link_once;
       permit_once = whole.permit_once;
       numbers = whole.numbers;
+      stacks = whole.stacks;
       beside = length-set v.queues d (change (queue_at v d)) ∙ whole.beside;
     }
 
@@ -78,8 +72,7 @@ left v d slot whole h =
     requeued v d (others slot) slot (claim.Waiting d) claim.Nothing whole record {
       there = queue_within v.queues d slot (omega (arith, once));
       had = h;
-      links = λ k. refl;
-      permits = λ k. refl;
+      same = λ k. refl;
       others_wait = λ s n. times_other slot s (queue_at v d) n;
       here = omega (arith, less, once);
       elsewhere = λ e n. sym (waits_not d e n);
@@ -102,8 +95,7 @@ joined v d slot whole there h =
     requeued v d (behind slot) slot claim.Nothing (claim.Waiting d) whole record {
       there = there;
       had = h;
-      links = λ k. refl;
-      permits = λ k. refl;
+      same = λ k. refl;
       others_wait = λ s n. let e = times_joined s slot (queue_at v d) in let no = one_no slot s n in omega (arith, e, no);
       here = omega (arith, is, self, one, none);
       elsewhere = λ e n. waits_not d e n;

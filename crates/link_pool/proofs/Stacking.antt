@@ -1,13 +1,12 @@
--- The stack of a pool's idle links, and its lowest free place, once a place has changed.
-use Rattle.std.proofs.Common.{◌≡◌, ◌≢◌, ℕ, zero, suc, ◌+◌, ◌<◌, ◌≤◌, ◌==◌, Bool, true, false, List, [], ◌∷◌, ◌++◌, Option, Some, length, refl, ap, subst, sym, ◌∙◌, arith, length-append, ⊎_elim, if◌then◌else◌}
+-- A pool's stacks, once a place has changed.
+use Rattle.std.proofs.Common.{◌≡◌, ◌≢◌, ℕ, zero, suc, ◌+◌, ◌-◌, ◌<◌, ◌≤◌, ◌==◌, Bool, true, false, List, [], ◌∷◌, ◌++◌, Option, None, Some, IfNone, IfSome, length, replicate, take, refl, ap, subst, sym, ◌∙◌, arith, length-append, append_assoc, ⊎_elim, if◌then◌else◌}
 use Rattle.std.proofs.Math.ListN.{set}
 use Rattle.std.specs.List.{slice_get}
-use Rattle.std.proofs.lemmas.Option.{slice_get_within, same_Some}
-use Rattle.std.proofs.lemmas.Bool.{cases_eq}
-use Rattle.link_pool.specs.declared.entry.Entry.{Entry}
-use Rattle.link_pool.specs.declared.entry.Entry.TheVariants as entry
+use Rattle.std.proofs.lemmas.List.{length-replicate, get_or-replicate}
+use Rattle.std.proofs.lemmas.Option.{slice_get_within, slice_get_past, slice_get-get_or}
+use Rattle.std.proofs.lemmas.Bool.{cases_eq, cases_lt}
 use Rattle.slot_queues.specs.Queues.{times}
-use Rattle.link_pool.specs.Stacks.{how_many, IsStack, put_on}
+use Rattle.link_pool.specs.Stacks.{how_many, IsStack, put_on, top, under_top, all_places}
 use Rattle.link_pool.proofs.Places.{slice_get-set_same, slice_get-set_other}
 use Rattle.slot_queues.proofs.Times.{eq_self, eq_no, times_joined}
 
@@ -112,9 +111,71 @@ relisted_by kind xs stack s old new false e was out keeps = record {
 pub relisted : {X : Type 0} (kind : Option X → Bool) (xs : List X) (stack : List ℕ) (s : ℕ) (old new : X) → slice_get xs s ≡ Some old → kind (Some old) ≡ false → IsStack kind xs stack → IsStack kind (set xs s new) (put_on (kind (Some new)) s stack)
 relisted kind xs stack s old new was out keeps = relisted_by kind xs stack s old new (kind (Some new)) refl was out keeps
 
--- nothing below is free, once a place has changed
-pub below : {S : Type 0} (xs : List (Entry S)) (s low lower : ℕ) (new : Entry S) → s < length xs → lower ≤ low → (new ≡ entry.Free → lower ≤ s) → ((i : ℕ) → i < low → slice_get xs i ≢ Some entry.Free) → (i : ℕ) → i < lower → slice_get (set xs s new) i ≢ Some entry.Free
-below xs s low lower new within l free none i h e = ⊎_elim
-    (λ here. let is : new ≡ entry.Free = same_Some new entry.Free (sym (ap (slice_get (set xs s new)) here ∙ slice_get-set_same xs s new within) ∙ e) in let least = free is in absurd (omega (arith, least, here, h)))
-    (λ apart. none i (omega (arith, h, l)) (sym (slice_get-set_other xs s i new apart) ∙ e))
-    (cases_eq i s)
+-- a stack that has a last place, and one that has none
+pub top_split : (stack : List ℕ) (s : ℕ) → top stack ≡ Some s → stack ≡ under_top stack ++ s ∷ []
+top_split [] s h = absurd (cc)
+top_split (x ∷ []) s h = let e : x ≡ s = cc in ap (λ (y : ℕ). y ∷ []) e
+top_split (x ∷ y ∷ rest) s h =
+    let n : length (x ∷ y ∷ rest) - 1 ≡ suc (length (y ∷ rest) - 1) = omega arith in
+    let below : top (y ∷ rest) ≡ Some s = ap (slice_get (x ∷ y ∷ rest)) (sym n) ∙ h in
+    subst (λ (k : ℕ). x ∷ y ∷ rest ≡ take k (x ∷ y ∷ rest) ++ s ∷ []) (sym n) (ap (λ (ys : List ℕ). x ∷ ys) (top_split (y ∷ rest) s below))
+
+no_top : (stack : List ℕ) → top stack ≡ None → length stack ≡ 0
+no_top [] h = refl
+no_top (x ∷ rest) h = absurd (cc (slice_get-get_or (x ∷ rest) (length (x ∷ rest) - 1) x (omega arith)))
+
+pub none_next : {X : Type 0} (kind : Option X → Bool) (xs : List X) (stack : List ℕ) (o : Option ℕ) → IsStack kind xs stack → o ≡ top stack → IfNone o ((i : ℕ) → kind (slice_get xs i) ≡ false)
+none_next kind xs stack None keeps e = none_listed kind xs stack keeps (no_top stack (sym e))
+none_next kind xs stack (Some s) keeps e = tt
+
+pub of_top : {X : Type 0} (kind : Option X → Bool) (xs : List X) (stack : List ℕ) (s : ℕ) → IsStack kind xs stack → top stack ≡ Some s → kind (slice_get xs s) ≡ true
+of_top kind xs stack s keeps h = last_of kind xs stack (under_top stack) s (top_split stack s h) keeps
+
+-- what is taken next is of the kind
+pub next_listed : {X : Type 0} (kind : Option X → Bool) (xs : List X) (stack : List ℕ) (o : Option ℕ) → IsStack kind xs stack → o ≡ top stack → IfSome o (λ i. kind (slice_get xs i) ≡ true)
+next_listed kind xs stack None keeps e = tt
+next_listed kind xs stack (Some s) keeps e = of_top kind xs stack s keeps (sym e)
+
+-- the place that is taken next is taken off
+pub topped : {X : Type 0} (kind : Option X → Bool) (xs : List X) (stack : List ℕ) (s : ℕ) (old new : X) → top stack ≡ Some s → slice_get xs s ≡ Some old → kind (Some new) ≡ false → IsStack kind xs stack → IsStack kind (set xs s new) (under_top stack)
+topped kind xs stack s old new h was out keeps = popped kind xs stack (under_top stack) s old new (top_split stack s h) was out keeps
+
+-- where each place is of the kind, all are on the stack
+all_past : (i n : ℕ) → n ≤ i → times i (all_places n) ≡ 0
+all_past i zero past = refl
+all_past i (suc n) past = let none = all_past i n (omega (arith, past)) in rw (eq_no n i (λ t. absurd (omega (arith, past, t)))) (omega (arith, none))
+
+all_within : (i n : ℕ) → i < n → times i (all_places n) ≡ 1
+all_within i zero within = absurd (omega (arith, within))
+all_within i (suc n) within = ⊎_elim
+    (λ same. let none = all_past n n (omega arith) in subst (λ (j : ℕ). times j (all_places (suc n)) ≡ 1) (sym same) (rw (eq_self n) (omega (arith, none))))
+    (λ apart. let one_is = all_within i n (omega (arith, within, apart)) in rw (eq_no n i (λ t. apart (sym t))) (omega (arith, one_is)))
+    (cases_eq i n)
+
+each_within : {X : Type 0} (x : X) (n i : ℕ) → i < n → slice_get (replicate n x) i ≡ Some x
+each_within x n i within =
+    let long = length-replicate n x in
+    slice_get-get_or (replicate n x) i x (omega (arith, within, long)) ∙ ap Some (get_or-replicate n i x x within)
+
+none_past : {X : Type 0} (x : X) (n i : ℕ) → n ≤ i → slice_get (replicate n x) i ≡ None
+none_past x n i past = let long = length-replicate n x in slice_get_past (replicate n x) i (omega (arith, past, long))
+
+all_counted : {X : Type 0} (kind : Option X → Bool) (x : X) (n : ℕ) → kind (Some x) ≡ true → length (all_places n) ≡ how_many kind (replicate n x)
+all_counted kind x zero is = refl
+all_counted kind x (suc n) is = let e = all_counted kind x n is in rw is (omega (arith, e))
+
+pub all_stacked : {X : Type 0} (kind : Option X → Bool) (x : X) (n : ℕ) → kind None ≡ false → kind (Some x) ≡ true → IsStack kind (replicate n x) (all_places n)
+all_stacked kind x n out is = record {
+  once = λ i. ⊎_elim
+      (λ within. all_within i n within ∙ sym (ap (λ o. one (kind o)) (each_within x n i within) ∙ ap one is))
+      (λ past. all_past i n past ∙ sym (ap (λ o. one (kind o)) (none_past x n i past) ∙ ap one out))
+      (cases_lt i n);
+  counted = all_counted kind x n is;
+}
+
+-- one more of all places is put on a stack
+pub all_step : (stack : List ℕ) (i : ℕ) → 0 < i → (stack ++ (i - 1) ∷ []) ++ all_places (i - 1) ≡ stack ++ all_places i
+all_step stack zero some = absurd (omega (arith, some))
+all_step stack (suc i) some =
+    let e : suc i - 1 ≡ i = omega arith in
+    subst (λ (k : ℕ). (stack ++ k ∷ []) ++ all_places k ≡ stack ++ all_places (suc i)) (sym e) (append_assoc stack (i ∷ []) (all_places i))

@@ -1,6 +1,7 @@
 pub mod Pool
 pub mod OnePlace
 pub mod PoolStep
+pub mod Turns
 pub mod Streams
 pub mod Said
 pub mod Stacks

@@ -1,4 +1,5 @@
--- What is true of every node's links (own): each is in one place, and each client has one thing at most.
+-- What is true of every node's links (own): each is in one place, and each client has at most one
+-- thing.
 use Rattle.std.specs.Prelude.{ℕ, ◌≡◌, ◌==◌, ◌&&◌, ◌+◌, ◌<◌, ◌≤◌, ◌^◌, Bool, false, List, [], ◌∷◌, Option, Some, None, length, map, slice_get, slice_index, if◌then◌else◌}
 use Rattle.lease.specs.declared.link_place.LinkPlace.{LinkPlace}
 use Rattle.slot_queues.specs.Queues.{times}
@@ -11,7 +12,8 @@ use Rattle.link_pool.specs.declared.place.LinkState.{LinkState}
 use Rattle.link_pool.specs.declared.place.LinkState.TheVariants as state
 use Rattle.link_pool.specs.declared.place.Claim.{Claim}
 use Rattle.link_pool.specs.declared.place.Claim.TheVariants as claim
-use Rattle.link_pool.specs.Pool.{DatabasePool, PoolView, place_at, queue_at}
+use Rattle.link_pool.specs.Pool.{DatabasePool, PoolView, place_at, is_free, queue_at}
+use Rattle.link_pool.specs.Stacks.{IsStack}
 
 -- whether both are one place
 abbrev pub same_place : LinkPlace → LinkPlace → Bool
@@ -21,31 +23,47 @@ same_place a b = (a.database == b.database) && (a.index == b.index)
 abbrev pub has_link : LinkPlace → Option Claim → Bool
 has_link at None = false
 has_link at (Some claim.Nothing) = false
+has_link at (Some claim.Cancelled) = false
 has_link at (Some (claim.Waiting database)) = false
 has_link at (Some (claim.Open other)) = false
 has_link at (Some (claim.Link other)) = same_place other at
+has_link at (Some (claim.Gave other)) = false
 
 -- whether a client has the permit of this place
 abbrev pub has_permit : LinkPlace → Option Claim → Bool
 has_permit at None = false
 has_permit at (Some claim.Nothing) = false
+has_permit at (Some claim.Cancelled) = false
 has_permit at (Some (claim.Waiting database)) = false
 has_permit at (Some (claim.Open other)) = same_place other at
 has_permit at (Some (claim.Link other)) = false
+has_permit at (Some (claim.Gave other)) = false
+
+-- whether a client gave back the link of this place, which is still quarantined
+abbrev pub has_given : LinkPlace → Option Claim → Bool
+has_given at None = false
+has_given at (Some claim.Nothing) = false
+has_given at (Some claim.Cancelled) = false
+has_given at (Some (claim.Waiting database)) = false
+has_given at (Some (claim.Open other)) = false
+has_given at (Some (claim.Link other)) = false
+has_given at (Some (claim.Gave other)) = same_place other at
 
 -- how often a client's claim says that it waits for the database
 abbrev pub waits : ℕ → Option Claim → ℕ
 waits database None = 0
 waits database (Some claim.Nothing) = 0
+waits database (Some claim.Cancelled) = 0
 waits database (Some (claim.Waiting other)) = if other == database then 1 else 0
 waits database (Some (claim.Open at)) = 0
 waits database (Some (claim.Link at)) = 0
+waits database (Some (claim.Gave at)) = 0
 
 -- whether a link is with the client of this slot
 abbrev pub is_with : ℕ → LinkState → Bool
 is_with slot state.Idle = false
 is_with slot (state.Held other) = other == slot
-is_with slot state.Quarantined = false
+is_with slot (state.Quarantined giver) = false
 
 -- whether the link of a place is held by the client of this slot
 abbrev pub held_by : ℕ → Option Place → Bool
@@ -61,11 +79,26 @@ open_for slot (Some place.Free) = false
 open_for slot (Some (place.Open permit other)) = other == slot
 open_for slot (Some (place.Link link)) = false
 
--- an idle link has no open ticket and isn't condemned; a quarantined one has an open ticket and isn't condemned
+-- whether a link is quarantined, and the client of this slot gave it back
+abbrev pub is_from : ℕ → LinkState → Bool
+is_from slot state.Idle = false
+is_from slot (state.Held other) = false
+is_from slot (state.Quarantined None) = false
+is_from slot (state.Quarantined (Some other)) = other == slot
+
+-- whether the link of a place is quarantined, and the client of this slot gave it back
+abbrev pub given_by : ℕ → Option Place → Bool
+given_by slot None = false
+given_by slot (Some place.Free) = false
+given_by slot (Some (place.Open permit other)) = false
+given_by slot (Some (place.Link link)) = is_from slot link.state
+
+-- an idle link has no open ticket and isn't condemned; a quarantined one has an open ticket and
+-- isn't condemned
 abbrev pub StateFits : LinkState → OpenTickets → Type 0
 StateFits state.Idle hold = (hold.tickets ≡ 0) × (hold.condemned ≡ false)
 StateFits (state.Held slot) hold = Unit {0}
-StateFits state.Quarantined hold = (0 < hold.tickets) × (hold.condemned ≡ false)
+StateFits (state.Quarantined giver) hold = (0 < hold.tickets) × (hold.condemned ≡ false)
 
 -- a link says its node, its incarnation and its place, and its number was given
 pub record LinkFits (v : PoolView) (at : LinkPlace) (link : Link) : Type 0 where
@@ -116,6 +149,11 @@ used (place.Free ∷ places) = used places
 used (place.Open permit slot ∷ places) = 1 + used places
 used (place.Link link ∷ places) = 1 + used places
 
+-- a pool's stack has each free place once, and no other
+abbrev pub IsStacked : Option DatabasePool → Type 0
+IsStacked None = Unit {0}
+IsStacked (Some pool) = IsStack is_free pool.places pool.free
+
 -- what is true of every node's pools
 pub record IsPool (v : PoolView) : Type 0 where
   -- what stands at a place says its node, incarnation and place, with a number that was given
@@ -126,17 +164,24 @@ pub record IsPool (v : PoolView) : Type 0 where
   -- a client has a permit exactly where its place is kept for it
   pub permits : (slot : ℕ) (at : LinkPlace)
       → has_permit at (slice_get v.claims slot) ≡ open_for slot (place_at v at)
+  -- a client claims to have given a link back exactly where that link is quarantined and was given
+  -- back by it
+  pub given : (slot : ℕ) (at : LinkPlace)
+      → has_given at (slice_get v.claims slot) ≡ given_by slot (place_at v at)
   -- a client waits exactly where it stands in that queue, and it stands there once
   pub queues : (slot database : ℕ)
       → waits database (slice_get v.claims slot) ≡ times slot (queue_at v database)
   -- no two links have one number, and no two permits
   pub link_once : (at other : LinkPlace) (number : ℕ) → link_number (place_at v at) ≡ Some number
       → link_number (place_at v other) ≡ Some number → at ≡ other
-  pub permit_once : (at other : LinkPlace) (number : ℕ) → permit_number (place_at v at) ≡ Some number
+  pub permit_once : (at other : LinkPlace) (number : ℕ)
+      → permit_number (place_at v at) ≡ Some number
       → permit_number (place_at v other) ≡ Some number → at ≡ other
   -- the numbers that are left
   pub numbers : (v.next_link ≤ 2 ^ 64) × (v.next_permit ≤ 2 ^ 64) × (v.next_ticket ≤ 2 ^ 64)
       × (v.incarnation < 2 ^ 64)
+  -- each database's stack has its free places
+  pub stacks : (database : ℕ) → IsStacked (slice_get v.pools database)
   -- each database has a queue
   pub beside : length v.queues ≡ length v.pools
 
@@ -151,4 +196,5 @@ sizes pools = map (λ pool. length pool.places) pools
 
 -- links and permits of each database are at most its pool size
 abbrev pub WithinSizes : List ℕ → PoolView → Type 0
-WithinSizes sizes v = (database : ℕ) → used_in (slice_get v.pools database) ≤ slice_index sizes database
+WithinSizes sizes v = (database : ℕ)
+    → used_in (slice_get v.pools database) ≤ slice_index sizes database

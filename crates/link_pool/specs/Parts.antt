@@ -22,26 +22,28 @@ use Rattle.link_pool.specs.Entries.{place_of, claim_of}
 abbrev pub is_held : LinkState → Bool
 is_held state.Idle = false
 is_held (state.Held slot) = true
-is_held state.Quarantined = false
+is_held (state.Quarantined giver) = false
 
--- whether there is such a place, and no stream lies there
-abbrev pub is_bare : Option Place → Bool
-is_bare None = false
-is_bare (Some place.Free) = true
-is_bare (Some (place.Open permit slot)) = true
-is_bare (Some (place.Link link)) = is_held link.state
+-- whether a client has the place
+abbrev pub is_taken : Option Place → Bool
+is_taken None = false
+is_taken (Some place.Free) = false
+is_taken (Some (place.Open permit slot)) = true
+is_taken (Some (place.Link link)) = is_held link.state
 
 -- the view with this at a place, and so for the client of a slot
 abbrev pub with_client : {S : Type 0} → PoolView → LinkPlace → ℕ → Entry S → PoolView
 with_client v at slot entry = with_claim (with_place v at (place_of entry)) slot (claim_of at entry)
 
 -- what is stored with an entry is stored at its place, and nothing else
-abbrev pub Stores : {S : Type 0} → LinkPlace → Option S → List (List (Option S)) → List (List (Option S)) → Type 0
+abbrev pub Stores : {S : Type 0} → LinkPlace → Option S → List (List (Option S))
+    → List (List (Option S)) → Type 0
 Stores at None old new = new ≡ old
 Stores at (Some stream) old new = Puts at stream old new
 
 -- a stream that leaves its place is taken from there, and nothing else
-abbrev pub Leaves : {S : Type 0} → LinkPlace → Option S → List (List (Option S)) → List (List (Option S)) → Type 0
+abbrev pub Leaves : {S : Type 0} → LinkPlace → Option S → List (List (Option S))
+    → List (List (Option S)) → Type 0
 Leaves at None old new = new ≡ old
 Leaves at (Some stream) old new = Takes at stream old new
 
@@ -55,18 +57,32 @@ quarantined_place Condemned link = place.Free
 abbrev pub settled_link : LinkState → OpenTickets → Link → Place
 settled_link state.Idle hold link = place.Link link
 settled_link (state.Held slot) hold link = place.Link (with_hold link hold)
-settled_link state.Quarantined hold link = quarantined_place (state_of hold) (with_hold link hold)
+settled_link (state.Quarantined giver) hold link =
+    quarantined_place (state_of hold) (with_hold link hold)
 
 abbrev pub settled_place : OpenTickets → Place → Place
 settled_place hold place.Free = place.Free
 settled_place hold (place.Open permit slot) = place.Open permit slot
 settled_place hold (place.Link link) = settled_link link.state hold link
 
+-- the client that gave a quarantined link back, if it can't get it back, by how that stands by its
+-- tickets
+abbrev pub freed_giver : HoldState → Option ℕ → Option ℕ
+freed_giver Clear giver = giver
+freed_giver (Waiting tickets) giver = None
+freed_giver Condemned giver = giver
+
+-- the client that gave a link back, if it can't get it back once the link has these tickets
+abbrev pub settled_giver : LinkState → OpenTickets → Option ℕ
+settled_giver state.Idle hold = None
+settled_giver (state.Held slot) hold = None
+settled_giver (state.Quarantined giver) hold = freed_giver (state_of hold) giver
+
 -- whether a link with these tickets leaves its place
 abbrev pub is_leaving_in : LinkState → OpenTickets → Bool
 is_leaving_in state.Idle hold = false
 is_leaving_in (state.Held slot) hold = false
-is_leaving_in state.Quarantined hold = hold.condemned
+is_leaving_in (state.Quarantined giver) hold = hold.condemned
 
 abbrev pub is_leaving : OpenTickets → Place → Bool
 is_leaving hold place.Free = false

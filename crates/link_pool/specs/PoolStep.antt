@@ -1,5 +1,5 @@
--- The steps of a node's pools (own; PgBouncer manual, transaction pooling): which reply a call may get, and
--- what it leaves. Free is which idle link is got, and nothing else.
+-- The steps of a node's pools (own; PgBouncer manual, transaction pooling): which reply a call may
+-- get, and what it leaves. Free is which idle link is got, and nothing else.
 use Rattle.std.specs.Prelude.{ℕ, ◌≡◌, ◌≢◌, ◌==◌, ◌+◌, ◌-◌, ◌<◌, ◌^◌, Bool, true, false, List, [], ◌∷◌, Option, Some, None, ◌⊎◌, length, map, slice_get, replicate}
 use Rattle.lease.specs.declared.link_place.LinkPlace.{LinkPlace}
 use Rattle.lease.specs.declared.link_record.LinkRecord.{LinkRecord}
@@ -33,15 +33,28 @@ use Rattle.link_pool.specs.declared.replies.FailedReply.{FailedReply}
 use Rattle.link_pool.specs.declared.replies.FailedReply.TheVariants as failed
 use Rattle.link_pool.specs.declared.replies.RestartReply.{RestartReply}
 use Rattle.link_pool.specs.declared.replies.RestartReply.TheVariants as restart
-use Rattle.link_pool.specs.Pool.{DatabasePool, PoolView, place_at, queue_at, with_place, with_claim, in_state, lend, give_back, unqueued, queued}
+use Rattle.link_pool.specs.Pool.{DatabasePool, PoolView, place_at, free_at, queue_at, with_place, with_claim, in_state, keep, lend, give_back, quarantine, nothing_for, unqueued, departed, unwaited, queued}
+use Rattle.link_pool.specs.Stacks.{top, all_places}
 
 -- whether a client has a link or a permit
 abbrev pub is_holding : Option Claim → Bool
 is_holding None = false
 is_holding (Some claim.Nothing) = false
+is_holding (Some claim.Cancelled) = false
 is_holding (Some (claim.Waiting database)) = false
 is_holding (Some (claim.Open at)) = true
 is_holding (Some (claim.Link at)) = true
+is_holding (Some (claim.Gave at)) = false
+
+-- whether a client has nothing, or waits
+abbrev pub may_ask : Option Claim → Bool
+may_ask None = true
+may_ask (Some claim.Nothing) = true
+may_ask (Some claim.Cancelled) = false
+may_ask (Some (claim.Waiting database)) = true
+may_ask (Some (claim.Open at)) = false
+may_ask (Some (claim.Link at)) = false
+may_ask (Some (claim.Gave at)) = false
 
 -- whether nobody else waits before the slot
 abbrev pub is_first : ℕ → List ℕ → Bool
@@ -52,7 +65,19 @@ is_first slot (first ∷ rest) = first == slot
 abbrev pub is_idle_state : LinkState → Bool
 is_idle_state state.Idle = true
 is_idle_state (state.Held slot) = false
-is_idle_state state.Quarantined = false
+is_idle_state (state.Quarantined giver) = false
+
+-- whether a link is quarantined
+abbrev pub is_quarantined : LinkState → Bool
+is_quarantined state.Idle = false
+is_quarantined (state.Held slot) = false
+is_quarantined (state.Quarantined giver) = true
+
+-- the client that gave a quarantined link back, if it is still there
+abbrev pub giver_of : LinkState → Option ℕ
+giver_of state.Idle = None
+giver_of (state.Held slot) = None
+giver_of (state.Quarantined giver) = giver
 
 -- whether an idle link is at a place
 abbrev pub is_idle : Option Place → Bool
@@ -77,15 +102,15 @@ SomeFree database v = (index : ℕ) × (place_at v (nth_of database index) ≡ S
 abbrev pub NoneFree : ℕ → PoolView → Type 0
 NoneFree database v = (index : ℕ) → place_at v (nth_of database index) ≢ Some place.Free
 
--- the place is free, and no lower one of its database is
-pub record IsLowestFree (v : PoolView) (at : LinkPlace) : Type 0 where
+-- the place is free, and the one of its database that is taken next
+pub record IsNextFree (v : PoolView) (at : LinkPlace) : Type 0 where
   pub free : place_at v at ≡ Some place.Free
-  pub lowest : (index : ℕ) → index < at.index → place_at v (nth_of at.database index) ≢ Some place.Free
+  pub next : top (free_at v at.database) ≡ Some at.index
 
 -- the client has nothing, or waits; and whether nobody waits before it
 abbrev pub MayTake : ℕ → ℕ → Bool → PoolView → Type 0
 MayTake slot database first v =
-    (is_holding (slice_get v.claims slot) ≡ false) × (is_first slot (queue_at v database) ≡ first)
+    (may_ask (slice_get v.claims slot) ≡ true) × (is_first slot (queue_at v database) ≡ first)
 
 -- the client of the slot gets an idle link of the database
 pub record Gets (slot database : ℕ) (lease : LinkRecord) (old new : PoolView) : Type 0 where
@@ -96,9 +121,19 @@ pub record Gets (slot database : ℕ) (lease : LinkRecord) (old new : PoolView) 
   pub of : lease.at.database ≡ database
   pub after : new ≡ lend (unqueued old slot) lease.at slot link
 
--- the client of the slot may open a link at the lowest free place of the database
+-- the client of the slot gets back the very link that it gave back, which is quarantined; its
+-- tickets stay open
+pub record GetsBack (slot : ℕ) (lease : LinkRecord) (old new : PoolView) : Type 0 where
+  pub link : Link
+  pub gave : slice_get old.claims slot ≡ Some (claim.Gave lease.at)
+  pub was : place_at old lease.at ≡ Some (place.Link link)
+  pub quarantined : link.state ≡ state.Quarantined (Some slot)
+  pub says : link.details ≡ lease
+  pub after : new ≡ lend old lease.at slot link
+
+-- the client of the slot may open a link at the free place of the database that is taken next
 pub record MayOpen (slot database : ℕ) (permit : PermitRecord) (old new : PoolView) : Type 0 where
-  pub at : IsLowestFree old permit.at
+  pub at : IsNextFree old permit.at
   pub of : permit.at.database ≡ database
   pub left : old.next_permit < 2 ^ 64
   pub says : permit ≡ record {
@@ -107,21 +142,28 @@ pub record MayOpen (slot database : ℕ) (permit : PermitRecord) (old new : Pool
     number = old.next_permit;
     at = permit.at;
   }
-  pub after : new ≡ record
-      (with_claim (with_place (unqueued old slot) permit.at (place.Open permit slot)) slot (claim.Open permit.at))
-      { next_permit = old.next_permit + 1 }
+  pub after : new ≡ record (keep (unqueued old slot) slot permit) {
+    next_permit = old.next_permit + 1;
+  }
 
 -- asking for a link
 abbrev pub AcquireStep : ℕ → ℕ → AcquireReply LinkRecord PermitRecord → PoolView → PoolView → Type 0
+-- the link that it gave back, if that is still quarantined, also where others wait; or an idle one
+-- in its turn
 AcquireStep slot database (acquire.Got lease) old new =
-    MayTake slot database true old × Gets slot database lease old new
+    GetsBack slot lease old new
+    ⊎ (MayTake slot database true old × Gets slot database lease old new)
 AcquireStep slot database (acquire.Open permit) old new =
     MayTake slot database true old × NoIdle database old × MayOpen slot database permit old new
 -- none is idle and none can be opened, or somebody waits before it
 AcquireStep slot database acquire.Waiting old new =
-    (is_holding (slice_get old.claims slot) ≡ false)
-    × ((is_first slot (queue_at old database) ≡ false) ⊎ (NoIdle database old × NoneFree database old))
+    (may_ask (slice_get old.claims slot) ≡ true)
+    × ((is_first slot (queue_at old database) ≡ false)
+    ⊎ (NoIdle database old × NoneFree database old))
     × (new ≡ queued old slot database)
+-- its wait was cancelled, which is returned once
+AcquireStep slot database acquire.Cancelled old new =
+    (slice_get old.claims slot ≡ Some claim.Cancelled) × (new ≡ with_claim old slot claim.Nothing)
 AcquireStep slot database acquire.Holding old new =
     (is_holding (slice_get old.claims slot) ≡ true) × (new ≡ old)
 -- the step would need a number past the last
@@ -148,7 +190,8 @@ abbrev pub new_link : LinkRecord → List ℕ → Link
 new_link lease key = record { details = lease; key = key; state = state.Idle; hold = new_hold }
 
 -- a link at the permit's place, with the client of the slot
-pub record GoesUp (permit : PermitRecord) (key : List ℕ) (lease : LinkRecord) (old new : PoolView) : Type 0 where
+pub record GoesUp (permit : PermitRecord) (key : List ℕ) (lease : LinkRecord)
+    (old new : PoolView) : Type 0 where
   pub slot : ℕ
   pub kept : IsOpen permit slot old
   pub left : old.next_link < 2 ^ 64
@@ -158,15 +201,19 @@ pub record GoesUp (permit : PermitRecord) (key : List ℕ) (lease : LinkRecord) 
     link = old.next_link;
     at = permit.at;
   }
-  pub after : new ≡ record (lend old permit.at slot (new_link lease key)) { next_link = old.next_link + 1 }
+  pub after : new ≡ record (lend old permit.at slot (new_link lease key)) {
+    next_link = old.next_link + 1;
+  }
 
 -- a link is open
-abbrev pub UpStep : {S : Type 0} → PermitRecord → List ℕ → UpReply LinkRecord PermitRecord S → PoolView → PoolView → Type 0
+abbrev pub UpStep : {S : Type 0} → PermitRecord → List ℕ → UpReply LinkRecord PermitRecord S
+    → PoolView → PoolView → Type 0
 UpStep permit key (up.Up lease) old new = GoesUp permit key lease old new
 UpStep permit key (up.Exhausted again stream) old new =
-    (again ≡ permit) × ((slot : ℕ) × IsOpen permit slot old) × (old.next_link ≡ 2 ^ 64) × (new ≡ old)
+    (again ≡ permit) × ((slot : ℕ) × IsOpen permit slot old) × (old.next_link ≡ 2 ^ 64)
+    × (new ≡ old)
 UpStep permit key (up.Stale stream) old new = StalePermit permit old × (new ≡ old)
--- the pools come to no end
+-- only a node returns this
 UpStep permit key (up.AtEnd stream) old new = ⊥
 
 -- a link couldn't be opened
@@ -196,7 +243,7 @@ ReleaseStep lease release.Idle old new =
 ReleaseStep lease release.Quarantined old new =
     (link : Link) × (slot : ℕ) × IsHeld lease link slot old
     × (link.hold.condemned ≡ false) × (0 < link.hold.tickets)
-    × (new ≡ give_back old lease.at slot (place.Link (in_state state.Quarantined link)))
+    × (new ≡ quarantine old lease.at slot link)
 ReleaseStep lease (release.Closed stream) old new =
     (link : Link) × (slot : ℕ) × IsHeld lease link slot old × (link.hold.condemned ≡ true)
     × (new ≡ give_back old lease.at slot place.Free)
@@ -207,17 +254,23 @@ ReleaseStep lease (release.Exhausted stream) old new = ⊥
 -- a link is closed
 abbrev pub CloseStep : {S : Type 0} → LinkRecord → CloseReply S → PoolView → PoolView → Type 0
 CloseStep lease (close.Closed stream) old new =
-    (link : Link) × (slot : ℕ) × IsHeld lease link slot old × (new ≡ give_back old lease.at slot place.Free)
+    (link : Link) × (slot : ℕ) × IsHeld lease link slot old
+    × (new ≡ give_back old lease.at slot place.Free)
 CloseStep lease (close.Stale stream) old new = StaleLease lease old × (new ≡ old)
 -- no number is needed
 CloseStep lease (close.Exhausted stream) old new = ⊥
 
--- the client of a slot leaves
+-- the client of a slot leaves: a link that it gave back stays quarantined, and nobody gets it back
 abbrev pub LeaveStep : ℕ → LeaveReply → PoolView → PoolView → Type 0
 LeaveStep slot leave.Left old new =
-    (is_holding (slice_get old.claims slot) ≡ false) × (new ≡ unqueued old slot)
+    (is_holding (slice_get old.claims slot) ≡ false) × (new ≡ departed old slot)
 LeaveStep slot leave.Holding old new =
     (is_holding (slice_get old.claims slot) ≡ true) × (new ≡ old)
+
+-- the wait of a slot's client is cancelled, if it waits: it leaves the queue, and its next
+-- `acquire` returns `Cancelled`
+abbrev pub UnwaitStep : ℕ → PoolView → PoolView → Type 0
+UnwaitStep slot old new = new ≡ unwaited old slot
 
 -- a link with these tickets
 abbrev pub with_hold : Link → OpenTickets → Link
@@ -233,7 +286,8 @@ abbrev pub one_more : OpenTickets → OpenTickets
 one_more hold = record hold { tickets = hold.tickets + 1 }
 
 -- one more ticket is open, of the very link that the client has
-pub record Serves (slot : ℕ) (ticket : TicketRecord) (database : ℕ) (key : List ℕ) (old new : PoolView) : Type 0 where
+pub record Serves (slot : ℕ) (ticket : TicketRecord) (database : ℕ) (key : List ℕ)
+    (old new : PoolView) : Type 0 where
   pub at : LinkPlace
   pub link : Link
   pub has : HasLink slot at link old
@@ -291,10 +345,14 @@ one_failed hold = record { tickets = hold.tickets - 1; condemned = true }
 -- a cancel request has ended cleanly
 abbrev pub EndedStep : TicketRecord → EndedReply → PoolView → PoolView → Type 0
 EndedStep ticket ended.Freed old new =
-    (link : Link) × IsTicket ticket link old × (link.state ≡ state.Quarantined) × (link.hold.tickets ≡ 1)
-    × (new ≡ with_place old ticket.at (place.Link (in_state state.Idle (with_hold link (one_less link.hold)))))
+    (link : Link) × IsTicket ticket link old × (is_quarantined link.state ≡ true)
+    × (link.hold.tickets ≡ 1)
+    × (new ≡ nothing_for (giver_of link.state)
+    (with_place old ticket.at
+    (place.Link (in_state state.Idle (with_hold link (one_less link.hold))))))
 EndedStep ticket ended.Counted old new =
-    (link : Link) × IsTicket ticket link old × ((link.state ≢ state.Quarantined) ⊎ (1 < link.hold.tickets))
+    (link : Link) × IsTicket ticket link old
+    × ((is_quarantined link.state ≡ false) ⊎ (1 < link.hold.tickets))
     × (new ≡ with_place old ticket.at (place.Link (with_hold link (one_less link.hold))))
 EndedStep ticket ended.Stale old new = StaleTicket ticket old × (new ≡ old)
 -- no number is needed
@@ -306,15 +364,15 @@ FailedStep ticket failed.Condemned old new =
     (link : Link) × (slot : ℕ) × IsTicket ticket link old × (link.state ≡ state.Held slot)
     × (new ≡ with_place old ticket.at (place.Link (with_hold link (one_failed link.hold))))
 FailedStep ticket (failed.Closed stream) old new =
-    (link : Link) × IsTicket ticket link old × (link.state ≡ state.Quarantined)
-    × (new ≡ with_place old ticket.at place.Free)
+    (link : Link) × IsTicket ticket link old × (is_quarantined link.state ≡ true)
+    × (new ≡ nothing_for (giver_of link.state) (with_place old ticket.at place.Free))
 FailedStep ticket failed.Stale old new = StaleTicket ticket old × (new ≡ old)
 -- no number is needed
 FailedStep ticket failed.Exhausted old new = ⊥
 
 -- a pool of this size with nothing at any place
 abbrev pub empty_pool : ℕ → DatabasePool
-empty_pool size = record { places = replicate size place.Free }
+empty_pool size = record { places = replicate size place.Free; free = all_places size }
 
 -- the pools with nothing at any place
 abbrev pub emptied : List DatabasePool → List DatabasePool

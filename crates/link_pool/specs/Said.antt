@@ -1,5 +1,5 @@
--- What is told of an answer once its values are in a client's hands: what a lease or a permit says, and of a stream
--- nothing (own).
+-- What a reply says once its values are in a client's hands: what its lease or permit carries, and
+-- of a stream nothing (own).
 use Rattle.lease.specs.LinkValue.{LinkValue}
 use Rattle.lease.specs.declared.link_record.LinkRecord.{LinkRecord}
 use Rattle.lease.specs.declared.permit.PermitRecord.{PermitRecord}
@@ -20,6 +20,7 @@ abbrev pub acquire_said : {S : Type 0}
 acquire_said (acquire.Got lease) = acquire.Got lease.details
 acquire_said (acquire.Open permit) = acquire.Open permit
 acquire_said acquire.Waiting = acquire.Waiting
+acquire_said acquire.Cancelled = acquire.Cancelled
 acquire_said acquire.Holding = acquire.Holding
 acquire_said acquire.Exhausted = acquire.Exhausted
 acquire_said acquire.Stale = acquire.Stale

@@ -1,5 +1,5 @@
--- The stack of a pool's idle links.
-use Rattle.std.specs.Prelude.{ℕ, ◌≡◌, ◌+◌, Bool, true, false, List, [], ◌∷◌, ◌++◌, Option, Some, length, slice_get, if◌then◌else◌}
+-- A pool's stacks: of its idle links, and of its free places.
+use Rattle.std.specs.Prelude.{ℕ, zero, suc, ◌≡◌, ◌+◌, ◌-◌, Bool, true, false, List, [], ◌∷◌, ◌++◌, Option, Some, length, slice_get, take, if◌then◌else◌}
 use Rattle.slot_queues.specs.Queues.{times}
 
 -- how many are of a kind
@@ -8,7 +8,8 @@ how_many kind [] = 0
 how_many kind (x ∷ xs) = (if kind (Some x) then 1 else 0) + how_many kind xs
 
 -- the stack has the place of each of this kind once, and no other
-pub record IsStack {X : Type 0} (kind : Option X → Bool) (xs : List X) (stack : List ℕ) : Type 0 where
+pub record IsStack {X : Type 0} (kind : Option X → Bool) (xs : List X)
+    (stack : List ℕ) : Type 0 where
   pub once : (i : ℕ) → times i stack ≡ (if kind (slice_get xs i) then 1 else 0)
   pub counted : length stack ≡ how_many kind xs
 
@@ -16,3 +17,16 @@ pub record IsStack {X : Type 0} (kind : Option X → Bool) (xs : List X) (stack 
 abbrev pub put_on : Bool → ℕ → List ℕ → List ℕ
 put_on true place stack = stack ++ place ∷ []
 put_on false place stack = stack
+
+-- the place that is taken next, which is the last
+abbrev pub top : List ℕ → Option ℕ
+top stack = slice_get stack (length stack - 1)
+
+-- the others
+abbrev pub under_top : List ℕ → List ℕ
+under_top stack = take (length stack - 1) stack
+
+-- all places of a pool of this size, of which the first is taken first
+abbrev pub all_places : ℕ → List ℕ
+all_places zero = []
+all_places (suc size) = size ∷ all_places size

@@ -1,44 +1,45 @@
-//! The links of one database: its places, and which of them have an idle link.
-ghost use Rattle.std.specs.Prelude.{vec_capacity, ◌≡◌, ◌≢◌, ◌<◌, ◌≤◌, ℕ, [], true, false, Some, IfSome, IfNone, IfOk, length, slice_get, option_map, replicate};
+//! The links of one database: its places, and which of them are free or have an idle link.
+ghost use Rattle.std.specs.Prelude.{vec_capacity, ◌≡◌, ◌≢◌, ◌<◌, ◌≤◌, ℕ, [], true, false, Some, IfSome, IfNone, IfOk, length, map, slice_get, option_map, replicate};
 ghost use Rattle.link_pool.specs.declared.entry.Entry.{Entry as EntryOf};
 ghost use Rattle.link_pool.specs.declared.entry.Entry.TheVariants as entry;
-ghost use Rattle.link_pool.specs.declared.place.Place.TheVariants as place;
 ghost use Rattle.link_pool.specs.PoolStep.{is_idle};
-ghost use Rattle.link_pool.specs.Stacks.{put_on};
-ghost use Rattle.link_pool.specs.Entries.{place_of, idle_entry, settled, leaving, with_entry, freed, new_links, TakesIdle, IsLowest};
+ghost use Rattle.link_pool.specs.Pool.{is_free};
+ghost use Rattle.link_pool.specs.Stacks.{put_on, top, under_top, all_places};
+ghost use Rattle.link_pool.specs.Entries.{place_of, idle_entry, free_entry, settled, leaving, stored_link, lent, ungiven, put_at, with_entry, freed, new_links, TakesIdle, IsQuarantined};
 
 use crate::entry::Entry;
 use crate::place::{LinkState, Place};
-use lease::Lease;
+use lease::{Lease, PermitRecord};
 use pg_ids::SlotNo;
 use quarantine::Hold;
 use std::alloc::{AllocError, Global};
 use std::marker::Model;
 
-/// The links of one database. No place below `lowest` is free.
+/// The links of one database. `free` has its free places and `idle` those with an idle link; the
+/// last of each is taken next.
 #[derive(Drop)]
 pub(crate) struct DatabaseLinks<S> {
     entries: Vec<Entry<S>>,
-    lowest: u16,
+    free: Vec<u16>,
     idle: Vec<u16>,
 }
 
 impl<S> Model for DatabaseLinks<S> {
-    ghost use Rattle.std.specs.Prelude.{ℕ, ◌≢◌, ◌<◌, ◌≤◌, Some, slice_get, vec_len, vec_capacity};
-    ghost use Rattle.link_pool.specs.declared.entry.Entry.TheVariants as entry;
-    ghost use Rattle.link_pool.specs.Entries.{Entries, idle_entry};
+    ghost use Rattle.std.specs.Prelude.{◌≤◌, vec_len, vec_capacity};
+    ghost use Rattle.link_pool.specs.Entries.{Entries, idle_entry, free_entry};
     ghost use Rattle.link_pool.specs.Stacks.{IsStack};
 
     ghost Value = { Entries S };
 
-    ghost view = { λ p. record { entries = p.entries.items } };
+    ghost view = { λ p. record { entries = p.entries.items; free = p.free.items } };
 
     ghost invariant = { λ p. (vec_len p.entries ≤ 65535) × (vec_len p.entries ≤ vec_capacity p.idle)
         × IsStack idle_entry p.entries.items p.idle.items
-        × ((i : ℕ) → i < p.lowest → slice_get p.entries.items i ≢ Some entry.Free) };
+        × (vec_len p.entries ≤ vec_capacity p.free)
+        × IsStack free_entry p.entries.items p.free.items };
 }
 
-// So many free places.
+// As many free places as the size.
 fn free_places<S: Drop>(entries: &mut Vec<Entry<S>>, size: u16)
     requires none { entries.old.items ≡ [] }
     requires room { size ≤ vec_capacity entries.old }
@@ -49,33 +50,32 @@ fn free_places<S: Drop>(entries: &mut Vec<Entry<S>>, size: u16)
     }
 }
 
-// The first free place from this one on, and as many as there are places where none is free.
-fn first_free<S: Drop>(entries: &Vec<Entry<S>>, from: u16) -> u16
-    requires few { length entries.now.items ≤ 65535 }
-    ensures passed { (i : ℕ) → from ≤ i → i < result → slice_get entries.now.items i ≢ Some entry.Free }
-    ensures free { result < length entries.now.items → slice_get entries.now.items result ≡ Some entry.Free }
+// Puts all places of a pool of this size on the stack, of which the first is taken first.
+fn stack_all(stack: &mut Vec<u16>, size: u16)
+    requires none { stack.old.items ≡ [] }
+    requires room { size ≤ vec_capacity stack.old }
+    ensures places { stack.new.items ≡ all_places size }
+    ensures capacity { vec_capacity stack.new ≡ vec_capacity stack.old }
 {
-    let mut at = from;
-    while let Some(entry) = entries.get(at as usize) {
-        if entry.is_free() {
-            break;
-        }
-        at += 1;
+    for index in (0..size).rev() {
+        stack.push_reserved(index);
     }
-    at
 }
 
 impl<S: Drop> DatabaseLinks<S> {
-    // As many free places as the size, at most 65,535. It takes all the memory that the database needs.
+    // As many free places as the size, at most 65,535. All the memory that the database needs is
+    // taken here.
     pub(crate) fn new(alloc: Global, size: u16) -> Result<DatabaseLinks<S>, AllocError>
         ensures { IfOk result (λ links. links ≡ new_links size) }
     {
         let mut entries = Vec::with_capacity(alloc, size as usize)?;
+        let mut free = Vec::with_capacity(alloc, size as usize)?;
         let idle = Vec::with_capacity(alloc, size as usize)?;
         free_places(&mut entries, size);
+        stack_all(&mut free, size);
         Ok(DatabaseLinks {
             entries,
-            lowest: 0,
+            free,
             idle,
         })
     }
@@ -86,9 +86,10 @@ impl<S: Drop> DatabaseLinks<S> {
     {
         let size = self.entries.len() as u16;
         self.entries.clear();
-        self.lowest = 0;
+        self.free.clear();
         self.idle.clear();
         free_places(&mut self.entries, size);
+        stack_all(&mut self.free, size);
     }
 
     // What is at a place.
@@ -99,18 +100,42 @@ impl<S: Drop> DatabaseLinks<S> {
         Some(entry.place())
     }
 
-    // The lowest free place, if one is free.
-    pub(crate) fn lowest_free(&mut self) -> Option<u16>
-        ensures free { IfSome result (λ index. IsLowest self.old.entries index) }
-        ensures none { IfNone result ((i : ℕ) → slice_get self.old.entries i ≢ Some entry.Free) }
-        ensures same { self.new ≡ self.old }
+    // The free place that is taken next, if one is free.
+    pub(crate) fn next_free(&self) -> Option<u16>
+        ensures next { result ≡ top self.now.free }
+        ensures none { IfNone result ((i : ℕ) → free_entry (slice_get self.now.entries i) ≡ false) }
     {
-        self.lowest = first_free(&self.entries, self.lowest);
-        if (self.lowest as usize) < self.entries.len() {
-            Some(self.lowest)
-        } else {
-            None
+        self.free.last().copied()
+    }
+
+    // The place of the idle link that is got next, if one is idle.
+    pub(crate) fn next_idle(&self) -> Option<u16>
+        ensures idle { IfSome result
+            (λ index. idle_entry (slice_get self.now.entries index) ≡ true) }
+        ensures none { IfNone result ((i : ℕ) → idle_entry (slice_get self.now.entries i) ≡ false) }
+    {
+        self.idle.last().copied()
+    }
+
+    // What is at each place.
+    pub(crate) fn places(&self, alloc: Global) -> Result<Vec<Place>, AllocError>
+        ensures { IfOk result (λ places. places.items ≡ map place_of self.now.entries) }
+    {
+        let mut places = Vec::with_capacity(alloc, self.entries.len())?;
+        for index in 0..self.entries.len() {
+            places.push_reserved(self.entries[index].place());
         }
+        Ok(places)
+    }
+
+    // The place that is taken next is kept for the link that the client of a slot opens by a
+    // permit.
+    pub(crate) fn keep(&mut self, index: u16, permit: PermitRecord, slot: SlotNo)
+        requires { top self.old.free ≡ Some index }
+        ensures { self.new ≡ put_at index (entry.Open permit slot) under_top self.old }
+    {
+        let _index = self.free.pop();
+        self.entries[index as usize] = Entry::Open { permit, slot };
     }
 
     // The client of a slot gets an idle link, if one is idle.
@@ -126,42 +151,67 @@ impl<S: Drop> DatabaseLinks<S> {
         entry.lend(slot)
     }
 
-    // This is at a place from now on, at which no idle link was.
+    // The client of a slot gets the quarantined link of a place. Its tickets stay open.
+    pub(crate) fn take_back(&mut self, index: u16, slot: SlotNo) -> Option<Lease<S>>
+        requires quarantined { IsQuarantined (slice_get self.old.entries index) }
+        ensures { (was : EntryOf S) → slice_get self.old.entries index ≡ Some was
+            → (result ≡ stored_link was) × (self.new ≡ with_entry index (lent slot was) self.old) }
+    {
+        let entry = &mut self.entries[index as usize];
+        entry.lend(slot)
+    }
+
+    // The client has left that gave the quarantined link of a place back.
+    pub(crate) fn forget_giver(&mut self, index: u16)
+        requires quarantined { IsQuarantined (slice_get self.old.entries index) }
+        ensures { (was : EntryOf S) → slice_get self.old.entries index ≡ Some was
+            → self.new ≡ with_entry index (ungiven was) self.old }
+    {
+        let entry = &mut self.entries[index as usize];
+        entry.forget_giver();
+    }
+
+    // This is at a place from now on, which wasn't free, and at which no idle link was.
     pub(crate) fn put(&mut self, index: u16, entry: Entry<S>)
         requires there { index < length self.old.entries }
         requires not_idle { idle_entry (slice_get self.old.entries index) ≡ false }
+        requires not_free { free_entry (slice_get self.old.entries index) ≡ false }
         ensures { self.new ≡ with_entry index entry self.old }
     {
         let place = entry.place();
         self.entries[index as usize] = entry;
-        list(place, index, &mut self.idle, &mut self.lowest);
+        list(place, index, &mut self.idle, &mut self.free);
     }
 
-    // The link of a place, which isn't idle, has these tickets. The stream of one that leaves the place is returned.
+    // The link of a place, which isn't idle, has these tickets. The stream of a link that leaves
+    // the place is returned.
     pub(crate) fn settle(&mut self, index: u16, hold: Hold) -> Option<S>
         requires there { index < length self.old.entries }
         requires not_idle { idle_entry (slice_get self.old.entries index) ≡ false }
+        requires not_free { free_entry (slice_get self.old.entries index) ≡ false }
         ensures { (was : EntryOf S) → slice_get self.old.entries index ≡ Some was
-            → (result ≡ leaving hold was) × (self.new ≡ with_entry index (settled hold was) self.old) }
+            → (result ≡ leaving hold was)
+            × (self.new ≡ with_entry index (settled hold was) self.old) }
     {
         let entry = &mut self.entries[index as usize];
         let stream = entry.settle(hold);
         let place = entry.place();
-        list(place, index, &mut self.idle, &mut self.lowest);
+        list(place, index, &mut self.idle, &mut self.free);
         stream
     }
 }
 
-// What is at a place from now on is listed, where it is idle or free.
-fn list(what: Place, index: u16, idle: &mut Vec<u16>, lowest: &mut u16)
-    requires { is_idle (Some what) ≡ true → length idle.old.items < vec_capacity idle.old }
+// A place is put on a stack, if what is there from now on is free or an idle link.
+fn list(what: Place, index: u16, idle: &mut Vec<u16>, free: &mut Vec<u16>)
+    requires idle { is_idle (Some what) ≡ true → length idle.old.items < vec_capacity idle.old }
+    requires free { is_free (Some what) ≡ true → length free.old.items < vec_capacity free.old }
     ensures idle { idle.new.items ≡ put_on (is_idle (Some what)) index idle.old.items }
-    ensures capacity { vec_capacity idle.new ≡ vec_capacity idle.old }
-    ensures lowest { lowest.new ≤ lowest.old }
-    ensures free { what ≡ place.Free → lowest.new ≤ index }
+    ensures idle_capacity { vec_capacity idle.new ≡ vec_capacity idle.old }
+    ensures free { free.new.items ≡ put_on (is_free (Some what)) index free.old.items }
+    ensures free_capacity { vec_capacity free.new ≡ vec_capacity free.old }
 {
     match what {
-        Place::Free => *lowest = index.min(*lowest),
+        Place::Free => free.push_reserved(index),
         Place::Link(link) => {
             if let LinkState::Idle = link.state {
                 idle.push_reserved(index);

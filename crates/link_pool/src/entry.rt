@@ -1,7 +1,6 @@
 //! What a pool keeps at one place: the link with its stream, where no client has that.
-ghost use Rattle.std.specs.Prelude.{◌≡◌, ◌≢◌, true, false};
-ghost use Rattle.link_pool.specs.declared.entry.Entry.TheVariants as entry;
-ghost use Rattle.link_pool.specs.Entries.{place_of, claim_of, settled, leaving, idle_link, lent};
+ghost use Rattle.std.specs.Prelude.{◌≡◌};
+ghost use Rattle.link_pool.specs.Entries.{place_of, claim_of, settled, leaving, stored_link, lent, ungiven};
 
 use crate::place::{Claim, Link, LinkState, Place};
 use lease::{IdleLink, Lease, LinkPlace, LinkRecord, PermitRecord, QuarantinedLink};
@@ -30,11 +29,13 @@ pub(crate) enum Entry<S> {
         link: IdleLink<S>,
         key: ServerKey,
     },
-    /// The link waits for cancel requests to end.
+    /// The link waits for cancel requests to end. The client of this slot gave it back, and hasn't
+    /// left.
     Quarantined {
         link: QuarantinedLink<S>,
         key: ServerKey,
         hold: Hold,
+        giver: Option<SlotNo>,
     },
 }
 
@@ -62,43 +63,39 @@ impl<S: Drop> Entry<S> {
                 state: LinkState::Idle,
                 hold: Hold::new(),
             },
-            Entry::Quarantined { link, key, hold } => Link {
+            Entry::Quarantined {
+                link,
+                key,
+                hold,
+                giver,
+            } => Link {
                 details: link.details(),
                 key: *key,
-                state: LinkState::Quarantined,
+                state: LinkState::Quarantined(*giver),
                 hold: *hold,
             },
         };
         Place::Link(link)
     }
 
-    pub(crate) fn is_free(&self) -> bool
-        ensures yes { result ≡ true → self.now ≡ entry.Free }
-        ensures no { result ≡ false → self.now ≢ entry.Free }
-    {
-        match self {
-            Entry::Free => true,
-            Entry::Open { .. }
-            | Entry::Held { .. }
-            | Entry::Idle { .. }
-            | Entry::Quarantined { .. } => false,
-        }
-    }
-
-    // What the client has, by what is at this place, if a client has something here.
+    // What the client claims that has something here, or gave the link back.
     pub(crate) fn claim(&self, at: &LinkPlace) -> Claim
         ensures { result ≡ claim_of at.now self.now }
     {
         match self {
             Entry::Open { .. } => Claim::Open(*at),
             Entry::Held { .. } => Claim::Link(*at),
-            Entry::Free | Entry::Idle { .. } | Entry::Quarantined { .. } => Claim::Nothing,
+            Entry::Quarantined { giver: Some(_), .. } => Claim::Gave(*at),
+            Entry::Free | Entry::Idle { .. } | Entry::Quarantined { giver: None, .. } => {
+                Claim::Nothing
+            }
         }
     }
 
-    // The client of a slot gets the link, if it is idle.
+    // The client of a slot gets the link, if no client has it. A quarantined link's tickets stay
+    // open.
     pub(crate) fn lend(&mut self, slot: SlotNo) -> Option<Lease<S>>
-        ensures lease { result ≡ idle_link self.old }
+        ensures lease { result ≡ stored_link self.old }
         ensures entry { self.new ≡ lent slot self.old }
     {
         match std::mem::replace(self, Entry::Free) {
@@ -111,6 +108,20 @@ impl<S: Drop> Entry<S> {
                 };
                 Some(link.hold())
             }
+            Entry::Quarantined {
+                link,
+                key,
+                hold,
+                giver: _,
+            } => {
+                *self = Entry::Held {
+                    details: link.details(),
+                    key,
+                    hold,
+                    slot,
+                };
+                Some(link.hold())
+            }
             other => {
                 *self = other;
                 None
@@ -118,8 +129,18 @@ impl<S: Drop> Entry<S> {
         }
     }
 
-    // The link has these tickets. If it is quarantined, then it is free for others once none is open, and it leaves
-    // its place once it is condemned: its stream is returned.
+    // The client that gave the link back has left.
+    pub(crate) fn forget_giver(&mut self)
+        ensures { self.new ≡ ungiven self.old }
+    {
+        match self {
+            Entry::Quarantined { giver, .. } => *giver = None,
+            Entry::Free | Entry::Open { .. } | Entry::Held { .. } | Entry::Idle { .. } => {}
+        }
+    }
+
+    // The link has these tickets. If it is quarantined, then it is idle once none is open, and it
+    // leaves its place once it is condemned: its stream is returned.
     pub(crate) fn settle(&mut self, to: Hold) -> Option<S>
         ensures stream { result ≡ leaving to self.old }
         ensures entry { self.new ≡ settled to self.old }
@@ -139,7 +160,12 @@ impl<S: Drop> Entry<S> {
                 };
                 None
             }
-            Entry::Quarantined { link, key, hold: _ } => match to.state() {
+            Entry::Quarantined {
+                link,
+                key,
+                hold: _,
+                giver,
+            } => match to.state() {
                 HoldState::Clear => {
                     *self = Entry::Idle {
                         link: link.free(),
@@ -152,6 +178,7 @@ impl<S: Drop> Entry<S> {
                         link,
                         key,
                         hold: to,
+                        giver,
                     };
                     None
                 }

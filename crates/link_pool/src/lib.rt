@@ -1,5 +1,5 @@
-//! The links of one pooler to its servers: who has which, who waits for one, and which cancel requests for
-//! them are still on their way.
+//! The links of one pooler to its servers: who has which, who waits for one, and which cancel
+//! requests for them are still on their way.
 #![tactic(auto)]
 
 mod database_links;

@@ -25,10 +25,20 @@ impl NextNumber {
         NextNumber { next: Some(0) }
     }
 
+    /// The number that is given next, and none past 2^64 - 1.
+    pub fn peek(&self) -> Option<u64>
+        ensures none_left { IsNone result ↔ (self.now ≡ 2 ^ 64) }
+        ensures next { IfSome result (λ n. (n ≡ self.now) × (n < 2 ^ 64)) }
+    {
+        let next = self.next?;
+        Some(next)
+    }
+
     /// Gives the next number, and none past 2^64 - 1.
     pub fn give(&mut self) -> Option<u64>
         ensures none_left { IsNone result ↔ (self.old ≡ 2 ^ 64) }
-        ensures given { IfSome result (λ n. (n ≡ self.old) × (n < 2 ^ 64) × (self.new ≡ self.old + 1)) }
+        ensures given { IfSome result
+            (λ n. (n ≡ self.old) × (n < 2 ^ 64) × (self.new ≡ self.old + 1)) }
         ensures unchanged { IfNone result (self.new ≡ self.old) }
     {
         let given = self.next?;

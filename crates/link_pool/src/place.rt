@@ -1,8 +1,8 @@
 //! What is at a place of a pool, and what a client has there.
-ghost use Rattle.std.specs.Prelude.{◌≡◌, ◌≢◌, ℕ, true, false, Some, IfSome, IfNone};
+ghost use Rattle.std.specs.Prelude.{◌≡◌, ◌≢◌, ℕ, Some, IfSome, IfNone};
 ghost use Rattle.lease.specs.declared.link_place.LinkPlace.{LinkPlace as LinkPlaceOf};
 ghost use Rattle.link_pool.specs.declared.place.Claim.TheVariants as claim;
-ghost use Rattle.link_pool.specs.PoolStep.{is_holding};
+ghost use Rattle.link_pool.specs.PoolStep.{is_holding, is_quarantined, giver_of};
 ghost use Rattle.link_pool.specs.declared.place.LinkState.TheVariants as state;
 
 use lease::{LinkPlace, LinkRecord, PermitRecord};
@@ -16,14 +16,15 @@ pub enum LinkState {
     Idle,
     /// With the client of this slot.
     Held(SlotNo),
-    /// Given back while a cancel request for it was on its way.
-    Quarantined,
+    /// Given back while a cancel request for it was on its way, by the client of this slot, unless
+    /// that has left.
+    Quarantined(Option<SlotNo>),
 }
 
 /// An open link.
 #[derive(Clone, Copy, Debug, PartialEq, Eq)]
 pub struct Link {
-    /// The node, incarnation, number and place, as its lease says them.
+    /// The node, incarnation, number and place, as its lease carries them.
     pub details: LinkRecord,
     /// The key by which its server cancels.
     pub key: ServerKey,
@@ -55,18 +56,28 @@ impl Link {
     {
         match self.state {
             LinkState::Held(slot) => Some(slot),
-            LinkState::Idle | LinkState::Quarantined => None,
+            LinkState::Idle | LinkState::Quarantined(_) => None,
         }
     }
 
     // Whether the link waits for cancel requests.
     pub(crate) fn is_quarantined(&self) -> bool
-        ensures yes { result ≡ true → self.now.state ≡ state.Quarantined }
-        ensures no { result ≡ false → self.now.state ≢ state.Quarantined }
+        ensures { result ≡ is_quarantined self.now.state }
     {
         match self.state {
-            LinkState::Quarantined => true,
+            LinkState::Quarantined(_) => true,
             LinkState::Idle | LinkState::Held(_) => false,
+        }
+    }
+
+    // The slot of the client that gave the link back, if that is quarantined and the client hasn't
+    // left.
+    pub(crate) fn giver(&self) -> Option<SlotNo>
+        ensures { result ≡ giver_of self.now.state }
+    {
+        match self.state {
+            LinkState::Quarantined(giver) => giver,
+            LinkState::Idle | LinkState::Held(_) => None,
         }
     }
 }
@@ -87,12 +98,16 @@ pub enum Place {
 pub enum Claim {
     /// Nothing.
     Nothing,
+    /// Nothing. Its wait was cancelled, which its next `acquire` returns.
+    Cancelled,
     /// A place in the queue of this database.
     Waiting(DatabaseNo),
     /// A permit for the link of this place.
     Open(LinkPlace),
     /// The link of this place.
     Link(LinkPlace),
+    /// Nothing in hand. It gave back the link of this place, which is still quarantined.
+    Gave(LinkPlace),
 }
 
 impl Claim {
@@ -102,7 +117,7 @@ impl Claim {
     {
         match self {
             Claim::Open(_) | Claim::Link(_) => true,
-            Claim::Nothing | Claim::Waiting(_) => false,
+            Claim::Nothing | Claim::Cancelled | Claim::Waiting(_) | Claim::Gave(_) => false,
         }
     }
 
@@ -113,7 +128,26 @@ impl Claim {
     {
         match self {
             Claim::Link(at) => Some(*at),
-            Claim::Nothing | Claim::Waiting(_) | Claim::Open(_) => None,
+            Claim::Nothing
+            | Claim::Cancelled
+            | Claim::Waiting(_)
+            | Claim::Open(_)
+            | Claim::Gave(_) => None,
+        }
+    }
+
+    // The place of the link that the client gave back, if that is still quarantined.
+    pub(crate) fn gave(&self) -> Option<LinkPlace>
+        ensures gave { IfSome result (λ at. self.now ≡ claim.Gave at) }
+        ensures not_given { IfNone result ((at : LinkPlaceOf) → self.now ≢ claim.Gave at) }
+    {
+        match self {
+            Claim::Gave(at) => Some(*at),
+            Claim::Nothing
+            | Claim::Cancelled
+            | Claim::Waiting(_)
+            | Claim::Open(_)
+            | Claim::Link(_) => None,
         }
     }
 }

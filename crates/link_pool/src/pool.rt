@@ -1,11 +1,12 @@
 //! The pools of a node, and the parts of its steps that change them.
-ghost use Rattle.std.specs.Prelude.{replicate, ◌≡◌, ◌<◌, true, IfOk, length, map, slice_get};
+ghost use Rattle.std.specs.Prelude.{replicate, ◌≡◌, ◌<◌, true, Some, IfOk, length, map, slice_get};
 ghost use Rattle.link_pool.specs.declared.place.Claim.TheVariants as claim;
 ghost use Rattle.link_pool.specs.Entries.{stream_of, freed};
-ghost use Rattle.link_pool.specs.Pool.{place_at};
+ghost use Rattle.link_pool.specs.Pool.{place_at, free_at, keep};
+ghost use Rattle.link_pool.specs.Stacks.{top};
 ghost use Rattle.link_pool.specs.OnePlace.{IsPool};
 ghost use Rattle.link_pool.specs.PoolStep.{fresh, RestartStep};
-ghost use Rattle.link_pool.specs.Parts.{is_bare, with_client, Stores};
+ghost use Rattle.link_pool.specs.Parts.{is_taken, with_client, Stores};
 ghost use Rattle.link_pool.specs.Streams.{AreStored, NothingStored, RestartStreams};
 
 mod asking;
@@ -17,7 +18,7 @@ use crate::entry::Entry;
 use crate::next_number::NextNumber;
 use crate::place::{Claim, Place};
 use crate::replies::RestartReply;
-use lease::LinkPlace;
+use lease::{LinkPlace, PermitRecord};
 use pg_ids::{PeerNo, SlotNo};
 use slot_queues::SlotQueues;
 use std::alloc::{AllocError, Global};
@@ -50,8 +51,8 @@ impl<S> Model for Pool<S> {
 }
 
 impl<S: Drop> Pool<S> {
-    /// The pools of a node with this number: one of each size, by database, for so many slots, with no link.
-    /// They take all the memory that they need.
+    /// The pools of the node with this number: one of each size, by database, for this number of
+    /// slots, with no link. They take all the memory that they need.
     pub fn new(
         alloc: Global,
         me: PeerNo,
@@ -96,7 +97,7 @@ impl<S: Drop> Pool<S> {
         self.claims.get(slot.get() as usize).copied()
     }
 
-    /// The number of times that the pools were started anew, and so what their values carry.
+    /// How often the pools were started again, which their leases, permits and tickets carry.
     pub fn incarnation(&self) -> u64
         ensures value { result ≡ self.now.view.incarnation }
         ensures whole { IsPool self.now.view }
@@ -105,9 +106,30 @@ impl<S: Drop> Pool<S> {
         self.incarnation
     }
 
-    // What is at a place that has no stream changes, and so what the client has that had the place, or gets it.
+    /// What is at each place, by database.
+    pub fn places(&self, alloc: Global) -> Result<Vec<Vec<Place>>, AllocError>
+        ensures { IfOk result (λ all. map (λ places. places.items) all.items
+            ≡ map (λ pool. pool.places) self.now.view.pools) }
+    {
+        let mut all = Vec::with_capacity(alloc, self.pools.len())?;
+        for database in 0..self.pools.len() {
+            all.push_reserved(self.pools[database].places(alloc)?);
+        }
+        Ok(all)
+    }
+
+    /// What each client has, by slot.
+    pub fn claims(&self, alloc: Global) -> Result<Vec<Claim>, AllocError>
+        ensures { IfOk result (λ claims. claims.items ≡ self.now.view.claims) }
+    {
+        let mut claims = Vec::with_capacity(alloc, self.claims.len())?;
+        claims.extend_from_slice(&self.claims)?;
+        Ok(claims)
+    }
+
+    // What is at a place that a client has changes, and so what the client has.
     fn change(&mut self, at: &LinkPlace, slot: SlotNo, entry: Entry<S>)
-        requires bare { is_bare (place_at self.old.view at.now) ≡ true }
+        requires taken { is_taken (place_at self.old.view at.now) ≡ true }
         requires slot { slot < length self.old.view.claims }
         requires whole { IsPool (with_client self.old.view at.now slot entry) }
         ensures view { self.new.view ≡ with_client self.old.view at.now slot entry }
@@ -119,8 +141,24 @@ impl<S: Drop> Pool<S> {
         pool.put(at.index, entry);
     }
 
-    /// A new start: the next incarnation, in which nobody has anything. The streams of idle and quarantined links
-    /// are dropped; numbers go on.
+    // The place of a permit, the one of its database that is taken next, is kept for the client of
+    // a slot.
+    fn keep(&mut self, slot: SlotNo, permit: &PermitRecord)
+        requires slot { slot < length self.old.view.claims }
+        requires next { top (free_at self.old.view permit.now.at.database)
+            ≡ Some permit.now.at.index }
+        requires whole { IsPool (keep self.old.view slot permit.now) }
+        ensures view { self.new.view ≡ keep self.old.view slot permit.now }
+        ensures streams { self.new.stored ≡ self.old.stored }
+        ensures whole { IsPool self.new.view }
+    {
+        self.claims[slot.get() as usize] = Claim::Open(permit.at);
+        let pool = &mut self.pools[permit.at.database.get() as usize];
+        pool.keep(permit.at.index, *permit, slot);
+    }
+
+    /// Starts the pools again, in the next incarnation, in which nobody has anything. The streams
+    /// of idle and quarantined links are dropped; numbers go on.
     pub fn restart(&mut self) -> RestartReply
         ensures step { RestartStep result self.old.view self.new.view }
         ensures streams { RestartStreams result self.old.stored self.new.stored }

@@ -1,26 +1,29 @@
-//! What each step answers. `L` is a lease, `P` a permit, `T` a ticket, or what these say; `S` is a stream, or `()`
-//! where only the answer is told. Of some answers each says that they are its node's, or those of who makes the
-//! call there: the pools alone don't give them.
+//! What each step returns. `L` is a lease, `P` a permit and `T` a ticket, or what these carry; `S`
+//! is a stream, or `()` where only the kind of reply matters. Some replies are a node's: the pools
+//! alone never return them.
 use pg_ids::{DatabaseNo, ServerKey};
 
-/// What asking for a link answers.
+/// The result of asking for a link.
 #[derive(Clone, Copy, Debug, PartialEq, Eq)]
 pub enum AcquireReply<L, P> {
-    /// The client has this idle link.
+    /// The client has this link: an idle one, or the one that it gave back and that is still
+    /// quarantined.
     Got(L),
     /// No link is idle, and the client may open one.
     Open(P),
     /// The client waits for its turn.
     Waiting,
+    /// The client's wait was cancelled, which is returned once: it has nothing, and may ask again.
+    Cancelled,
     /// The client has a link or a permit, so nothing changes.
     Holding,
-    /// No number is left for a permit, or for a step (its node's), so nothing changes.
+    /// No number is left for a permit, or for a node's step, so nothing changes.
     Exhausted,
-    /// The client's pass is stale, so nothing changes (its node's).
+    /// The client's pass is stale, so nothing changes (a node's reply).
     Stale,
 }
 
-/// What the report that a link is open answers.
+/// The result of reporting that a link is open.
 #[derive(Clone, Copy, Debug, PartialEq, Eq)]
 pub enum UpReply<L, P, S> {
     /// The client has the link.
@@ -29,22 +32,22 @@ pub enum UpReply<L, P, S> {
     Exhausted(P, S),
     /// The permit is no longer open, so nothing changes.
     Stale(S),
-    /// No number is left for a step, so nothing changes, and the permit is spent (its node's).
+    /// No number is left for a step, so nothing changes, and the permit is spent (a node's reply).
     AtEnd(S),
 }
 
-/// What the report that a link couldn't be opened answers.
+/// The result of reporting that a link couldn't be opened.
 #[derive(Clone, Copy, Debug, PartialEq, Eq)]
 pub enum UpFailedReply {
     /// The place is free again.
     Freed,
     /// The permit is no longer open, so nothing changes.
     Stale,
-    /// No number is left for a step, so nothing changes, and the permit is spent (its node's).
+    /// No number is left for a step, so nothing changes, and the permit is spent (a node's reply).
     Exhausted,
 }
 
-/// What giving a link back answers.
+/// The result of giving a link back.
 #[derive(Clone, Copy, Debug, PartialEq, Eq)]
 pub enum ReleaseReply<S> {
     /// The link is free for others.
@@ -55,22 +58,22 @@ pub enum ReleaseReply<S> {
     Closed(S),
     /// The lease is stale, so nothing changes.
     Stale(S),
-    /// No number is left for a step, so nothing changes, and the lease is spent (its node's).
+    /// No number is left for a step, so nothing changes, and the lease is spent (a node's reply).
     Exhausted(S),
 }
 
-/// What closing a link answers.
+/// The result of closing a link.
 #[derive(Clone, Copy, Debug, PartialEq, Eq)]
 pub enum CloseReply<S> {
     /// The link has left the pool, and its stream is to be closed.
     Closed(S),
     /// The lease is stale, so nothing changes.
     Stale(S),
-    /// No number is left for a step, so nothing changes, and the lease is spent (its node's).
+    /// No number is left for a step, so nothing changes, and the lease is spent (a node's reply).
     Exhausted(S),
 }
 
-/// What leaving the queue answers.
+/// The result of leaving.
 #[derive(Clone, Copy, Debug, PartialEq, Eq)]
 pub enum LeaveReply {
     /// The client has nothing here.
@@ -79,10 +82,10 @@ pub enum LeaveReply {
     Holding,
 }
 
-/// What a cancel request for the client of a slot answers.
+/// The result of a cancel request for the client of a slot.
 #[derive(Clone, Copy, Debug, PartialEq, Eq)]
 pub enum ServeReply<T> {
-    /// Carry it to the server of this database, with this key, and tell the end by the ticket.
+    /// Carry it to the server of this database, with this key, and report its end by the ticket.
     Serve(T, DatabaseNo, ServerKey),
     /// The client has no link, so nothing changes.
     NoLink,
@@ -92,7 +95,7 @@ pub enum ServeReply<T> {
     Exhausted,
 }
 
-/// What the clean end of a cancel request answers.
+/// The result of a cancel request's clean end.
 #[derive(Clone, Copy, Debug, PartialEq, Eq)]
 pub enum EndedReply {
     /// It was the last for its link, which is idle now.
@@ -101,11 +104,11 @@ pub enum EndedReply {
     Counted,
     /// The ticket is stale, so nothing changes.
     Stale,
-    /// No number is left for a step, so nothing changes, and the ticket is spent (its node's).
+    /// No number is left for a step, so nothing changes, and the ticket is spent (a node's reply).
     Exhausted,
 }
 
-/// What a cancel request that didn't end cleanly answers.
+/// The result of a cancel request that didn't end cleanly.
 #[derive(Clone, Copy, Debug, PartialEq, Eq)]
 pub enum FailedReply<S> {
     /// Its link is closed once its client gives it back.
@@ -114,11 +117,11 @@ pub enum FailedReply<S> {
     Closed(S),
     /// The ticket is stale, so nothing changes.
     Stale,
-    /// No number is left for a step, so nothing changes, and the ticket is spent (its node's).
+    /// No number is left for a step, so nothing changes, and the ticket is spent (a node's reply).
     Exhausted,
 }
 
-/// What a new start of the pools answers.
+/// The result of starting the pools again.
 #[derive(Clone, Copy, Debug, PartialEq, Eq)]
 pub enum RestartReply {
     /// A new incarnation began.

@@ -4,7 +4,8 @@ ghost use Rattle.std.specs.Prelude.{◌≡◌, ◌<◌, ◌≤◌, length, IfOk}
 use ini_config::Settings;
 use locked_node::{Caller as LockCaller, Journal as NodeJournal, Shared as NodeLock};
 use node_core::{LeaveReply, NodeCore, Order, Pass, PassRecord, Ticket, TicketRecord};
-use pg_ids::PeerNo;
+use pg_ids::{AnyKey, Boot, PeerNo};
+use startup::Packet;
 use std::alloc::Global;
 use std::test::Fail;
 
@@ -18,13 +19,23 @@ pub(crate) type Shared = NodeLock<Stream>;
 
 pub(crate) type Caller = LockCaller<Stream>;
 
-// The key of peer 2, slot 0, secret 1, with three hops, and the CancelRequest of the same with two.
-pub(crate) const KEY: [u8; 8] = [0, 8, 0, 0, 0, 0, 0, 7];
+// The boot of each node.
+pub(crate) const BOOT: Boot = Boot(9);
+
+// The CancelRequest of peer 2, slot 0, secret 1, with two hops.
+pub(crate) const LOWERED: Packet = Packet::Short([
+    0, 0, 0, 16, 4, 0xd2, 0x16, 0x2e, 0, 8, 0, 0, 0, 0, 0, 6,
+]);
+
+// The key of the same, with three hops.
+pub(crate) fn key() -> AnyKey {
+    AnyKey::from_short_bytes([0, 8, 0, 0, 0, 0, 0, 7])
+}
 
 // A key of peer 3, which is in no list.
-pub(crate) const STRAY: [u8; 8] = [0, 12, 0, 0, 0, 0, 0, 7];
-
-pub(crate) const LOWERED: [u8; 16] = [0, 0, 0, 16, 4, 0xd2, 0x16, 0x2e, 0, 8, 0, 0, 0, 0, 0, 6];
+pub(crate) fn stray() -> AnyKey {
+    AnyKey::from_short_bytes([0, 12, 0, 0, 0, 0, 0, 7])
+}
 
 // Node 1 with peer 2 and this many slots, where nobody is logged in.
 pub(crate) fn node(alloc: Global, clients: u32) -> Result<Journal, Fail>
@@ -35,7 +46,7 @@ pub(crate) fn node(alloc: Global, clients: u32) -> Result<Journal, Fail>
     let me = PeerNo::new(1).ok_or("no such peer")?;
     let peer = PeerNo::new(2).ok_or("no such peer")?;
     let settings = Settings::plain(alloc, me, vec![in alloc; peer]?, 1, clients)?;
-    let core = NodeCore::new(alloc, &settings)?;
+    let core = NodeCore::new(alloc, &settings, BOOT)?;
     Ok(Journal::new(alloc, core)?)
 }
 
@@ -54,6 +65,7 @@ pub(crate) fn ordered(order: Order<Ticket>) -> Order<TicketRecord> {
     match order {
         Order::Serve(ticket, database, key) => Order::Serve(ticket.forfeit(), database, key),
         Order::Forward(peer, packet) => Order::Forward(peer, packet),
+        Order::Unwait(slot) => Order::Unwait(slot),
         Order::Refused(refusal) => Order::Refused(refusal),
     }
 }

@@ -2,17 +2,17 @@
 ghost use Rattle.std.specs.Prelude.{◌≡◌, ◌<◌, length, IfSome};
 ghost use Rattle.std.specs.Thread.{IsSync};
 
-use crate::nodes::{Caller, KEY, LOWERED, STRAY, Shared, left, node, ordered};
-use locked_node::CallKind;
+use crate::nodes::{Caller, LOWERED, Shared, key, left, node, ordered, stray};
+use locked_node::{CallAnswer, CallKind};
 use node_core::{DatabaseNo, JoinRefusal, LeaveReply, Order, Pass, TicketRecord};
-use pg_ids::{PeerNo, Secret};
+use pg_ids::{AnyKey, Kind, PeerNo, Secret};
 use std::sync::Wait;
 use std::test::Fail;
 use std::thread;
 use std::thread::Threads;
 
-// The replies that threads got: how many clients joined, found no slot and left, and how many requests were sent on,
-// and refused since their peer is in no list.
+// The replies that threads got: how many clients joined, found no slot and left, and how many
+// requests were sent on, and refused since their peer is in no list.
 #[derive(Clone, Copy, Drop)]
 struct Replies {
     joined: u64,
@@ -48,9 +48,9 @@ fn round<R: Wait>(rt: &R, shared: &Shared, caller: &mut Caller, replies: &mut Re
     requires database { 0 < length caller.old.start.view.pools }
     ensures { (caller.new.lock ≡ caller.old.lock) × (caller.new.start ≡ caller.old.start) }
 {
-    let pass = shared.join(rt, caller, DatabaseNo(0), Secret(1));
-    request(rt, shared, caller, &KEY, replies);
-    request(rt, shared, caller, &STRAY, replies);
+    let pass = shared.join(rt, caller, DatabaseNo(0), Secret(1), Kind::Short);
+    request(rt, shared, caller, key(), replies);
+    request(rt, shared, caller, stray(), replies);
     match pass {
         Ok(pass) => {
             replies.joined = replies.joined.wrapping_add(1);
@@ -58,7 +58,7 @@ fn round<R: Wait>(rt: &R, shared: &Shared, caller: &mut Caller, replies: &mut Re
         }
         Err(_) => {
             replies.full = replies.full.wrapping_add(1);
-            request(rt, shared, caller, &KEY, replies);
+            request(rt, shared, caller, key(), replies);
         }
     }
 }
@@ -67,7 +67,7 @@ fn request<R: Wait>(
     rt: &R,
     shared: &Shared,
     caller: &mut Caller,
-    key: &[u8; 8],
+    key: AnyKey,
     replies: &mut Replies,
 )
     requires own { caller.old.lock ≡ shared.now }
@@ -76,7 +76,7 @@ fn request<R: Wait>(
     match ordered(shared.cancel(rt, caller, key)) {
         Order::Forward(_, _) => replies.forwarded = replies.forwarded.wrapping_add(1),
         Order::Refused(_) => replies.strayed = replies.strayed.wrapping_add(1),
-        Order::Serve(_, _, _) => {}
+        Order::Serve(_, _, _) | Order::Unwait(_) => {}
     }
 }
 
@@ -121,7 +121,8 @@ struct Two(Caller, Caller);
 // In two threads, each with a caller of its own.
 fn by_two<R: Threads + Wait + Sync>(rt: &R, shared: &Shared, callers: Two) -> (Caller, Replies)
     requires own { (callers.0.lock ≡ shared.now) × (callers.1.lock ≡ shared.now) }
-    requires database { (0 < length callers.0.start.view.pools) × (0 < length callers.1.start.view.pools) }
+    requires database { (0 < length callers.0.start.view.pools)
+        × (0 < length callers.1.start.view.pools) }
     ensures { (result.0.lock ≡ callers.0.lock) × (result.0.start ≡ callers.0.start) }
 {
     let Two(first, second) = callers;
@@ -146,18 +147,23 @@ fn by_four<R: Threads + Wait + Sync>(
     front: Two,
     back: Two,
 ) -> (Caller, Replies)
-    requires own { (front.0.lock ≡ shared.now) × (front.1.lock ≡ shared.now) × (back.0.lock ≡ shared.now) × (back.1.lock ≡ shared.now) }
-    requires database { (0 < length front.0.start.view.pools) × (0 < length front.1.start.view.pools) × (0 < length back.0.start.view.pools) × (0 < length back.1.start.view.pools) }
+    requires own { (front.0.lock ≡ shared.now) × (front.1.lock ≡ shared.now)
+        × (back.0.lock ≡ shared.now) × (back.1.lock ≡ shared.now) }
+    requires database { (0 < length front.0.start.view.pools)
+        × (0 < length front.1.start.view.pools) × (0 < length back.0.start.view.pools)
+        × (0 < length back.1.start.view.pools) }
     ensures { (result.0.lock ≡ front.0.lock) × (result.0.start ≡ front.0.start) }
 {
     let (one, other) = thread::join(
         rt,
         || -> (Caller, Replies)
-            requires { IsSync R.row × (front.0.lock ≡ shared.now) × (front.1.lock ≡ shared.now) × (0 < length front.0.start.view.pools) × (0 < length front.1.start.view.pools) }
+            requires { IsSync R.row × (front.0.lock ≡ shared.now) × (front.1.lock ≡ shared.now)
+                × (0 < length front.0.start.view.pools) × (0 < length front.1.start.view.pools) }
             ensures { (result.0.lock ≡ front.0.lock) × (result.0.start ≡ front.0.start) }
         { by_two(rt, shared, front) },
         || -> (Caller, Replies)
-            requires { IsSync R.row × (back.0.lock ≡ shared.now) × (back.1.lock ≡ shared.now) × (0 < length back.0.start.view.pools) × (0 < length back.1.start.view.pools) }
+            requires { IsSync R.row × (back.0.lock ≡ shared.now) × (back.1.lock ≡ shared.now)
+                × (0 < length back.0.start.view.pools) × (0 < length back.1.start.view.pools) }
             ensures { result.0.lock ≡ back.0.lock }
         { by_two(rt, shared, back) },
     );
@@ -170,7 +176,8 @@ fn pair(shared: &Shared, first: &mut Caller) -> Option<Two>
     requires database { 0 < length first.old.start.view.pools }
     ensures first { (first.new.lock ≡ first.old.lock) × (first.new.start ≡ first.old.start) }
     ensures own { IfSome result (λ two. (two.0.lock ≡ shared.now) × (two.1.lock ≡ shared.now)) }
-    ensures start { IfSome result (λ two. (two.0.start ≡ first.old.start) × (two.1.start ≡ first.old.start)) }
+    ensures start { IfSome result
+        (λ two. (two.0.start ≡ first.old.start) × (two.1.start ≡ first.old.start)) }
 {
     let one = first.split(shared)?;
     let other = first.split(shared)?;
@@ -189,23 +196,29 @@ fn eight_threads(rt: HostRuntime) -> Result<(), Fail> {
     let (front, back) = thread::join(
         &rt,
         || -> (Caller, Replies)
-            requires { (four.0.lock ≡ lock.now) × (four.1.lock ≡ lock.now) × (one.0.lock ≡ lock.now) × (one.1.lock ≡ lock.now) × (0 < length four.0.start.view.pools) × (0 < length four.1.start.view.pools) × (0 < length one.0.start.view.pools) × (0 < length one.1.start.view.pools) }
+            requires { (four.0.lock ≡ lock.now) × (four.1.lock ≡ lock.now)
+                × (one.0.lock ≡ lock.now) × (one.1.lock ≡ lock.now)
+                × (0 < length four.0.start.view.pools) × (0 < length four.1.start.view.pools)
+                × (0 < length one.0.start.view.pools) × (0 < length one.1.start.view.pools) }
             ensures { result.0.lock ≡ four.0.lock }
         { by_four(&rt, lock, four, one) },
         || -> (Caller, Replies)
-            requires { (two.0.lock ≡ lock.now) × (two.1.lock ≡ lock.now) × (three.0.lock ≡ lock.now) × (three.1.lock ≡ lock.now) × (0 < length two.0.start.view.pools) × (0 < length two.1.start.view.pools) × (0 < length three.0.start.view.pools) × (0 < length three.1.start.view.pools) }
+            requires { (two.0.lock ≡ lock.now) × (two.1.lock ≡ lock.now)
+                × (three.0.lock ≡ lock.now) × (three.1.lock ≡ lock.now)
+                × (0 < length two.0.start.view.pools) × (0 < length two.1.start.view.pools)
+                × (0 < length three.0.start.view.pools) × (0 < length three.1.start.view.pools) }
             ensures { result.0.lock ≡ two.0.lock }
         { by_four(&rt, lock, two, three) },
     );
     let (caller, replies) = united(&shared, front, back);
-    for (kind, calls) in [
-        (CallKind::Joined, replies.joined),
-        (CallKind::JoinFull, replies.full),
-        (CallKind::Left, replies.left),
-        (CallKind::Forwarded, replies.forwarded),
-        (CallKind::CancelNoPeer, replies.strayed),
+    for (answer, calls) in [
+        (CallAnswer::Joined, replies.joined),
+        (CallAnswer::JoinFull, replies.full),
+        (CallAnswer::Left, replies.left),
+        (CallAnswer::Forwarded, replies.forwarded),
+        (CallAnswer::CancelNoPeer, replies.strayed),
     ] {
-        assert_eq!(rt; caller.calls(kind), u128::from(calls));
+        assert_eq!(rt; caller.calls(CallKind::short(answer)), u128::from(calls));
     }
     assert_eq!(rt; replies.joined, replies.left);
     assert_eq!(rt; replies.strayed, 2000);
@@ -226,7 +239,7 @@ fn client<R: Wait>(
     requires database { 0 < length caller.start.view.pools }
     ensures { result.0.lock ≡ caller.lock }
 {
-    let pass = shared.join(rt, &mut caller, DatabaseNo(0), Secret(1));
+    let pass = shared.join(rt, &mut caller, DatabaseNo(0), Secret(1), Kind::Short);
     (caller, pass)
 }
 
@@ -235,7 +248,7 @@ fn canceller<R: Wait>(rt: &R, shared: &Shared, mut caller: Caller) -> (Caller, O
     requires own { caller.lock ≡ shared.now }
     ensures { result.0.lock ≡ caller.lock }
 {
-    let order = ordered(shared.cancel(rt, &mut caller, &KEY));
+    let order = ordered(shared.cancel(rt, &mut caller, key()));
     (caller, order)
 }
 

@@ -8,11 +8,12 @@ use Rattle.node_core.specs.View.{NodeView, IsView}
 use Rattle.node_core.specs.declared.exchange.Exchange.{Exchange}
 use Rattle.node_core.specs.NodeStep.{NodeStep}
 use Rattle.locked_node.specs.declared.tally.Tally.{Tally}
-use Rattle.locked_node.specs.declared.call_kind.CallKind.TheVariants.{Joined, AcquireOpen, WentUp, Served, Restarted}
-use Rattle.locked_node.specs.CallNumbers.{index_of}
+use Rattle.locked_node.specs.declared.call_answer.CallAnswer.{CallAnswer}
+use Rattle.locked_node.specs.declared.call_answer.CallAnswer.TheVariants.{Joined, AcquireOpen, WentUp, Served, Restarted}
+use Rattle.locked_node.specs.CallNumbers.{index_of, short, long}
 use Rattle.locked_node.specs.Replay.{Replay}
 use Rattle.locked_node.specs.Totals.{Counts, IsEmpty, number_at, calls_in, sum_in, is_of}
-use Rattle.locked_node.specs.Journal.{JournalView, Appends, Moves, JournalStep, HasHistory, CountsWithin, IsTallyOf, TAIL_LIMIT, log_calls}
+use Rattle.locked_node.specs.Journal.{JournalView, Appends, Moves, JournalStep, HasHistory, CountsWithin, IsTallyOf, TAIL_LIMIT, log_calls, answers_in}
 use Rattle.locked_node.proofs.Sums.{same_plus, same_equal}
 use Rattle.locked_node.proofs.Growing.{one, step_grows}
 use Rattle.locked_node.proofs.Replays.{replay_more, replay_counts}
@@ -83,21 +84,36 @@ pub journal_step : (old : JournalView) (call : Exchange) (new : JournalView) →
     → NodeStep old.view call new.view → Appends old.log call new.log → JournalStep old call new
 journal_step old call new short whole step appends = record { whole = whole; step = step; appended = appends; base = base_moves old call new short step appends }
 
--- where each call of a kind raises a number of the node, and no call lowers it, the journal has at most as many
-log_counts : (kind : ℕ) (number : NodeView → ℕ) → ((old : NodeView) (call : Exchange) (new : NodeView) → NodeStep old call new → one kind call + number old ≤ number new)
-    → (journal : JournalView) → HasHistory journal → log_calls journal.log kind ≤ number journal.view
-log_counts kind number grows journal h =
-    let before = replay_counts kind number grows h.first h.past h.base h.before in
-    let after = replay_counts kind number grows h.base journal.log.tail journal.view h.after in
-    let counts = h.totals.counts kind in
-    omega (arith, before, after, counts)
+-- where each call with an answer raises a number of the node, and no call lowers it, the journal has at most as many
+log_counts : (answer : CallAnswer) (number : NodeView → ℕ)
+    → ((old : NodeView) (call : Exchange) (new : NodeView) → NodeStep old call new → one answer call + number old ≤ number new)
+    → (journal : JournalView) → HasHistory journal → answers_in (log_calls journal.log) answer ≤ number journal.view
+log_counts answer number grows journal h =
+    let before = replay_counts answer number grows h.first h.past h.base h.before in
+    let after = replay_counts answer number grows h.base journal.log.tail journal.view h.after in
+    let shorts = h.totals.counts (index_of (short answer)) in
+    let longs = h.totals.counts (index_of (long answer)) in
+    omega (arith, before, after, shorts, longs)
 
 -- the incarnation and the next numbers are at least the counts of what made them
-pub history_numbers : (journal : JournalView) → HasHistory journal → CountsWithin journal.log journal.view
+pub history_numbers : (journal : JournalView) → HasHistory journal → CountsWithin (log_calls journal.log) journal.view
 history_numbers journal h = record {
-  passes = log_counts (index_of Joined) (λ v. v.next_pass) (λ o c n s. (step_grows o c n s).passes) journal h;
-  permits = log_counts (index_of AcquireOpen) (λ v. v.links.next_permit) (λ o c n s. (step_grows o c n s).permits) journal h;
-  links = log_counts (index_of WentUp) (λ v. v.links.next_link) (λ o c n s. (step_grows o c n s).links) journal h;
-  tickets = log_counts (index_of Served) (λ v. v.links.next_ticket) (λ o c n s. (step_grows o c n s).tickets) journal h;
-  incarnations = log_counts (index_of Restarted) (λ v. v.links.incarnation) (λ o c n s. (step_grows o c n s).incarnations) journal h;
+  passes = log_counts Joined (λ v. v.next_pass) (λ o c n s. (step_grows o c n s).passes) journal h;
+  permits = log_counts AcquireOpen (λ v. v.links.next_permit) (λ o c n s. (step_grows o c n s).permits) journal h;
+  links = log_counts WentUp (λ v. v.links.next_link) (λ o c n s. (step_grows o c n s).links) journal h;
+  tickets = log_counts Served (λ v. v.links.next_ticket) (λ o c n s. (step_grows o c n s).tickets) journal h;
+  incarnations = log_counts Restarted (λ v. v.links.incarnation) (λ o c n s. (step_grows o c n s).incarnations) journal h;
 }
+
+-- who has fewer calls of each kind has no more than the view counts
+pub fewer_counted : (few many : ℕ → ℕ) (view : NodeView) → ((kind : ℕ) → few kind ≤ many kind) → CountsWithin many view → CountsWithin few view
+fewer_counted few many view less is = record {
+  passes = counted Joined view.next_pass is.passes;
+  permits = counted AcquireOpen view.links.next_permit is.permits;
+  links = counted WentUp view.links.next_link is.links;
+  tickets = counted Served view.links.next_ticket is.tickets;
+  incarnations = counted Restarted view.links.incarnation is.incarnations;
+}
+  where
+    counted : (answer : CallAnswer) (n : ℕ) → answers_in many answer ≤ n → answers_in few answer ≤ n
+    counted answer n at_most = let a = less (index_of (short answer)) in let b = less (index_of (long answer)) in omega (arith, a, b, at_most)

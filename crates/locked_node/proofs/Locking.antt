@@ -1,20 +1,22 @@
 -- The steps on the lock keep its rule: it is made, taken, looked at, split and joined.
-use Rattle.std.proofs.Common.{◌≡◌, ◌≢◌, ℕ, zero, suc, ◌+◌, ◌*◌, ◌<◌, ◌≤◌, List, [], ◌∷◌, ◌++◌, length, set, Option, Some, None, refl, sym, ap, ◌∙◌, subst, inl, inr, ⊎_elim, arith, length-set, get_or-set_same}
+use Rattle.std.proofs.Common.{◌≡◌, ◌≢◌, ℕ, zero, suc, ◌+◌, ◌*◌, ◌<◌, ◌≤◌, List, [], ◌∷◌, ◌++◌, length, set, Option, Some, None, refl, sym, ap, ◌∙◌, subst, inl, inr, ⊎_elim, arith, length-set, get_or-set_same, get_or-set_other}
 use Rattle.std.proofs.Math.Nat.{mul-le-mul_right}
-use Rattle.std.specs.Prelude.{sum_by, slice_index}
-use Rattle.std.proofs.lemmas.Bool.{cases_lt}
+use Rattle.std.specs.Prelude.{sum_by, slice_index, if◌then◌else◌}
+use Rattle.std.proofs.lemmas.Bool.{cases_lt, cases_eq}
+use Rattle.std.proofs.lemmas.Option.{same_Some}
 use Rattle.std.proofs.lemmas.List.{length-append}
 use Rattle.std.proofs.lemmas.List.Sums.{sum_by_push, sum_by-append}
 use mathlib.Core.Option.{some, none, some-injective, some-ne-none}
 use lib.ListN.{get_elem?}
 use lib.Seq.{set-get_or}
-use Rattle.atomic_table.specs.Table.{State, Me, Step, keeps, takes, stepped, opening, Allows, Splits, Joins}
+use Rattle.atomic_table.specs.Table.{State, Me, Step, keeps, takes, gives, stepped, opening, Allows, Splits, Joins}
 use Rattle.atomic_table.proofs.Lists.{at_set, set_here, set_else, set_again, at_longer, at_snoc}
 use Rattle.node_core.specs.declared.exchange.Exchange.{Exchange}
 use Rattle.locked_node.specs.declared.rule.Share.{Share}
 use Rattle.locked_node.specs.Replay.{fixed_of}
-use Rattle.locked_node.specs.Journal.{JournalView, CALL_LIMIT, log_all}
-use Rattle.locked_node.specs.Lock.{Accounts, IsShare, IsFree, IsTaken, IsLocked, Took, Holds, HANDED, stake, Placed, first_share, handing, handed, joined, nobody, taking, looking}
+use Rattle.locked_node.specs.Totals.{is_of, calls_in}
+use Rattle.locked_node.specs.Journal.{JournalView, CALL_LIMIT, log_all, log_calls}
+use Rattle.locked_node.specs.Lock.{Accounts, IsShare, IsFree, IsTaken, IsLocked, Took, Takes, Holds, HANDED, stake, Placed, first_share, handing, handed, joined, nobody, share_calls, taking, looking, resting, returning}
 use Rattle.locked_node.proofs.Orders.{placed_both}
 use Rattle.locked_node.proofs.Sums.{same_equal}
 use Rattle.locked_node.proofs.Shares.{sum_change, sum_same, le_sum, each_set}
@@ -139,6 +141,28 @@ at_within [] i a at = absurd (some-ne-none a (sym at))
 at_within (x ∷ xs) zero a at = omega arith
 at_within (x ∷ xs) (suc i) a at = let r = at_within xs i a at in omega (arith, r)
 
+-- who has what the lock began with has it once
+pub begun_once : (start : JournalView) (s : State JournalView Share) (r : IsLocked start s) (id : ℕ) (v : Share) → get_elem? s.views id ≡ some v
+    → (f : JournalView → ℕ) → sum_by f v.begun ≤ f start
+begun_once start s r id v at f =
+    let x : ℕ = f start in let n : ℕ = length v.begun in
+    let some_is = le_sum began s.views id v at in let one = r.one_start in
+    let at_most : n ≤ 1 = omega (arith, some_is, one) in
+    let times : n * x ≤ 1 * x = mul-le-mul_right x at_most in
+    let same : sum_by f v.begun ≡ n * x = (r.each id v at).alike f in
+    omega (arith, times, same)
+
+-- a caller's calls are among the journal's
+pub calls_among : (start : JournalView) (s : State JournalView Share) (r : IsLocked start s) (id : ℕ) (v : Share) → get_elem? s.views id ≡ some v
+    → (kind : ℕ) → share_calls v kind ≤ log_calls r.journal.log kind
+calls_among start s r id v at kind =
+    let is : Exchange → ℕ = λ call. if is_of kind call then 1 else 0 in
+    let begun = begun_once start s r id v at (λ j. log_calls j.log kind) in
+    let made : calls_in kind v.made ≤ sum_by (weighed is) s.views = le_sum (weighed is) s.views id v at in
+    let same : calls_in kind r.accounts.calls ≡ sum_by (weighed is) s.views = r.accounts.same is in
+    let all = r.accounts.counts kind in
+    omega (arith, begun, made, same, all)
+
 -- the exchange that takes the lock
 pub lock_takes : (start : JournalView) (slots id : ℕ) (me : Me JournalView Share) (f : ℕ → ℕ) (st : Step JournalView) → ((n : ℕ) → f n ≢ 0) → 0 < stake me.0
     → Allows (IsLocked start) slots id me 0 f (taking st me)
@@ -155,6 +179,7 @@ lock_takes start slots id me f st not has s r _ at _ = ⊎_elim
           slot = refl;
           room = let le = le_sum allowed s.views id me.0 at in let e = r.fits in omega (arith, le, e);
           fixed = r.accounts.fixed ∙ ap (λ (j : JournalView). fixed_of j.view) (sym ((r.each id me.0 at).knows has));
+          counts = calls_among start s r id me.0 at;
         }),
         (λ ne. absurd (ne p.word)),
       ),
@@ -168,16 +193,10 @@ lock_takes start slots id me f st not has s r _ at _ = ⊎_elim
     ))
     r.place
 
--- who has what the lock began with has it once
+-- and its calls once
 pub begun_within : (start : JournalView) (s : State JournalView Share) (r : IsLocked start s) (id : ℕ) (v : Share) → get_elem? s.views id ≡ some v
     → sum_by (λ (j : JournalView). log_all j.log) v.begun ≤ log_all start.log
-begun_within start s r id v at =
-    let x : ℕ = log_all start.log in let n : ℕ = length v.begun in
-    let some_is = le_sum began s.views id v at in let one = r.one_start in
-    let at_most : n ≤ 1 = omega (arith, some_is, one) in
-    let times : n * x ≤ 1 * x = mul-le-mul_right x at_most in
-    let same : sum_by (λ (j : JournalView). log_all j.log) v.begun ≡ n * x = (r.each id v at).alike (λ j. log_all j.log) in
-    omega (arith, times, same)
+begun_within start s r id v at = begun_once start s r id v at (λ j. log_all j.log)
 
 -- a look
 pub lock_looks : (start : JournalView) (slots id : ℕ) (me : Me JournalView Share) (st : Step JournalView) → 0 < stake me.0
@@ -199,6 +218,78 @@ lock_looks start slots id me st some_is s r _ at _ = (
         omega (arith, a, b, c, fits, many, all)),
   ),
 )
+
+-- a step on another word than the lock's
+pub lock_rests : (start : JournalView) (slots id : ℕ) (me : Me JournalView Share) (word : ℕ) (f : ℕ → ℕ) (st : Step JournalView) → word ≢ 0
+    → Allows (IsLocked start) slots id me word f (resting st me)
+lock_rests start slots id me word f st another s r _ at _ = (me.0, keeps, tt, rests, refl)
+  where
+    n : ℕ
+    n = f (slice_index s.words word)
+
+    first : slice_index (set s.words word n) 0 ≡ slice_index s.words 0
+    first = get_or-set_other s.words word 0 n 0 (λ e. another (sym e))
+
+    rests : IsLocked start (stepped s word n id me.1 me.0 keeps)
+    rests = subst (λ (vs : List Share). IsLocked start record { words = set s.words word n; homes = s.homes; views = vs }) (sym (set_again s.views id me.0 at)) record {
+      word = let l = length-set s.words word n in let w = r.word in omega (arith, l, w);
+      journal = r.journal;
+      accounts = r.accounts;
+      fits = r.fits;
+      one_start = r.one_start;
+      each = r.each;
+      place = ⊎_elim
+          (λ (p : IsFree r.journal s). inl record { word = first ∙ p.word; home = p.home; idle = p.idle })
+          (λ (p : IsTaken r.journal s). inr record {
+            word = λ e. p.word (sym first ∙ e);
+            home = p.home;
+            taker = p.taker;
+            share = p.share;
+            there = p.there;
+            found = p.found;
+            has = p.has;
+            others = p.others;
+          })
+          r.place;
+    }
+
+-- the lock is given back as it was taken
+is_returned : (start : JournalView) (s : State JournalView Share) (r : IsLocked start s) (p : IsTaken r.journal s) (id : ℕ) (v : Share)
+    → get_elem? s.views id ≡ some v → id ≡ p.taker → IsLocked start (stepped s 0 0 id ((0, r.journal) ∷ []) (record v { found = None }) gives)
+is_returned start s r p id v at same = let w : Share = record v { found = None } in record {
+  word = let l = length-set s.words 0 0 in let w = r.word in omega (arith, l, w);
+  journal = r.journal;
+  accounts = accounts_as start r.journal s.views (set s.views id w) (λ f. sum_same (weighed f) s.views id v w at refl) (sum_same counted s.views id v w at refl)
+      (λ calls each. each_set (λ (z : Share). Placed calls z.places z.made) s.views id w (each id v at) each) r.accounts;
+  fits = let e = sum_same allowed s.views id v w at refl in let f = r.fits in omega (arith, e, f);
+  one_start = sum_same began s.views id v w at refl ∙ r.one_start;
+  each = each_set (IsShare start) s.views id w (share_as start v None (r.each id v at)) r.each;
+  place = inl record {
+    word = get_or-set_same s.words 0 0 0 r.word;
+    home = ap (λ h. set h 0 (some r.journal)) p.home;
+    idle = λ i u here. ⊎_elim (λ (t : (i ≡ id) × (w ≡ u)). subst (λ (z : Share). z.found ≡ None) t.1 refl) (λ (t : (i ≢ id) × (get_elem? s.views i ≡ some u)). p.others i u t.1 (λ e. t.0 (e ∙ sym same))) (at_set s.views id i w u here);
+  };
+}
+
+-- the exchange that gives the lock back, from a caller that made no call
+pub lock_returns : (start : JournalView) (slots id : ℕ) (me : Me JournalView Share) (journal : JournalView) (st : Step JournalView)
+    → me.0.found ≡ Some journal → me.1 ≡ (0, journal) ∷ [] → Allows (IsLocked start) slots id me 0 (λ _. 0) (returning st me)
+lock_returns start slots id me journal st found held =
+    subst (λ (cs : List (ℕ × JournalView)). Allows (IsLocked start) slots id (me.0, cs) 0 (λ _. 0) (returning st (me.0, cs))) (sym held) (λ s r _ at _. ⊎_elim
+    (λ (p : IsFree r.journal s). let f = p.idle id me.0 at in cc (f, found))
+    (λ (p : IsTaken r.journal s). ⊎_elim
+    (λ (e : id ≡ p.taker).
+    let same : me.0 ≡ p.share = some-injective me.0 p.share (sym at ∙ (ap (get_elem? s.views) e ∙ p.there)) in
+    let is : r.journal ≡ journal = sym (same_Some journal r.journal (sym found ∙ (ap (λ (z : Share). z.found) same ∙ p.found))) in (
+      record me.0 { found = None },
+      gives,
+      tt,
+      subst (λ (j : JournalView). IsLocked start (stepped s 0 0 id ((0, j) ∷ []) (record me.0 { found = None }) gives)) is (is_returned start s r p id me.0 at e),
+      refl,
+    ))
+    (λ (ne : id ≢ p.taker). let f = p.others id me.0 at ne in cc (f, found))
+    (cases_eq id p.taker))
+    r.place)
 
 -- a part of the allowance is handed over
 pub lock_splits : (start : JournalView) (id : ℕ) (v : Share) → HANDED < v.allowance → v.found ≡ None → Splits (IsLocked start) id v (handing v) (handed v)
@@ -312,4 +403,16 @@ took_holds before after empty may took = record {
   may = subst (λ (v : Share). 0 < v.allowance) (sym took.view) may;
   room = let r = took.room in omega (arith, r, may);
   fixed = took.fixed ∙ ap (λ (v : Share). fixed_of v.start.view) (sym took.view);
+}
+
+-- who took the lock has found the journal, and may make a call where it has allowance
+pub took_all : (before after : Me JournalView Share) → before.1 ≡ [] → Took before after → Takes before after
+took_all before after empty took = record {
+  took = took;
+  holds = λ may. took_holds before after empty may took;
+  found = record {
+    journal = took.journal;
+    found = ap (λ (v : Share). v.found) took.view;
+    slot = took.slot ∙ ap (λ (cs : List (ℕ × JournalView)). (0, took.journal) ∷ cs) empty;
+  };
 }

@@ -1,12 +1,15 @@
 -- Replays grow at their end, and what each step makes is made by all.
 use Rattle.std.proofs.Common.{ℕ, ◌+◌, ◌≤◌, List, [], ◌∷◌, ◌++◌, refl, ap, subst, arith}
+use Rattle.std.specs.Prelude.{if◌then◌else◌}
 use Rattle.std.proofs.lemmas.List.Sums.{sum_by-cons}
 use Rattle.node_core.specs.View.{NodeView}
 use Rattle.node_core.specs.declared.exchange.Exchange.{Exchange}
 use Rattle.node_core.specs.NodeStep.{NodeStep}
 use Rattle.locked_node.specs.Replay.{Replay}
-use Rattle.locked_node.specs.Totals.{calls_in}
-use Rattle.locked_node.proofs.Growing.{one}
+use Rattle.locked_node.specs.declared.call_answer.CallAnswer.{CallAnswer}
+use Rattle.locked_node.specs.CallNumbers.{index_of, short, long}
+use Rattle.locked_node.specs.Totals.{calls_in, is_of}
+use Rattle.locked_node.proofs.Growing.{one, by_kinds}
 
 -- one more call
 pub replay_more : (first : NodeView) (calls : List Exchange) (last : NodeView) (call : Exchange) (next : NodeView)
@@ -14,12 +17,19 @@ pub replay_more : (first : NodeView) (calls : List Exchange) (last : NodeView) (
 replay_more first [] last call next replay step = (next, subst (λ v. NodeStep v call next) replay step, refl)
 replay_more first (c ∷ cs) last call next replay step = (replay.0, replay.1, replay_more replay.0 cs last call next replay.2 step)
 
--- where each call of a kind raises a number of the node, and no call lowers it, there are at most as many
-pub replay_counts : (kind : ℕ) (number : NodeView → ℕ) → ((old : NodeView) (call : Exchange) (new : NodeView) → NodeStep old call new → one kind call + number old ≤ number new)
-    → (first : NodeView) (calls : List Exchange) (last : NodeView) → Replay first calls last → calls_in kind calls + number first ≤ number last
-replay_counts kind number grows first [] last replay = let e = ap number replay in omega (arith, e)
-replay_counts kind number grows first (c ∷ cs) last replay =
+-- how many of these calls have the answer, with keys of both kinds
+abbrev pub answers_in : CallAnswer → List Exchange → ℕ
+answers_in answer calls = calls_in (index_of (short answer)) calls + calls_in (index_of (long answer)) calls
+
+-- where each call with an answer raises a number of the node, and no call lowers it, there are at most as many
+pub replay_counts : (answer : CallAnswer) (number : NodeView → ℕ)
+    → ((old : NodeView) (call : Exchange) (new : NodeView) → NodeStep old call new → one answer call + number old ≤ number new)
+    → (first : NodeView) (calls : List Exchange) (last : NodeView) → Replay first calls last → answers_in answer calls + number first ≤ number last
+replay_counts answer number grows first [] last replay = let e = ap number replay in omega (arith, e)
+replay_counts answer number grows first (c ∷ cs) last replay =
     let step = grows first c replay.0 replay.1 in
-    let rest = replay_counts kind number grows replay.0 cs last replay.2 in
-    let cons = sum_by-cons (one kind) c cs in
-    omega (arith, step, rest, cons)
+    let rest = replay_counts answer number grows replay.0 cs last replay.2 in
+    let both = by_kinds answer c in
+    let shorts = sum_by-cons (λ (x : Exchange). if is_of (index_of (short answer)) x then 1 else 0) c cs in
+    let longs = sum_by-cons (λ (x : Exchange). if is_of (index_of (long answer)) x then 1 else 0) c cs in
+    omega (arith, step, rest, both, shorts, longs)

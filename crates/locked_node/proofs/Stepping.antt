@@ -1,6 +1,7 @@
 -- A caller makes one call.
 use Rattle.std.proofs.Common.{◌≡◌, ℕ, ◌-◌, ◌<◌, List, [], ◌∷◌, ◌++◌, Some, None, All, sym, ap, ◌∙◌, subst, arith}
 use Rattle.std.proofs.lemmas.List.{length-append}
+use Rattle.std.proofs.lemmas.Option.{same_Some}
 use Rattle.atomic_table.specs.Table.{Me}
 use Rattle.atomic_table.specs.Seated.{TableId}
 use Rattle.node_core.specs.declared.exchange.Exchange.{Exchange}
@@ -8,12 +9,13 @@ use Rattle.locked_node.specs.declared.rule.Share.{Share}
 use Rattle.locked_node.specs.declared.tally.Tally.{Tally}
 use Rattle.locked_node.specs.declared.caller.Caller.TheInside.{Inside}
 use Rattle.locked_node.specs.Replay.{fixed_of, IsPossible}
-use Rattle.locked_node.specs.Totals.{Counts, number_at}
-use Rattle.locked_node.specs.Journal.{JournalView}
-use Rattle.locked_node.specs.Lock.{Took, Calls, Given, CallerView, CallerStep, Counted, IsTotalOfShare, given, last_place}
+use Rattle.node_core.specs.View.{NodeView}
+use Rattle.locked_node.specs.Totals.{Counts, number_at, calls_at}
+use Rattle.locked_node.specs.Journal.{JournalView, CountsWithin, log_calls}
+use Rattle.locked_node.specs.Lock.{Took, IsCopy, Calls, Given, CallerView, CallerStep, Counted, IsTotalOfShare, given, last_place}
 use Rattle.locked_node.specs.CallerOf.{caller_of, IsCaller}
 use Rattle.locked_node.proofs.Sums.{same_plus, same_equal}
-use Rattle.locked_node.proofs.Histories.{calls_push, sum_push}
+use Rattle.locked_node.proofs.Histories.{calls_push, sum_push, fewer_counted}
 use Rattle.locked_node.proofs.Giving.{log_more}
 
 -- a share with one call more, at this place
@@ -117,3 +119,11 @@ caller_counts old new call reply at_end before is m = subst (λ (o : CallerView)
       spent = λ none. absurd (omega (arith, may, none));
       same = (step.lock, step.start);
     })
+
+-- a copy of what a caller found counts its calls
+pub copy_counts : {S : Type 0} (c : Inside S) (after : Me JournalView Share) (view : NodeView) → IsCaller c → Took c.seat.me after → IsCopy after view → CountsWithin (calls_at c.tally) view
+copy_counts c after view is took copy =
+    let same : took.journal ≡ copy.journal = same_Some took.journal copy.journal (sym (ap (λ (v : Share). v.found) took.view) ∙ copy.found) in
+    fewer_counted (calls_at c.tally) (log_calls copy.journal.log) view
+    (λ kind. let mine = is.totals.calls kind in let among = took.counts kind in let is_same = ap (λ (j : JournalView). log_calls j.log kind) same in omega (arith, mine, among, is_same))
+    copy.numbers

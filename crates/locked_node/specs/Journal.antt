@@ -4,8 +4,9 @@ use Rattle.node_core.specs.View.{NodeView, IsView}
 use Rattle.node_core.specs.declared.exchange.Exchange.{Exchange}
 use Rattle.node_core.specs.NodeStep.{NodeStep}
 use Rattle.locked_node.specs.declared.tally.Tally.{Tally}
-use Rattle.locked_node.specs.declared.call_kind.CallKind.TheVariants.{Joined, AcquireOpen, WentUp, Served, Restarted}
-use Rattle.locked_node.specs.CallNumbers.{index_of}
+use Rattle.locked_node.specs.declared.call_answer.CallAnswer.{CallAnswer}
+use Rattle.locked_node.specs.declared.call_answer.CallAnswer.TheVariants.{Joined, AcquireOpen, WentUp, Served, Restarted}
+use Rattle.locked_node.specs.CallNumbers.{index_of, short, long}
 use Rattle.locked_node.specs.Replay.{Replay}
 use Rattle.locked_node.specs.Totals.{calls_in, sum_in, calls_at, sum_at, all_calls, SameSum, Counts}
 
@@ -104,10 +105,15 @@ pub record HasHistory (journal : JournalView) : Type 0 where
   pub after : Replay base journal.log.tail journal.view
   pub totals : IsTallyOf past journal.log.trimmed
 
--- the view's incarnation and its next numbers are at least the counts of the calls that made them
-pub record CountsWithin (log : LogView) (view : NodeView) : Type 0 where
-  pub passes : log_calls log (index_of Joined) ≤ view.next_pass
-  pub permits : log_calls log (index_of AcquireOpen) ≤ view.links.next_permit
-  pub links : log_calls log (index_of WentUp) ≤ view.links.next_link
-  pub tickets : log_calls log (index_of Served) ≤ view.links.next_ticket
-  pub incarnations : log_calls log (index_of Restarted) ≤ view.links.incarnation
+-- how many calls have this answer, with keys of both kinds, where so many are of each kind
+abbrev pub answers_in : (ℕ → ℕ) → CallAnswer → ℕ
+answers_in calls answer = calls (index_of (short answer)) + calls (index_of (long answer))
+
+-- the view's incarnation and its next numbers are at least the counts of the calls that made them,
+-- where so many calls are of each kind
+pub record CountsWithin (calls : ℕ → ℕ) (view : NodeView) : Type 0 where
+  pub passes : answers_in calls Joined ≤ view.next_pass
+  pub permits : answers_in calls AcquireOpen ≤ view.links.next_permit
+  pub links : answers_in calls WentUp ≤ view.links.next_link
+  pub tickets : answers_in calls Served ≤ view.links.next_ticket
+  pub incarnations : answers_in calls Restarted ≤ view.links.incarnation

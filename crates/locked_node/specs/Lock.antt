@@ -10,7 +10,8 @@ use Rattle.locked_node.specs.declared.rule.Share.{Share}
 use Rattle.locked_node.specs.declared.tally.Tally.{Tally}
 use Rattle.locked_node.specs.Replay.{Replay, fixed_of, IsPossible}
 use Rattle.locked_node.specs.Totals.{calls_in, sum_in, calls_at, sum_at, all_calls, SameSum, Counts, AddsUp, IsEmpty}
-use Rattle.locked_node.specs.Journal.{JournalView, LogView, JournalStep, CALL_LIMIT, log_calls, log_sum, log_all}
+use Rattle.node_core.specs.View.{NodeView, IsView}
+use Rattle.locked_node.specs.Journal.{JournalView, LogView, JournalStep, CountsWithin, CALL_LIMIT, log_calls, log_sum, log_all}
 
 -- what a new caller is handed
 abbrev pub HANDED : ℕ
@@ -118,9 +119,11 @@ no_journal = record {
     me = 0;
     peers = [];
     pools = [];
-    keys = record { peer = 0; secrets = []; next = None };
+    keys = record { peer = 0; entries = []; next = None };
     clients = [];
     next_pass = 0;
+    boot = 0;
+    next_serial = 0;
     links = record {
       peer = 0;
       incarnation = 0;
@@ -163,6 +166,10 @@ given v journal = record v {
   found = None;
 }
 
+-- how many calls of a kind a share has
+abbrev pub share_calls : Share → ℕ → ℕ
+share_calls v kind = sum_by (λ j. log_calls j.log kind) v.begun + calls_in kind v.made
+
 -- a caller took the lock and found this journal
 pub record Took (before after : Me JournalView Share) : Type 0 where
   pub journal : JournalView
@@ -170,6 +177,8 @@ pub record Took (before after : Me JournalView Share) : Type 0 where
   pub slot : after.1 ≡ (0, journal) ∷ before.1
   pub room : before.0.allowance + log_all journal.log ≤ CALL_LIMIT
   pub fixed : fixed_of journal.view ≡ fixed_of before.0.start.view
+  -- the caller's calls are among the journal's
+  pub counts : (kind : ℕ) → share_calls before.0 kind ≤ log_calls journal.log kind
 
 -- a seat that may make a call holds the journal that it found, which takes one more
 pub record Holds (me : Me JournalView Share) : Type 0 where
@@ -179,6 +188,26 @@ pub record Holds (me : Me JournalView Share) : Type 0 where
   pub may : 0 < me.0.allowance
   pub room : log_all journal.log < CALL_LIMIT
   pub fixed : fixed_of journal.view ≡ fixed_of me.0.start.view
+
+-- the seat holds the journal that it found
+pub record IsFound (me : Me JournalView Share) : Type 0 where
+  pub journal : JournalView
+  pub found : me.0.found ≡ Some journal
+  pub slot : me.1 ≡ (0, journal) ∷ []
+
+-- the view of the journal that the seat found
+pub record IsCopy (me : Me JournalView Share) (view : NodeView) : Type 0 where
+  pub journal : JournalView
+  pub found : me.0.found ≡ Some journal
+  pub same : view ≡ journal.view
+  pub whole : IsView view
+  pub numbers : CountsWithin (log_calls journal.log) view
+
+-- a caller took the lock; if it may make a call, then it holds a journal that takes one
+pub record Takes (before after : Me JournalView Share) : Type 0 where
+  pub took : Took before after
+  pub holds : 0 < before.0.allowance → Holds after
+  pub found : IsFound after
 
 -- this call was made on the journal that the seat found
 pub record Calls (before : Me JournalView Share) (call : Exchange) (after : Me JournalView Share)
@@ -221,6 +250,18 @@ giving st before found after = Given before after
 -- what a caller has is within the limit
 abbrev pub IsWithin : Share → Type 0
 IsWithin v = v.allowance + (sum_by (λ j. log_all j.log) v.begun + length v.made) ≤ CALL_LIMIT
+
+-- the seat holds nothing any more, and made no call
+abbrev pub Returned : Me JournalView Share → Me JournalView Share → Type 0
+Returned before after = after ≡ (record before.0 { found = None }, [])
+
+-- after the exchange that gives the lock back with the journal as it was found
+abbrev pub returning : Step JournalView → Me JournalView Share → ℕ → Me JournalView Share → Type 0
+returning st before found after = Returned before after
+
+-- after a step on another word than the lock's nothing has changed
+abbrev pub resting : Step JournalView → Me JournalView Share → ℕ → Me JournalView Share → Type 0
+resting st before found after = after ≡ before
 
 -- after a look a caller's numbers are known to be within the limit
 abbrev pub looking : Step JournalView → Me JournalView Share → ℕ → Me JournalView Share → Type 0

@@ -3,7 +3,8 @@ ghost use Rattle.std.specs.Prelude.{◌≡◌, ℕ, List, Option, ⊤};
 ghost use Rattle.node_core.specs.declared.exchange.Exchange.{Exchange};
 ghost use Rattle.node_core.specs.NodeStep.{IsStep};
 
-use node_core::{Exchange, NodeCore};
+use crate::turn::Woken;
+use node_core::{DatabaseNo, Exchange, NodeCore};
 
 /// A call of one step, with what it hands in. `S` is the stream of a link.
 pub trait Call<S>: Sized {
@@ -38,6 +39,15 @@ pub trait Call<S>: Sized {
         requires { can_make core.old.view.pools self }
         ensures step { IsStep (exchange (handed self) result) core.old core.new }
         ensures streams { streams self result core.old.stored core.new.stored };
+
+    /// The database at which the step may make it another client's turn. No clause says so.
+    fn database(&self, core: &NodeCore<S>) -> Option<DatabaseNo>;
+
+    /// Whom the step wakes, whoever's turn it is. No clause says so.
+    fn woken(reply: &Self::Reply) -> Woken {
+        let _ = reply;
+        Woken::Nobody
+    }
 
     /// What a journal keeps of a call and its reply.
     fn record(details: &Self::Details, reply: &Self::Reply) -> Exchange

@@ -24,17 +24,44 @@ use crate::shared::Shared;
 use crate::steps::{
     Acquire, Cancel, Close, Ended, Failed, Join, Leave, Release, Restart, Up, UpFailed,
 };
+use crate::turn::{Turn, Woken};
 use node_core::{
     AcquireReply, CloseReply, DatabaseNo, EndedReply, FailedReply, JoinRefusal, Lease, LeaveReply,
     Order, Pass, Permit, ReleaseReply, RestartReply, Ticket, UpFailedReply, UpReply,
 };
-use pg_ids::{Secret, ServerKey};
+use pg_ids::{AnyKey, Boot, Kind, Secret, ServerKey};
 use std::sync::Wait;
 
 impl<S: Drop> Shared<S> {
     ghost use Rattle.locked_node.specs.Lock.{Counted, Somewhere};
 
-    // Makes a call of any step.
+    // Makes a call of any step. Returns whom it wakes as well.
+    #[inline(always)]
+    fn step<R: Wait, C: Call<S>>(&self, rt: &R, caller: &mut Caller<S>, call: C) -> (C::Reply, Turn)
+        requires own { caller.old.lock ≡ self.now }
+        requires can { C.can_make caller.old.start.view.pools call }
+        ensures counted { Counted (C.exchange (C.handed call) result.0) result.0 (C.at_end call)
+            caller.old caller.new }
+        ensures streams { Somewhere (C.streams call result.0) }
+    {
+        if caller.allowance == 0 {
+            let nobody = Turn {
+                incarnation: 0,
+                woken: Woken::Nobody,
+            };
+            return (call.forfeit(), nobody);
+        }
+        let details = call.details();
+        self.take(rt, &mut caller.seat);
+        let (reply, turn) = self.make(&mut caller.seat, call, &details);
+        self.give(&mut caller.seat);
+        caller.allowance -= 1;
+        caller.tally.count(&C::record(&details, &reply));
+        (reply, turn)
+    }
+
+    // Makes a call of any step, and then wakes whoever's turn it is.
+    #[inline(always)]
     fn call<R: Wait, C: Call<S>>(&self, rt: &R, caller: &mut Caller<S>, call: C) -> C::Reply
         requires own { caller.old.lock ≡ self.now }
         requires can { C.can_make caller.old.start.view.pools call }
@@ -42,33 +69,27 @@ impl<S: Drop> Shared<S> {
             caller.old caller.new }
         ensures streams { Somewhere (C.streams call result) }
     {
-        if caller.allowance == 0 {
-            return call.forfeit();
-        }
-        let details = call.details();
-        self.take(rt, &mut caller.seat);
-        let reply = self.make(&mut caller.seat, call, &details);
-        self.give(&mut caller.seat);
-        caller.allowance -= 1;
-        caller.tally.count(&C::record(&details, &reply));
+        let (reply, turn) = self.step(rt, caller, call);
+        self.wake(rt, caller, &turn);
         reply
     }
 
-    /// Gives a client of this database a slot, with this secret. Fails with `Exhausted` without
-    /// allowance.
+    /// Gives a client of this database a slot, with this secret, and a key of this kind. Fails with
+    /// `Exhausted` without allowance.
     pub fn join<R: Wait>(
         &self,
         rt: &R,
         caller: &mut Caller<S>,
         database: DatabaseNo,
         secret: Secret,
+        kind: Kind,
     ) -> Result<Pass, JoinRefusal>
         requires own { caller.old.lock ≡ self.now }
         requires database { database < length caller.old.start.view.pools }
-        ensures counted { Counted (call.Join database secret result) result (Err join.Exhausted)
-            caller.old caller.new }
+        ensures counted { Counted (call.Join database secret kind result) result
+            (Err join.Exhausted) caller.old caller.new }
     {
-        self.call(rt, caller, Join(database, secret))
+        self.call(rt, caller, Join(database, secret, kind))
     }
 
     /// Frees the slot of a pass. Without allowance the pass is spent.
@@ -153,10 +174,10 @@ impl<S: Drop> Shared<S> {
         self.call(rt, caller, Close(lease))
     }
 
-    /// Decides on a cancel request with these eight key bytes. Without allowance it is refused.
-    pub fn cancel<R: Wait>(&self, rt: &R, caller: &mut Caller<S>, key: &[u8; 8]) -> Order<Ticket>
+    /// Decides on a cancel request with this key. Without allowance it is refused.
+    pub fn cancel<R: Wait>(&self, rt: &R, caller: &mut Caller<S>, key: AnyKey) -> Order<Ticket>
         requires own { caller.old.lock ≡ self.now }
-        ensures counted { Counted (call.Cancel key.now result)
+        ensures counted { Counted (call.Cancel key result)
             result (order.Refused cancel.Exhausted) caller.old caller.new }
     {
         self.call(rt, caller, Cancel(key))
@@ -182,14 +203,14 @@ impl<S: Drop> Shared<S> {
         self.call(rt, caller, Failed(ticket))
     }
 
-    /// Starts the node anew. It is the one step whose work under the lock grows with the node: each
-    /// slot is freed, and the streams of links that nobody holds are dropped. Returns `Exhausted`
-    /// without allowance.
-    pub fn restart<R: Wait>(&self, rt: &R, caller: &mut Caller<S>) -> RestartReply
+    /// Starts the node anew, with this boot. It is the one step whose work under the lock grows with
+    /// the node: each slot is freed, and the streams of links that nobody holds are dropped. Whoever
+    /// waits for a turn is woken. Returns `Exhausted` without allowance.
+    pub fn restart<R: Wait>(&self, rt: &R, caller: &mut Caller<S>, boot: Boot) -> RestartReply
         requires own { caller.old.lock ≡ self.now }
-        ensures counted { Counted (call.Restart result) result restart.Exhausted
+        ensures counted { Counted (call.Restart boot result) result restart.Exhausted
             caller.old caller.new }
     {
-        self.call(rt, caller, Restart)
+        self.call(rt, caller, Restart(boot))
     }
 }

@@ -5,7 +5,8 @@ ghost use Rattle.node_core.specs.View.{NodeView, IsView};
 use crate::call::Call;
 use crate::log::{Entry, Log};
 use crate::tally::Tally;
-use node_core::NodeCore;
+use crate::turn::{Turn, Woken};
+use node_core::{DatabaseNo, NodeCore};
 use std::alloc::{AllocError, Global};
 use std::collections::vec_deque::Iter;
 use std::marker::Model;
@@ -33,7 +34,7 @@ impl<S: Drop> Journal<S> {
     ghost use Rattle.node_core.specs.declared.exchange.Exchange.{Exchange};
     ghost use Rattle.std.specs.VecDeque.Iter.{deque_iter_rest, deque_iter_steps};
     ghost use Rattle.std.specs.Iterator.Runs.{YieldsRefsInOrder};
-    ghost use Rattle.locked_node.specs.Journal.{journal_view, JournalStep, Journaled, HasHistory, CountsWithin, log_all, CALL_LIMIT, TAIL_LIMIT};
+    ghost use Rattle.locked_node.specs.Journal.{journal_view, JournalStep, Journaled, HasHistory, CountsWithin, log_calls, log_all, CALL_LIMIT, TAIL_LIMIT};
     ghost use Rattle.locked_node.specs.Replay.{Replay};
     ghost use Rattle.locked_node.specs.Totals.{IsEmpty};
     ghost use Rattle.locked_node.specs.Lock.{IsTotalOf};
@@ -56,10 +57,26 @@ impl<S: Drop> Journal<S> {
         ensures whole { IsView self.now.view }
         ensures history { HasHistory (journal_view self.now) }
         // As many numbers and incarnations were given as the calls say, at least.
-        ensures numbers { CountsWithin self.now.log self.now.view }
+        ensures numbers { CountsWithin (log_calls self.now.log) self.now.view }
     {
         self.core.incarnation();
         &self.core
+    }
+
+    // Whom a step wakes that may have made it another client's turn at a database.
+    #[inline(always)]
+    pub(crate) fn turn(&self, woken: Woken, database: Option<DatabaseNo>) -> Turn {
+        let woken = match (woken, database) {
+            (Woken::Nobody, Some(database)) => match self.core.turn(database) {
+                Some(slot) => Woken::One(slot),
+                None => Woken::Nobody,
+            },
+            _ => woken,
+        };
+        Turn {
+            incarnation: self.core.incarnation(),
+            woken,
+        }
     }
 
     /// How many calls there were, those of the tail among them.
@@ -102,6 +119,7 @@ impl<S: Drop> Journal<S> {
 
     // Makes a call of any step, which hands this in, where one is left, and keeps it with its
     // reply.
+    #[inline(always)]
     pub(crate) fn make<C: Call<S>>(&mut self, call: C, details: &C::Details) -> C::Reply
         requires details { C.handed call ≡ details.now }
         requires room { log_all self.old.log < CALL_LIMIT }

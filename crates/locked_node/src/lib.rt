@@ -2,6 +2,7 @@
 #![tactic(auto)]
 
 mod call;
+mod call_answer;
 mod call_kind;
 mod caller;
 mod calls;
@@ -13,8 +14,11 @@ mod rule;
 mod shared;
 mod steps;
 mod tally;
+mod turn;
+mod turns;
 
 pub use call::Call;
+pub use call_answer::{ANSWERS, CallAnswer};
 pub use call_kind::{CallKind, KINDS};
 pub use caller::Caller;
 pub use journal::Journal;
@@ -25,3 +29,4 @@ pub use steps::{
     Acquire, Cancel, Close, Ended, Failed, Join, Leave, Release, Restart, Up, UpFailed,
 };
 pub use tally::{Row, Tally};
+pub use turn::Woken;

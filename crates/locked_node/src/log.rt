@@ -33,8 +33,8 @@ impl Model for Entry {
 #[derive(Debug, Drop)]
 pub(crate) struct Log {
     tail: VecDeque<Entry>,
-    trimmed: Tally,
     calls: u128,
+    trimmed: Tally,
 }
 
 impl Model for Log {
@@ -67,8 +67,8 @@ impl Log {
     {
         Ok(Log {
             tail: VecDeque::with_capacity(alloc, TAIL)?,
-            trimmed: Tally::new(),
             calls: 0,
+            trimmed: Tally::new(),
         })
     }
 
@@ -117,6 +117,7 @@ impl Log {
     }
 
     /// Puts a call behind the tail. The oldest one leaves it where it is full.
+    #[inline(never)]
     pub(crate) fn append(&mut self, call: Exchange)
         requires { log_all self.old < CALL_LIMIT }
         ensures { Appends self.old call self.new }

@@ -47,6 +47,22 @@ impl<S> Play<Locked<S>, Share> for Give {
     ghost then = { giving };
 }
 
+pub struct Return;
+
+impl<S> Play<Locked<S>, Share> for Return {
+    ghost use Rattle.locked_node.specs.Lock.{returning};
+
+    ghost then = { returning };
+}
+
+pub struct Rest;
+
+impl<S> Play<Locked<S>, Share> for Rest {
+    ghost use Rattle.locked_node.specs.Lock.{resting};
+
+    ghost then = { resting };
+}
+
 pub struct Look;
 
 impl<S> Play<Locked<S>, Share> for Look {

@@ -1,14 +1,19 @@
 //! A node behind its lock, which any number of callers share.
 ghost use Rattle.std.specs.Prelude.{◌≡◌, ◌<◌, [], length, None};
-ghost use Rattle.locked_node.specs.Lock.{Took, Holds, Calls, Called, Given};
+ghost use Rattle.locked_node.specs.Lock.{Takes, Holds, IsFound, IsCopy, Calls, Called, Given, Returned, stake};
+ghost use Rattle.locked_node.specs.Journal.{CountsWithin};
+ghost use Rattle.locked_node.specs.Replay.{fixed_of};
+ghost use Rattle.node_core.specs.View.{IsView};
 
 use crate::call::Call;
 use crate::caller::Caller;
 use crate::journal::Journal;
 use crate::locked::Locked;
 use crate::log::MOST;
-use crate::rule::{Both, Give, Hand, Look, Place, Rule, Share, Take};
+use crate::rule::{Both, Give, Hand, Look, Place, Return, Rule, Share, Take};
+use crate::turn::Turn;
 use atomic_table::Table;
+use node_core::View;
 use std::alloc::{AllocError, Global};
 use std::hint::spin_loop;
 use std::marker::Model;
@@ -23,8 +28,11 @@ const TAKEN: u64 = 1;
 
 const AWAITED: u64 = 2;
 
-// How often a caller looks at a taken lock before it sleeps.
-const LOOKS: u32 = 100;
+// How often a caller looks at a taken lock before it sleeps, and how often it pauses after each
+// look: a look takes the lock's word from the caller that has the lock.
+const LOOKS: u32 = 10;
+
+const PAUSES: u32 = 10;
 
 /// A node with its journal, behind a lock.
 #[derive(Drop)]
@@ -47,9 +55,9 @@ impl<S> Model for Shared<S> {
 
 impl<S: Drop> Shared<S> {
     ghost use Rattle.std.specs.Prelude.{◌≤◌, ◌+◌, IfOk, MatchBool, true};
-    ghost use Rattle.locked_node.specs.Totals.{all_calls};
+    ghost use Rattle.locked_node.specs.Totals.{all_calls, calls_at};
     ghost use Rattle.locked_node.specs.Journal.{journal_view, log_all, CALL_LIMIT};
-    ghost use Rattle.locked_node.specs.Lock.{Somewhere, IsTotalOf, IsWhole, IsAmong, IsWithin, HANDED, handing, handed, joined, stake};
+    ghost use Rattle.locked_node.specs.Lock.{Somewhere, IsTotalOf, IsWhole, IsAmong, IsWithin, HANDED, handing, handed, joined};
 
     /// A lock with this journal, and its first caller, which has the journal's totals and may make
     /// all calls that are left. Beside the lock's word its table has a word for each slot of the
@@ -128,12 +136,13 @@ impl<S: Drop> Shared<S> {
     }
 
     // Takes the lock if it is free.
+    #[inline(always)]
     fn try_take(&self, seat: &mut Place<S>) -> bool
         requires own { seat.old.table_id ≡ self.now }
-        requires may { 0 < seat.old.me.0.allowance }
+        requires some { 0 < stake seat.old.me.0 }
         requires empty { seat.old.me.1 ≡ [] }
         ensures own { seat.new.table_id ≡ seat.old.table_id }
-        ensures taken { MatchBool result (Took seat.old.me seat.new.me × Holds seat.new.me)
+        ensures taken { MatchBool result (Takes seat.old.me seat.new.me)
             (seat.new.me ≡ seat.old.me) }
     {
         self.table
@@ -142,8 +151,8 @@ impl<S: Drop> Shared<S> {
             == FREE
     }
 
-    // What the lock's word says, as soon as the lock is free or somebody sleeps, and after a
-    // hundred looks at most.
+    // What the lock's word says, as soon as the lock is free or somebody sleeps, and after ten
+    // looks at most.
     fn look(&self) -> u64 {
         let shared = &self.table.shared;
         for _ in 0..LOOKS {
@@ -151,24 +160,38 @@ impl<S: Drop> Shared<S> {
             if word != TAKEN {
                 return word;
             }
-            spin_loop();
+            for _ in 0..PAUSES {
+                spin_loop();
+            }
         }
         TAKEN
     }
 
     // Takes the lock. A caller that finds it taken looks at it for a while, and then sleeps until
     // it is given back.
+    #[inline(always)]
     pub(crate) fn take<R: Wait>(&self, rt: &R, seat: &mut Place<S>)
         requires own { seat.old.table_id ≡ self.now }
-        requires may { 0 < seat.old.me.0.allowance }
+        requires some { 0 < stake seat.old.me.0 }
         requires empty { seat.old.me.1 ≡ [] }
         ensures own { seat.new.table_id ≡ seat.old.table_id }
-        ensures took { Took seat.old.me seat.new.me }
-        ensures holds { Holds seat.new.me }
+        ensures took { Takes seat.old.me seat.new.me }
     {
-        if self.try_take(seat) {
-            return;
+        if !self.try_take(seat) {
+            self.wait(rt, seat);
         }
+    }
+
+    // Takes the lock, which another caller had.
+    #[cold]
+    #[inline(never)]
+    fn wait<R: Wait>(&self, rt: &R, seat: &mut Place<S>)
+        requires own { seat.old.table_id ≡ self.now }
+        requires some { 0 < stake seat.old.me.0 }
+        requires empty { seat.old.me.1 ≡ [] }
+        ensures own { seat.new.table_id ≡ seat.old.table_id }
+        ensures took { Takes seat.old.me seat.new.me }
+    {
         let shared = &self.table.shared;
         let mut word = self.look();
         if word == FREE && self.try_take(seat) {
@@ -213,24 +236,26 @@ impl<S: Drop> Shared<S> {
     }
 
     // Makes a call of any step, which hands this in, on the journal that the seat holds.
+    #[inline(always)]
     pub(crate) fn make<C: Call<S>>(
         &self,
         seat: &mut Place<S>,
         call: C,
         details: &C::Details,
-    ) -> C::Reply
+    ) -> (C::Reply, Turn)
         requires own { seat.old.table_id ≡ self.now }
         requires details { C.handed call ≡ details.now }
         requires holds { Holds seat.old.me }
         requires can { C.can_make seat.old.me.0.start.view.pools call }
         ensures own { seat.new.table_id ≡ seat.old.table_id }
-        ensures calls { Calls seat.old.me (C.exchange (C.handed call) result) seat.new.me }
-        ensures streams { Somewhere (C.streams call result) }
+        ensures calls { Calls seat.old.me (C.exchange (C.handed call) result.0) seat.new.me }
+        ensures streams { Somewhere (C.streams call result.0) }
     {
         seat.slot_mut(&self.table.shared, 0).make(call, details)
     }
 
     // Gives the lock back, with one call more in the journal.
+    #[inline(always)]
     pub(crate) fn give(&self, seat: &mut Place<S>)
         requires own { seat.old.table_id ≡ self.now }
         requires called { Called seat.old.me }
@@ -241,5 +266,51 @@ impl<S: Drop> Shared<S> {
         if shared.swap::<Give>(seat, 0, FREE) == AWAITED {
             shared.wake_one(0);
         }
+    }
+
+    // What the node is that the seat has found.
+    fn copy(&self, alloc: Global, seat: &mut Place<S>) -> Result<View<S>, AllocError>
+        requires own { seat.old.table_id ≡ self.now }
+        requires found { IsFound seat.old.me }
+        ensures own { seat.new.table_id ≡ seat.old.table_id }
+        ensures same { seat.new.me ≡ seat.old.me }
+        ensures view { IfOk result (λ view. IsCopy seat.old.me view) }
+    {
+        seat.slot_mut(&self.table.shared, 0).copy(alloc)
+    }
+
+    // Gives the lock back, with the journal as it was found.
+    fn put_back(&self, seat: &mut Place<S>)
+        requires own { seat.old.table_id ≡ self.now }
+        requires found { IsFound seat.old.me }
+        ensures own { seat.new.table_id ≡ seat.old.table_id }
+        ensures same { Returned seat.old.me seat.new.me }
+    {
+        let shared = &self.table.shared;
+        if shared.swap::<Return>(seat, 0, FREE) == AWAITED {
+            shared.wake_one(0);
+        }
+    }
+
+    /// What the node is at one moment between the calls of all callers: a view of this node, whose
+    /// incarnation and next numbers are at least the counts of the calls that this caller made. It
+    /// is no call itself: it isn't counted, and needs no allowance. The node is copied under the
+    /// lock, so the work there grows with its slots and places.
+    pub fn copy_view<R: Wait>(
+        &self,
+        rt: &R,
+        alloc: Global,
+        caller: &mut Caller<S>,
+    ) -> Result<View<S>, AllocError>
+        requires own { caller.old.lock ≡ self.now }
+        ensures whole { IfOk result (λ view. IsView view) }
+        ensures of { IfOk result (λ view. fixed_of view ≡ fixed_of caller.old.start.view) }
+        ensures numbers { IfOk result (λ view. CountsWithin (calls_at caller.old.tally) view) }
+        ensures same { caller.new ≡ caller.old }
+    {
+        self.take(rt, &mut caller.seat);
+        let view = self.copy(alloc, &mut caller.seat);
+        self.put_back(&mut caller.seat);
+        view
     }
 }

@@ -17,44 +17,62 @@ ghost use Rattle.node_core.specs.declared.refusal.JoinRefusal.TheVariants as joi
 ghost use Rattle.node_core.specs.declared.refusal.CancelRefusal.TheVariants as cancel;
 
 use crate::call::Call;
+use crate::turn::Woken;
 use node_core::{
     AcquireReply, CancelRefusal, CloseReply, DatabaseNo, EndedReply, Exchange, FailedReply,
     JoinRefusal, Lease, LeaveReply, LinkRecord, NodeCore, Order, Pass, PassRecord, Permit,
     PermitRecord, ReleaseReply, RestartReply, Ticket, TicketRecord, UpFailedReply, UpReply,
 };
-use pg_ids::{Secret, ServerKey};
+use pg_ids::{AnyKey, Boot, Kind, Secret, ServerKey};
 
-/// A client of this database logs in.
+// The database of the client of a pass, whether that is stale or not.
+#[inline(always)]
+fn client_database<S: Drop>(core: &NodeCore<S>, pass: &Pass) -> Option<DatabaseNo> {
+    match core.client(pass.details().key.slot()) {
+        Some(client) => Some(client.database),
+        None => None,
+    }
+}
+
+/// A client of this database logs in, with this secret, and asks for a key of this kind.
 #[derive(Drop)]
-pub struct Join(pub DatabaseNo, pub Secret);
+pub struct Join(pub DatabaseNo, pub Secret, pub Kind);
 
 impl<S: Drop> Call<S> for Join {
     type Reply = Result<Pass, JoinRefusal>;
 
-    type Details = (DatabaseNo, Secret);
+    type Details = (DatabaseNo, Secret, Kind);
 
-    ghost handed = { λ made. (made.0, made.1) };
+    ghost handed = { λ made. (made.0, made.1, made.2) };
 
-    ghost exchange = { λ made reply. call.Join made.0 made.1 reply };
+    ghost exchange = { λ made reply. call.Join made.0 made.1 made.2 reply };
 
     ghost can_make = { λ pools made. made.0 < length pools };
 
     ghost at_end = { λ _. Err join.Exhausted };
 
+    #[inline(always)]
     fn details(&self) -> Self::Details {
-        (self.0, self.1)
+        (self.0, self.1, self.2)
     }
 
+    #[inline(always)]
     fn make(self, core: &mut NodeCore<S>) -> Self::Reply {
-        core.join(self.0, self.1)
+        core.join(self.0, self.1, self.2)
     }
 
+    #[inline(always)]
+    fn database(&self, _core: &NodeCore<S>) -> Option<DatabaseNo> {
+        None
+    }
+
+    #[inline(always)]
     fn record(details: &Self::Details, reply: &Self::Reply) -> Exchange {
         let kept = match reply {
             Ok(pass) => Ok(pass.details()),
             Err(refusal) => Err(*refusal),
         };
-        Exchange::Join(details.0, details.1, kept)
+        Exchange::Join(details.0, details.1, details.2, kept)
     }
 
     fn forfeit(self) -> Self::Reply {
@@ -76,15 +94,23 @@ impl<S: Drop> Call<S> for Leave {
 
     ghost at_end = { λ _. leave.Exhausted };
 
+    #[inline(always)]
     fn details(&self) -> Self::Details {
         self.0.details()
     }
 
+    #[inline(always)]
     fn make(self, core: &mut NodeCore<S>) -> Self::Reply {
         let Leave(pass) = self;
         core.leave(pass)
     }
 
+    #[inline(always)]
+    fn database(&self, core: &NodeCore<S>) -> Option<DatabaseNo> {
+        client_database(core, &self.0)
+    }
+
+    #[inline(always)]
     fn record(details: &Self::Details, reply: &Self::Reply) -> Exchange {
         let kept = match reply {
             LeaveReply::Left => LeaveReply::Left,
@@ -119,14 +145,22 @@ impl<S: Drop> Call<S> for Acquire<'_> {
 
     ghost at_end = { λ _. acquire.Exhausted };
 
+    #[inline(always)]
     fn details(&self) -> Self::Details {
         self.0.details()
     }
 
+    #[inline(always)]
     fn make(self, core: &mut NodeCore<S>) -> Self::Reply {
         core.acquire(self.0)
     }
 
+    #[inline(always)]
+    fn database(&self, core: &NodeCore<S>) -> Option<DatabaseNo> {
+        client_database(core, self.0)
+    }
+
+    #[inline(always)]
     fn record(details: &Self::Details, reply: &Self::Reply) -> Exchange
         ensures { result ≡ call.Acquire details.now (acquire_said reply.now) }
     {
@@ -134,6 +168,7 @@ impl<S: Drop> Call<S> for Acquire<'_> {
             AcquireReply::Got(lease) => AcquireReply::Got(lease.details()),
             AcquireReply::Open(permit) => AcquireReply::Open(permit.details()),
             AcquireReply::Waiting => AcquireReply::Waiting,
+            AcquireReply::Cancelled => AcquireReply::Cancelled,
             AcquireReply::Holding => AcquireReply::Holding,
             AcquireReply::Exhausted => AcquireReply::Exhausted,
             AcquireReply::Stale => AcquireReply::Stale,
@@ -162,15 +197,23 @@ impl<S: Drop> Call<S> for Up<S> {
 
     ghost at_end = { λ made. up.AtEnd made.1 };
 
+    #[inline(always)]
     fn details(&self) -> Self::Details {
         (self.0.details(), self.2)
     }
 
+    #[inline(always)]
     fn make(self, core: &mut NodeCore<S>) -> Self::Reply {
         let Up(permit, stream, key) = self;
         core.up(permit, stream, key)
     }
 
+    #[inline(always)]
+    fn database(&self, _core: &NodeCore<S>) -> Option<DatabaseNo> {
+        None
+    }
+
+    #[inline(always)]
     fn record(details: &Self::Details, reply: &Self::Reply) -> Exchange {
         let kept = match reply {
             UpReply::Up(lease) => UpReply::Up(lease.details()),
@@ -202,15 +245,23 @@ impl<S: Drop> Call<S> for UpFailed {
 
     ghost at_end = { λ _. failing.Exhausted };
 
+    #[inline(always)]
     fn details(&self) -> Self::Details {
         self.0.details()
     }
 
+    #[inline(always)]
     fn make(self, core: &mut NodeCore<S>) -> Self::Reply {
         let UpFailed(permit) = self;
         core.up_failed(permit)
     }
 
+    #[inline(always)]
+    fn database(&self, _core: &NodeCore<S>) -> Option<DatabaseNo> {
+        Some(self.0.details().at.database)
+    }
+
+    #[inline(always)]
     fn record(details: &Self::Details, reply: &Self::Reply) -> Exchange {
         Exchange::UpFailed(*details, *reply)
     }
@@ -238,15 +289,23 @@ impl<S: Drop> Call<S> for Release<S> {
 
     ghost at_end = { λ made. release.Exhausted made.0.stream };
 
+    #[inline(always)]
     fn details(&self) -> Self::Details {
         self.0.details()
     }
 
+    #[inline(always)]
     fn make(self, core: &mut NodeCore<S>) -> Self::Reply {
         let Release(lease) = self;
         core.release(lease)
     }
 
+    #[inline(always)]
+    fn database(&self, _core: &NodeCore<S>) -> Option<DatabaseNo> {
+        Some(self.0.details().at.database)
+    }
+
+    #[inline(always)]
     fn record(details: &Self::Details, reply: &Self::Reply) -> Exchange {
         let kept = match reply {
             ReleaseReply::Idle => ReleaseReply::Idle,
@@ -280,15 +339,23 @@ impl<S: Drop> Call<S> for Close<S> {
 
     ghost at_end = { λ made. close.Exhausted made.0.stream };
 
+    #[inline(always)]
     fn details(&self) -> Self::Details {
         self.0.details()
     }
 
+    #[inline(always)]
     fn make(self, core: &mut NodeCore<S>) -> Self::Reply {
         let Close(lease) = self;
         core.close(lease)
     }
 
+    #[inline(always)]
+    fn database(&self, _core: &NodeCore<S>) -> Option<DatabaseNo> {
+        Some(self.0.details().at.database)
+    }
+
+    #[inline(always)]
     fn record(details: &Self::Details, reply: &Self::Reply) -> Exchange {
         let kept = match reply {
             CloseReply::Closed(_) => CloseReply::Closed(()),
@@ -304,38 +371,58 @@ impl<S: Drop> Call<S> for Close<S> {
     }
 }
 
-/// A cancel request with these eight key bytes comes.
+/// A cancel request with this key comes.
 #[derive(Drop)]
-pub struct Cancel<'a>(pub &'a [u8; 8]);
+pub struct Cancel(pub AnyKey);
 
-impl<S: Drop> Call<S> for Cancel<'_> {
+impl<S: Drop> Call<S> for Cancel {
     type Reply = Order<Ticket>;
 
-    type Details = [u8; 8];
+    type Details = AnyKey;
 
-    ghost handed = { λ made. made.0.now };
+    ghost handed = { λ made. made.0 };
 
     ghost exchange = { λ made reply. call.Cancel made reply };
 
     ghost at_end = { λ _. order.Refused cancel.Exhausted };
 
+    #[inline(always)]
     fn details(&self) -> Self::Details {
-        *self.0
+        self.0
     }
 
+    #[inline(always)]
     fn make(self, core: &mut NodeCore<S>) -> Self::Reply {
         core.cancel(self.0)
     }
 
+    #[inline(always)]
+    fn database(&self, _core: &NodeCore<S>) -> Option<DatabaseNo> {
+        None
+    }
+
+    #[inline(always)]
+    fn woken(reply: &Self::Reply) -> Woken {
+        match reply {
+            Order::Unwait(slot) => Woken::One(*slot),
+            _ => Woken::Nobody,
+        }
+    }
+
+    #[inline(always)]
     fn record(details: &Self::Details, reply: &Self::Reply) -> Exchange
         ensures { result ≡ call.Cancel details.now reply.now }
     {
-        let kept = match reply {
-            Order::Serve(ticket, database, key) => Order::Serve(ticket.details(), *database, *key),
-            Order::Forward(peer, packet) => Order::Forward(*peer, *packet),
-            Order::Refused(refusal) => Order::Refused(*refusal),
-        };
-        Exchange::Cancel(*details, kept)
+        match reply {
+            Order::Serve(ticket, database, key) => {
+                Exchange::Cancel(*details, Order::Serve(ticket.details(), *database, *key))
+            }
+            Order::Forward(peer, packet) => {
+                Exchange::Cancel(*details, Order::Forward(*peer, *packet))
+            }
+            Order::Unwait(slot) => Exchange::Cancel(*details, Order::Unwait(*slot)),
+            Order::Refused(refusal) => Exchange::Cancel(*details, Order::Refused(*refusal)),
+        }
     }
 
     fn forfeit(self) -> Self::Reply {
@@ -357,15 +444,23 @@ impl<S: Drop> Call<S> for Ended {
 
     ghost at_end = { λ _. ended.Exhausted };
 
+    #[inline(always)]
     fn details(&self) -> Self::Details {
         self.0.details()
     }
 
+    #[inline(always)]
     fn make(self, core: &mut NodeCore<S>) -> Self::Reply {
         let Ended(ticket) = self;
         core.ended(ticket)
     }
 
+    #[inline(always)]
+    fn database(&self, _core: &NodeCore<S>) -> Option<DatabaseNo> {
+        Some(self.0.details().at.database)
+    }
+
+    #[inline(always)]
     fn record(details: &Self::Details, reply: &Self::Reply) -> Exchange {
         Exchange::Ended(*details, *reply)
     }
@@ -393,15 +488,23 @@ impl<S: Drop> Call<S> for Failed {
 
     ghost at_end = { λ _. failed.Exhausted };
 
+    #[inline(always)]
     fn details(&self) -> Self::Details {
         self.0.details()
     }
 
+    #[inline(always)]
     fn make(self, core: &mut NodeCore<S>) -> Self::Reply {
         let Failed(ticket) = self;
         core.failed(ticket)
     }
 
+    #[inline(always)]
+    fn database(&self, _core: &NodeCore<S>) -> Option<DatabaseNo> {
+        Some(self.0.details().at.database)
+    }
+
+    #[inline(always)]
     fn record(details: &Self::Details, reply: &Self::Reply) -> Exchange {
         let kept = match reply {
             FailedReply::Condemned => FailedReply::Condemned,
@@ -419,33 +522,48 @@ impl<S: Drop> Call<S> for Failed {
     }
 }
 
-/// A new start.
+/// A new start, with this boot.
 #[derive(Drop)]
-pub struct Restart;
+pub struct Restart(pub Boot);
 
 impl<S: Drop> Call<S> for Restart {
     type Reply = RestartReply;
 
-    type Details = ();
+    type Details = Boot;
 
-    ghost handed = { λ _. tt };
+    ghost handed = { λ made. made.0 };
 
-    ghost exchange = { λ made reply. call.Restart reply };
+    ghost exchange = { λ made reply. call.Restart made reply };
 
     ghost streams = { λ _ reply. RestartStreams reply };
 
     ghost at_end = { λ _. restart.Exhausted };
 
+    #[inline(always)]
     fn details(&self) -> Self::Details {
-        ()
+        self.0
     }
 
+    #[inline(always)]
     fn make(self, core: &mut NodeCore<S>) -> Self::Reply {
-        core.restart()
+        core.restart(self.0)
     }
 
+    #[inline(always)]
+    fn database(&self, _core: &NodeCore<S>) -> Option<DatabaseNo> {
+        None
+    }
+
+    fn woken(reply: &Self::Reply) -> Woken {
+        match reply {
+            RestartReply::Restarted => Woken::All,
+            RestartReply::Exhausted => Woken::Nobody,
+        }
+    }
+
+    #[inline(always)]
     fn record(details: &Self::Details, reply: &Self::Reply) -> Exchange {
-        Exchange::Restart(*reply)
+        Exchange::Restart(*details, *reply)
     }
 
     fn forfeit(self) -> Self::Reply {

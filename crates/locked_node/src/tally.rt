@@ -29,13 +29,14 @@ const NO_CALL: Row = Row {
 
 impl Row {
     // One more call.
+    #[inline(always)]
     fn count(&mut self, call: &Exchange)
         requires { self.old.calls + 1 < 2 ^ 128 }
         ensures calls { self.new.calls ≡ self.old.calls + 1 }
         ensures sums { SumsUp self.old.sums (numbers_of call.now) self.new.sums }
     {
-        self.calls += 1;
         self.add(call);
+        self.calls += 1;
     }
 
     // The calls of another row besides.
@@ -79,6 +80,7 @@ impl Tally {
     }
 
     /// Counts one more call.
+    #[inline(always)]
     pub fn count(&mut self, call: &Exchange)
         requires { all_calls self.old < 2 ^ 127 }
         ensures { Counts self.old call.now self.new }

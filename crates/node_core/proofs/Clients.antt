@@ -5,17 +5,19 @@ use Rattle.std.specs.List.{slice_get}
 use Rattle.std.specs.Option.{is_some, option_map}
 use Rattle.std.proofs.lemmas.Option.{slice_get-map, slice_get_within, same_Some}
 use Rattle.std.proofs.lemmas.List.{map-set, length-map}
-use Rattle.pg_ids.specs.declared.client_key.ClientKey.{ClientKey}
+use Rattle.pg_ids.specs.AnyKey.{slot_of}
+use Rattle.pg_ids.specs.declared.any_key.AnyKey.{AnyKey}
+use Rattle.pg_ids.specs.declared.long_part.LongPart.{LongPart}
+use Rattle.key_table.specs.declared.entry.Entry.{Entry}
 use Rattle.key_table.specs.Slots.{Slots, IsNext, IsFree, Issues, Frees}
 use Rattle.link_pool.specs.declared.place.Claim.{Claim}
-use Rattle.link_pool.specs.Pool.{DatabasePool, PoolView, unqueued}
+use Rattle.link_pool.specs.Pool.{DatabasePool, PoolView, departed}
 use Rattle.link_pool.specs.OnePlace.{sizes}
 use Rattle.link_pool.specs.PoolStep.{is_holding}
-use Rattle.link_pool.proofs.Asking.{nothing_unqueued}
 use Rattle.node_core.specs.declared.client.Client.{Client}
 use Rattle.node_core.specs.View.{NodeView, IsNode, IsClient, Has}
 use Rattle.node_core.proofs.Slots.{set_at}
-use Rattle.node_core.proofs.Links.{with_links, unqueued_kept}
+use Rattle.node_core.proofs.Links.{with_links, departed_kept, nothing_departed}
 
 -- by slot its client
 abbrev pub Clients : Type 0
@@ -38,8 +40,6 @@ has_lengths (client ∷ clients) (had ∷ claims) has =
 pub record MayAsk (v : NodeView) (slot : ℕ) (client : Client) : Type 0 where
   pub within : slot < length v.links.claims
   pub database : client.database < length v.links.pools
-  pub waits : (other : ℕ) → slice_get v.links.claims slot ≡ Some (Claim.Waiting other)
-      → other ≡ client.database
 
 pub may_ask : (v : NodeView) (slot : ℕ) (client : Client) → IsNode v → IsClient v slot client
     → MayAsk v slot client
@@ -52,30 +52,29 @@ may_ask v slot client node there =
     record {
       within = omega (arith, below, slots);
       database = omega (arith, few, pools);
-      waits = λ other e. rw (there, e) at (node.has slot);
     }
 
--- a slot has a secret exactly where it has a client
-abbrev AreLive : List (Option ℕ) → Clients → Type 0
-AreLive secrets clients = map is_some secrets ≡ map is_some clients
+-- a slot has an entry in the table exactly where it has a client
+abbrev AreLive : List (Option Entry) → Clients → Type 0
+AreLive entries clients = map is_some entries ≡ map is_some clients
 
-at_slot : (secrets : List (Option ℕ)) (clients : Clients) (slot : ℕ) → AreLive secrets clients
-    → option_map is_some (slice_get secrets slot) ≡ option_map is_some (slice_get clients slot)
-at_slot secrets clients slot live =
-    sym (slice_get-map is_some secrets slot) ∙ ap (λ l. slice_get l slot) live
+at_slot : (entries : List (Option Entry)) (clients : Clients) (slot : ℕ) → AreLive entries clients
+    → option_map is_some (slice_get entries slot) ≡ option_map is_some (slice_get clients slot)
+at_slot entries clients slot live =
+    sym (slice_get-map is_some entries slot) ∙ ap (λ l. slice_get l slot) live
     ∙ slice_get-map is_some clients slot
 
 -- a free slot has no client
-pub free_client : (secrets : List (Option ℕ)) (clients : Clients) (slot : ℕ)
-    → AreLive secrets clients → IsFree secrets slot → slice_get clients slot ≡ Some None
-free_client secrets clients slot live free = grind (arith, at_slot secrets clients slot live)
+pub free_client : (entries : List (Option Entry)) (clients : Clients) (slot : ℕ)
+    → AreLive entries clients → IsFree entries slot → slice_get clients slot ≡ Some None
+free_client entries clients slot live free = grind (arith, at_slot entries clients slot live)
 
--- a slot with a client has a secret
-pub secret_of : (secrets : List (Option ℕ)) (clients : Clients) (slot : ℕ) (client : Client)
-    → AreLive secrets clients → IsAt clients slot client
-    → (secret : ℕ) × (slice_get secrets slot ≡ Some (Some secret))
-secret_of secrets clients slot client live there =
-    grind (arith, at_slot secrets clients slot live)
+-- a slot with a client has an entry
+pub entry_of : (entries : List (Option Entry)) (clients : Clients) (slot : ℕ) (client : Client)
+    → AreLive entries clients → IsAt clients slot client
+    → (entry : Entry) × (slice_get entries slot ≡ Some (Some entry))
+entry_of entries clients slot client live there =
+    grind (arith, at_slot entries clients slot live)
 
 -- whoever is there once a client joined was there, or is that client
 joined : (clients : Clients) (slot : ℕ) (new : Client) (s : ℕ) (client : Client)
@@ -110,24 +109,26 @@ apart v slot new node next s other a b (inr x) (inl y) same =
 apart v slot new node next s other a b (inr x) (inr y) same = x.0 ∙ sym y.0
 
 -- a client of this database has the slot that was next, and the next pass
-pub joined_view : (v : NodeView) (slot secret : ℕ) (key : ClientKey) (client : Client)
-    (keys : Slots) (next : ℕ) → IsNode v → IsFree v.keys.secrets slot → v.keys.next ≡ Some slot
-    → Issues v.keys secret key keys → IsNext keys.secrets keys.next
+pub joined_view : (v : NodeView) (slot secret : ℕ) (part : Option LongPart) (key : AnyKey)
+    (client : Client) (keys : Slots) (next serial : ℕ) → IsNode v → IsFree v.keys.entries slot
+    → v.keys.next ≡ Some slot → Issues v.keys secret part key keys → IsNext keys.entries keys.next
     → client.database < length v.pools → client.pass ≡ v.next_pass → next ≡ v.next_pass + 1
-    → next ≤ 2 ^ 64
+    → (next ≤ 2 ^ 64) × (serial ≤ 2 ^ 64)
     → IsNode (record v {
       keys = keys;
       clients = set v.clients slot (Some client);
       next_pass = next;
+      next_serial = serial;
     })
-joined_view v slot secret key client keys next node free was issued after known number one few =
-    let nobody = free_client v.keys.secrets v.clients slot node.live free in
-    let same : slot ≡ key.slot = same_Some slot key.slot (sym was ∙ issued.slot) in
+joined_view v slot secret part key client keys next serial node free was issued after known number one few =
+    let nobody = free_client v.keys.entries v.clients slot node.live free in
+    let same : slot ≡ (slot_of key) =
+    same_Some slot (slot_of key) (sym was ∙ issued.slot) in
     let is_one = joined v.clients slot client in
     record {
       own = (issued.peer ∙ node.own.0, node.own.1);
       next = after;
-      live = simp (issued.secrets, ← same, map-set, node.live);
+      live = simp (issued.entries, ← same, map-set, node.live);
       has = set_at (λ s o. Has o (slice_get v.links.claims s)) v.clients slot (Some client)
           (λ was e. new_has client _ (rw nobody at (node.has slot))) node.has;
       clients = λ s c there. ⊎_elim
@@ -142,17 +143,17 @@ joined_view v slot secret key client keys next node free was issued after known 
 -- the client of the slot, which holds nothing, is out of the queue, and the slot is free
 pub left_view : (v : NodeView) (slot : ℕ) (client : Client) (keys : Slots) (links : PoolView)
     → IsNode v → IsClient v slot client → is_holding (slice_get v.links.claims slot) ≡ false
-    → links ≡ unqueued v.links slot → Frees v.keys slot keys → IsNext keys.secrets keys.next
+    → links ≡ departed v.links slot → Frees v.keys slot keys → IsNext keys.entries keys.next
     → IsNode (record v { keys = keys; clients = set v.clients slot None; links = links })
 left_view v slot client keys links node there free out freed next =
     let was = left v.clients slot in
-    let kept : IsNode (with_links v links) = rw out (unqueued_kept node slot) in
+    let kept : IsNode (with_links v links) = rw out (departed_kept node slot) in
     let nothing : slice_get links.claims slot ≡ Some Claim.Nothing =
-    rw out (nothing_unqueued v.links slot (may_ask v slot client node there).within free) in
+    rw out (nothing_departed v.links slot (may_ask v slot client node there).within free) in
     record {
       own = (freed.peer ∙ node.own.0, kept.own.1);
       next = next;
-      live = simp (freed.secrets, map-set, node.live);
+      live = simp (freed.entries, map-set, node.live);
       has = set_at (λ s o. Has o (slice_get links.claims s)) v.clients slot None
           (λ was e. rw nothing refl) kept.has;
       clients = λ s c here. node.clients s c (was s c here);
@@ -179,16 +180,16 @@ nobody_there (suc n) (suc s) client h = nobody_there n s client h
 
 -- nobody is logged in, and no link is open
 pub none_view : (v : NodeView) (slots : ℕ) → v.keys.peer ≡ v.me → v.links.peer ≡ v.me
-    → IsNext v.keys.secrets v.keys.next → v.keys.secrets ≡ replicate slots None
+    → IsNext v.keys.entries v.keys.next → v.keys.entries ≡ replicate slots None
     → v.clients ≡ replicate slots None → v.links.claims ≡ replicate slots Claim.Nothing
-    → sizes v.links.pools ≡ v.pools → v.next_pass ≤ 2 ^ 64 → IsNode v
-none_view v slots keys links next secrets clients claims sized numbers =
+    → sizes v.links.pools ≡ v.pools → (v.next_pass ≤ 2 ^ 64) × (v.next_serial ≤ 2 ^ 64) → IsNode v
+none_view v slots keys links next entries clients claims sized numbers =
     let nobody : (s : ℕ) (c : Client) → slice_get v.clients s ≢ Some (Some c) =
     λ s c. rw clients (nobody_there slots s c) in
     record {
       own = (keys, links);
       next = next;
-      live = rw (secrets, clients) (none_live slots);
+      live = rw (entries, clients) (none_live slots);
       has = λ s. rw (clients, claims) (has_none slots s);
       clients = λ s c there. absurd (nobody s c there);
       passes = λ s other a b there also alike. absurd (nobody s a there);

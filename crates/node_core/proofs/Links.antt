@@ -1,18 +1,21 @@
 -- What is known of a node stays so through the steps of its links.
-use Rattle.std.proofs.Common.{◌≡◌, ℕ, zero, suc, true, List, [], ◌∷◌, Option, Some, None, length, refl, ap, ◌∙◌, length-set}
+use Rattle.std.proofs.Common.{◌≡◌, ℕ, zero, suc, true, false, ◌<◌, inl, inr, List, [], ◌∷◌, Option, Some, None, length, refl, ap, ◌∙◌, length-set}
+use Rattle.std.specs.Prelude.{slice_set}
 use Rattle.std.specs.List.{slice_get}
 use Rattle.std.proofs.lemmas.List.{length-replicate}
+use Rattle.std.proofs.lemmas.Option.{slice_get-get_or}
 use Rattle.lease.specs.declared.{link_place.LinkPlace.LinkPlace, link_record.LinkRecord.LinkRecord}
 use Rattle.lease.specs.declared.{permit.PermitRecord.PermitRecord, ticket.TicketRecord.TicketRecord}
 use Rattle.link_pool.specs.declared.place.{Place.Place, Claim.Claim}
 use Rattle.link_pool.specs.declared.replies.{AcquireReply.AcquireReply, UpReply.UpReply, UpFailedReply.UpFailedReply}
 use Rattle.link_pool.specs.declared.replies.{ReleaseReply.ReleaseReply, CloseReply.CloseReply, ServeReply.ServeReply}
 use Rattle.link_pool.specs.declared.replies.{EndedReply.EndedReply, FailedReply.FailedReply}
-use Rattle.link_pool.specs.Pool.{DatabasePool, PoolView, changed, with_place, with_queue, with_claim, give_back, out_of_queue, unqueued, in_queue, others, behind}
-use Rattle.link_pool.specs.OnePlace.{IsPool, sizes, has_permit, open_for}
-use Rattle.link_pool.specs.PoolStep.{emptied, empty_pools, AcquireStep, UpStep, UpFailedStep, ReleaseStep, CloseStep, ServeStep, EndedStep, FailedStep}
+use Rattle.link_pool.specs.Pool.{DatabasePool, PoolView, place_at, changed, placed, with_place, with_queue, with_claim, give_back, nothing_for, out_of_queue, unqueued, without_giver, departed_by, departed, unwaited_by, unwaited, in_queue, others, behind}
+use Rattle.link_pool.specs.OnePlace.{IsPool, sizes, has_link, held_by, has_permit, open_for}
+use Rattle.link_pool.specs.PoolStep.{is_holding, emptied, empty_pools, AcquireStep, UpStep, UpFailedStep, ReleaseStep, CloseStep, ServeStep, EndedStep, FailedStep}
 use Rattle.std.proofs.lemmas.Bool.{eq-eqb}
 use Rattle.link_pool.proofs.Changes.{same_places}
+use Rattle.link_pool.proofs.Places.{slice_get-set_same}
 use Rattle.node_core.specs.declared.client.Client.{Client}
 use Rattle.node_core.specs.View.{NodeView, IsNode, IsClient, Has, IsOwn}
 use Rattle.node_core.proofs.Slots.{set_at}
@@ -56,11 +59,15 @@ kept node links peer sized has = record {
   numbers = node.numbers;
 }
 
--- what is at a place changes
+-- what is at a place changes, and the stack of free places
+placed_kept : {v : NodeView} → IsNode v → (at : LinkPlace) (p : Place)
+    (restack : List ℕ → List ℕ) → IsNode (with_links v (placed v.links at p restack))
+placed_kept {v} node at p restack = kept node _ refl
+    (sizes_changed v.links.pools at.database _ (λ pool. length-set pool.places at.index p)) node.has
+
 place_kept : {v : NodeView} → IsNode v → (at : LinkPlace) (p : Place)
     → IsNode (with_links v (with_place v.links at p))
-place_kept {v} node at p = kept node _ refl
-    (sizes_changed v.links.pools at.database _ (λ pool. length-set pool.places at.index p)) node.has
+place_kept node at p = placed_kept node at p _
 
 -- a queue changes
 queue_kept : {v : NodeView} → IsNode v → (d : ℕ) (change : List ℕ → List ℕ)
@@ -116,6 +123,69 @@ pub unqueued_kept : {v : NodeView} → IsNode v → (slot : ℕ)
     → IsNode (with_links v (unqueued v.links slot))
 unqueued_kept {v} node slot = out_kept node slot (slice_get v.links.claims slot)
 
+-- the link of a place stays quarantined, and nobody gets it back
+forgotten : {v : NodeView} → IsNode v → (at : LinkPlace) (o : Option Place)
+    → IsNode (with_links v (without_giver o v.links at))
+forgotten node at (Some (Place.Link link)) = place_kept node at _
+forgotten node at other = node
+
+-- a client with neither a link nor a permit has left
+departed_as : {v : NodeView} → IsNode v → (slot : ℕ) (o : Option Claim)
+    → IsNode (with_links v (departed_by o v.links slot))
+departed_as node slot (Some Claim.Cancelled) = nothing_kept node slot
+departed_as node slot (Some (Claim.Waiting d)) = out_kept node slot (Some (Claim.Waiting d))
+departed_as {v} node slot (Some (Claim.Gave at)) =
+    nothing_kept (forgotten node at (place_at v.links at)) slot
+departed_as node slot other = node
+
+pub departed_kept : {v : NodeView} → IsNode v → (slot : ℕ)
+    → IsNode (with_links v (departed v.links slot))
+departed_kept {v} node slot = departed_as node slot (slice_get v.links.claims slot)
+
+-- no claim changes with the link that nobody gets back
+same_claims : (v : PoolView) (at : LinkPlace) (o : Option Place)
+    → (without_giver o v at).claims ≡ v.claims
+same_claims v at (Some (Place.Link link)) = refl
+same_claims v at other = refl
+
+nothing_as : (v : PoolView) (slot : ℕ) (o : Option Claim) → slice_get v.claims slot ≡ o
+    → slot < length v.claims → is_holding o ≡ false
+    → slice_get (departed_by o v slot).claims slot ≡ Some Claim.Nothing
+nothing_as v slot None e within free =
+    absurd (cc (slice_get-get_or v.claims slot Claim.Nothing within))
+nothing_as v slot (Some Claim.Nothing) e within free = e
+nothing_as v slot (Some (Claim.Gave at)) e within free =
+    ap (λ (cs : List Claim). slice_get (slice_set cs slot Claim.Nothing) slot)
+    (same_claims v at (place_at v at)) ∙ slice_get-set_same v.claims slot Claim.Nothing within
+nothing_as v slot (Some (Claim.Open at)) e within free = absurd (cc)
+nothing_as v slot (Some (Claim.Link at)) e within free = absurd (cc)
+nothing_as v slot (Some other) e within free = slice_get-set_same v.claims slot Claim.Nothing within
+
+-- and has nothing
+pub nothing_departed : (v : PoolView) (slot : ℕ) → slot < length v.claims
+    → is_holding (slice_get v.claims slot) ≡ false
+    → slice_get (departed v slot).claims slot ≡ Some Claim.Nothing
+nothing_departed v slot within free = nothing_as v slot (slice_get v.claims slot) refl within free
+
+-- whoever waits may be owed `Cancelled`
+owed_fits : (o : Option (Option Client)) (d : ℕ) → Has o (Some (Claim.Waiting d))
+    → Has o (Some Claim.Cancelled)
+owed_fits None d h = h
+owed_fits (Some None) d h = absurd (cc)
+owed_fits (Some (Some client)) d h = tt
+
+-- the wait of a slot's client is cancelled
+unwaited_as : {v : NodeView} → IsNode v → (slot : ℕ) (o : Option Claim)
+    → slice_get v.links.claims slot ≡ o → IsNode (with_links v (unwaited_by o v.links slot))
+unwaited_as {v} node slot (Some (Claim.Waiting d)) e =
+    claim_kept (queue_kept node d (others slot)) slot Claim.Cancelled
+    (λ was same has. owed_fits (slice_get v.clients slot) d (rw (← e, same) has))
+unwaited_as node slot other e = node
+
+pub unwaited_kept : {v : NodeView} → IsNode v → (slot : ℕ)
+    → IsNode (with_links v (unwaited v.links slot))
+unwaited_kept {v} node slot = unwaited_as node slot (slice_get v.links.claims slot) refl
+
 -- a client is in the queue of its database
 in_kept : {v : NodeView} → IsNode v → (slot : ℕ) (client : Client) → IsClient v slot client
     → (o : Option Claim) → IsNode (with_links v (in_queue o v.links slot client.database))
@@ -128,14 +198,19 @@ in_kept node slot client there other = node
 pub acquire_kept : {v : NodeView} (new : PoolView) (slot : ℕ) (client : Client)
     (reply : AcquireReply LinkRecord PermitRecord) → IsNode v → IsClient v slot client
     → AcquireStep slot client.database reply v.links new → IsNode (with_links v new)
-acquire_kept new slot client (AcquireReply.Got lease) node there step = rw step.1.after
+acquire_kept {v} new slot client (AcquireReply.Got lease) node there (inl back) = rw back.after
+    (own_kept (place_kept node lease.at _) slot client (Claim.Link lease.at) there
+    (rw (there, back.gave) at (node.has slot)))
+acquire_kept new slot client (AcquireReply.Got lease) node there (inr step) = rw step.1.after
     (own_kept (place_kept (unqueued_kept node slot) lease.at _) slot client
     (Claim.Link lease.at) there step.1.of)
 acquire_kept new slot client (AcquireReply.Open permit) node there step = rw step.2.after
-    (numbered (own_kept (place_kept (unqueued_kept node slot) permit.at _) slot client
+    (numbered (own_kept (placed_kept (unqueued_kept node slot) permit.at _ _) slot client
     (Claim.Open permit.at) there step.2.of) _ _ _)
 acquire_kept {v} new slot client AcquireReply.Waiting node there step =
     rw step.2 (in_kept node slot client there (slice_get v.links.claims slot))
+acquire_kept new slot client AcquireReply.Cancelled node there step =
+    rw step.1 (nothing_kept node slot)
 acquire_kept new slot client AcquireReply.Holding node there step = rw step.1 node
 acquire_kept new slot client AcquireReply.Exhausted node there step = rw step.4 node
 acquire_kept new slot client AcquireReply.Stale node there step = absurd step
@@ -169,18 +244,30 @@ up_failed_kept new permit UpFailedReply.Freed node step =
 up_failed_kept new permit UpFailedReply.Stale node step = rw step.1 node
 up_failed_kept new permit UpFailedReply.Exhausted node step = absurd step
 
+-- whoever has the link of a place may have given it back
+gave_for : (at : LinkPlace) (o : Option (Option Client)) (was : Claim)
+    → has_link at (Some was) ≡ true → Has o (Some was) → Has o (Some (Claim.Gave at))
+gave_for at None was h has = has
+gave_for at (Some None) (Claim.Link other) h has = absurd (cc)
+gave_for at (Some (Some client)) (Claim.Link other) h has = cc (same_places other at h)
+gave_for at o was h has = absurd (cc)
+
 -- a link is given back
 pub release_kept : {v : NodeView} {S : Type 0} (new : PoolView) (lease : LinkRecord)
-    (reply : ReleaseReply S) → IsNode v → ReleaseStep lease reply v.links new
+    (reply : ReleaseReply S) → IsPool v.links → IsNode v → ReleaseStep lease reply v.links new
     → IsNode (with_links v new)
-release_kept new lease ReleaseReply.Idle node step =
+release_kept new lease ReleaseReply.Idle whole node step =
     rw step.5 (given_back node lease.at step.1 _)
-release_kept new lease ReleaseReply.Quarantined node step =
-    rw step.5 (given_back node lease.at step.1 _)
-release_kept new lease (ReleaseReply.Closed stream) node step =
+release_kept {v} new lease ReleaseReply.Quarantined whole node step =
+    let slot = step.1 in
+    let holds : has_link lease.at (slice_get v.links.claims slot) ≡ true =
+    whole.links slot lease.at ∙ ap (held_by slot) step.2.at ∙ rw step.2.held (eq-eqb slot slot refl) in
+    rw step.5 (claim_kept (place_kept node lease.at _) slot (Claim.Gave lease.at)
+    (λ was e has. gave_for lease.at _ was (rw e at holds) has))
+release_kept new lease (ReleaseReply.Closed stream) whole node step =
     rw step.4 (given_back node lease.at step.1 _)
-release_kept new lease (ReleaseReply.Stale stream) node step = rw step.1 node
-release_kept new lease (ReleaseReply.Exhausted stream) node step = absurd step
+release_kept new lease (ReleaseReply.Stale stream) whole node step = rw step.1 node
+release_kept new lease (ReleaseReply.Exhausted stream) whole node step = absurd step
 
 -- a link is closed
 pub close_kept : {v : NodeView} {S : Type 0} (new : PoolView) (lease : LinkRecord)
@@ -200,10 +287,17 @@ serve_kept new slot ServeReply.NoLink node step = rw step.1 node
 serve_kept new slot ServeReply.Busy node step = rw step.1 node
 serve_kept new slot ServeReply.Exhausted node step = rw step.2 node
 
+-- the client that gave a link back, if there is one, has nothing any more
+given_over : {v : NodeView} → IsNode v → (giver : Option ℕ)
+    → IsNode (with_links v (nothing_for giver v.links))
+given_over node None = node
+given_over node (Some slot) = nothing_kept node slot
+
 -- a cancel request ended cleanly
 pub ended_kept : {v : NodeView} (new : PoolView) (ticket : TicketRecord) (reply : EndedReply)
     → IsNode v → EndedStep ticket reply v.links new → IsNode (with_links v new)
-ended_kept new ticket EndedReply.Freed node step = rw step.4 (place_kept node ticket.at _)
+ended_kept new ticket EndedReply.Freed node step =
+    rw step.4 (given_over (place_kept node ticket.at _) _)
 ended_kept new ticket EndedReply.Counted node step = rw step.3 (place_kept node ticket.at _)
 ended_kept new ticket EndedReply.Stale node step = rw step.1 node
 ended_kept new ticket EndedReply.Exhausted node step = absurd step
@@ -214,6 +308,6 @@ pub failed_kept : {v : NodeView} {S : Type 0} (new : PoolView) (ticket : TicketR
     → IsNode (with_links v new)
 failed_kept new ticket FailedReply.Condemned node step = rw step.4 (place_kept node ticket.at _)
 failed_kept new ticket (FailedReply.Closed stream) node step =
-    rw step.3 (place_kept node ticket.at _)
+    rw step.3 (given_over (place_kept node ticket.at _) _)
 failed_kept new ticket FailedReply.Stale node step = rw step.1 node
 failed_kept new ticket FailedReply.Exhausted node step = absurd step

@@ -1,17 +1,18 @@
 -- The steps of a node (own; PgBouncer manual, transaction pooling and `[peers]`): which reply a
 -- call may get, and the state that it leaves. Free is which free slot is next, which idle link is
 -- got, and which free place is kept.
-use Rattle.std.specs.Prelude.{ℕ, ◌≡◌, ◌≢◌, ◌+◌, ◌<◌, ◌^◌, Bool, true, false, List, Option, Some, None, Result, Ok, Err, length, replicate, slice_get, slice_set}
-use Rattle.pg_ids.specs.declared.client_key.ClientKey.{ClientKey}
-use Rattle.pg_ids.specs.Key.{IsKey, key_bytes}
+use Rattle.std.specs.Prelude.{ℕ, ◌≡◌, ◌≢◌, ◌+◌, ◌<◌, ◌^◌, ◌⊎◌, Bool, true, false, Option, Some, None, Result, Ok, Err, length, replicate, slice_get, slice_set}
+use Rattle.pg_ids.specs.AnyKey.{peer_of, slot_of}
+use Rattle.pg_ids.specs.declared.any_key.{AnyKey.AnyKey, Kind.Kind}
+use Rattle.pg_ids.specs.declared.long_part.LongPart.{LongPart}
 use Rattle.key_table.specs.Slots.{Issues, Frees, IsNext, IsFree}
-use Rattle.startup.specs.Packet.{cancel_request}
+use Rattle.startup.specs.CancelPacket.{cancel_packet}
 use Rattle.lease.specs.declared.{link_record.LinkRecord.LinkRecord, pass.PassRecord.PassRecord}
 use Rattle.lease.specs.declared.{permit.PermitRecord.PermitRecord, ticket.TicketRecord.TicketRecord}
 use Rattle.link_pool.specs.declared.place.{Place.Place, Claim.Claim}
 use Rattle.link_pool.specs.declared.replies.{AcquireReply.AcquireReply, ServeReply.ServeReply}
 use Rattle.link_pool.specs.declared.replies.RestartReply.{RestartReply}
-use Rattle.link_pool.specs.Pool.{PoolView, place_at, unqueued}
+use Rattle.link_pool.specs.Pool.{PoolView, place_at, departed}
 use Rattle.link_pool.specs.PoolStep as pool
 use Rattle.cancel_router.specs.Route.{route}
 use Rattle.cancel_router.specs.declared.{table_view.Standing.Standing, decision.Route.Route}
@@ -23,8 +24,8 @@ use Rattle.node_core.specs.declared.exchange.{LeaveReply.LeaveReply, Order.Order
 -- a pass is its slot's: its node and its incarnation are this one, and its number is that of the
 -- slot's client
 pub record IsPass (v : NodeView) (pass : PassRecord) (client : Client) : Type 0 where
-  pub own : (pass.key.peer ≡ v.me) × (pass.incarnation ≡ v.links.incarnation)
-  pub there : IsClient v pass.key.slot client
+  pub own : (peer_of pass.key ≡ v.me) × (pass.incarnation ≡ v.links.incarnation)
+  pub there : IsClient v (slot_of pass.key) client
   pub number : client.pass ≡ pass.number
 
 -- the pass is no slot's
@@ -39,6 +40,7 @@ holding other = Standing.Without
 -- how a client stands, by what it has
 abbrev pub standing_by : PoolView → Option Claim → Standing
 standing_by links (Some (Claim.Link at)) = holding (place_at links at)
+standing_by links (Some (Claim.Waiting database)) = Standing.Waits
 standing_by links other = Standing.Without
 
 -- how the client of a slot stands
@@ -49,43 +51,63 @@ standing_in v slot = standing_by v.links (slice_get v.links.claims slot)
 abbrev pub LinksStep : (PoolView → PoolView → Type 0) → NodeView → NodeView → Type 0
 LinksStep Step old new = Step old.links new.links × (new ≡ record old { links = new.links })
 
--- a client of this database gets the next slot, and a pass with the next number
-pub record Joins (database secret : ℕ) (pass : PassRecord) (old new : NodeView) : Type 0 where
+-- what the next key of this kind has behind its first eight bytes: boot and serial, if it is long
+abbrev pub part_of : Kind → NodeView → Option LongPart
+part_of Kind.Short v = None
+part_of Kind.Long v = Some record { boot = v.boot; serial = v.next_serial }
+
+-- a key of this kind can be issued: a long one needs a serial, of which this is the next
+abbrev pub HasSerial : Kind → ℕ → Type 0
+HasSerial Kind.Short serial = Unit {0}
+HasSerial Kind.Long serial = serial < 2 ^ 64
+
+-- the serial of the next long key, once a key of this kind was issued
+abbrev pub serial_after : Kind → ℕ → ℕ
+serial_after Kind.Short serial = serial
+serial_after Kind.Long serial = serial + 1
+
+-- a client of this database gets the next slot, a key of its kind, and a pass with the next number
+pub record Joins (database secret : ℕ) (kind : Kind) (pass : PassRecord) (old new : NodeView) : Type 0 where
   pub number : (pass.number ≡ old.next_pass) × (old.next_pass < 2 ^ 64)
   pub incarnation : pass.incarnation ≡ old.links.incarnation
-  pub slot : Issues old.keys secret pass.key new.keys
-  pub next : IsNext new.keys.secrets new.keys.next
+  pub serial : HasSerial kind old.next_serial
+  pub slot : Issues old.keys secret (part_of kind old) pass.key new.keys
+  pub next : IsNext new.keys.entries new.keys.next
   pub after : new ≡ record old {
     keys = new.keys;
-    clients = slice_set old.clients pass.key.slot
+    clients = slice_set old.clients (slot_of pass.key)
         (Some record { database = database; pass = pass.number });
     next_pass = old.next_pass + 1;
+    next_serial = serial_after kind old.next_serial;
   }
 
 -- joining
-abbrev pub JoinStep : ℕ → ℕ → Result PassRecord JoinRefusal → NodeView → NodeView → Type 0
-JoinStep database secret (Ok pass) old new = Joins database secret pass old new
+abbrev pub JoinStep : ℕ → ℕ → Kind → Result PassRecord JoinRefusal → NodeView → NodeView → Type 0
+JoinStep database secret kind (Ok pass) old new = Joins database secret kind pass old new
 -- no slot is free
-JoinStep database secret (Err JoinRefusal.Full) old new =
-    ((slot : ℕ) → slice_get old.keys.secrets slot ≢ Some None) × (new ≡ old)
--- a slot is free, and no number is left for the pass
-JoinStep database secret (Err JoinRefusal.Exhausted) old new =
-    ((slot : ℕ) × IsFree old.keys.secrets slot) × (old.next_pass ≡ 2 ^ 64) × (new ≡ old)
+JoinStep database secret kind (Err JoinRefusal.Full) old new =
+    ((slot : ℕ) → slice_get old.keys.entries slot ≢ Some None) × (new ≡ old)
+-- a slot is free, and no number is left for the pass, or for the serial of a long key
+JoinStep database secret kind (Err JoinRefusal.Exhausted) old new =
+    ((slot : ℕ) × IsFree old.keys.entries slot)
+    × ((old.next_pass ≡ 2 ^ 64) ⊎ ((kind ≡ Kind.Long) × (old.next_serial ≡ 2 ^ 64)))
+    × (new ≡ old)
 
--- the slot of a pass is free again and out of the queue, and no other changes
+-- the slot of a pass is free again, out of the queue and owed nothing, and no other changes; a link
+-- that its client gave back stays quarantined, and nobody gets it back
 pub record Leaves (pass : PassRecord) (old new : NodeView) : Type 0 where
-  pub slot : Frees old.keys pass.key.slot new.keys
-  pub next : IsNext new.keys.secrets new.keys.next
+  pub slot : Frees old.keys (slot_of pass.key) new.keys
+  pub next : IsNext new.keys.entries new.keys.next
   pub after : new ≡ record old {
     keys = new.keys;
-    clients = slice_set old.clients pass.key.slot None;
-    links = unqueued old.links pass.key.slot;
+    clients = slice_set old.clients (slot_of pass.key) None;
+    links = departed old.links (slot_of pass.key);
   }
 
 -- the pass is its slot's, whose client has a link or a permit, or has none
 abbrev pub IsLeaving : NodeView → PassRecord → Bool → Type 0
 IsLeaving v pass holding = (client : Client)
-    × IsPass v pass client × (pool.is_holding (slice_get v.links.claims pass.key.slot) ≡ holding)
+    × IsPass v pass client × (pool.is_holding (slice_get v.links.claims (slot_of pass.key)) ≡ holding)
 
 -- leaving
 abbrev pub LeaveStep : PassRecord → LeaveReply PassRecord → NodeView → NodeView → Type 0
@@ -105,7 +127,7 @@ Asked = AcquireReply LinkRecord PermitRecord
 pub record Asks (pass : PassRecord) (reply : Asked) (old new : NodeView) : Type 0 where
   pub client : Client
   pub is : IsPass old pass client
-  pub step : LinksStep (pool.AcquireStep pass.key.slot client.database reply) old new
+  pub step : LinksStep (pool.AcquireStep (slot_of pass.key) client.database reply) old new
 
 -- asking for a link
 abbrev pub AcquireStep : PassRecord → Asked → NodeView → NodeView → Type 0
@@ -119,7 +141,7 @@ Serves slot reply old new = LinksStep (pool.ServeStep slot reply) old new
 -- the order that a route gives, for the client of this slot where it is sent to a link
 abbrev pub Orders : ℕ → Route → Order TicketRecord → NodeView → NodeView → Type 0
 Orders slot (Route.Forward peer key) (Order.Forward to packet) old new =
-    (to ≡ peer) × (packet ≡ cancel_request (key_bytes key)) × (new ≡ old)
+    (to ≡ peer) × (packet ≡ cancel_packet key) × (new ≡ old)
 Orders slot (Route.Refused reason) (Order.Refused refusal) old new =
     (refusal ≡ CancelRefusal.Route reason) × (new ≡ old)
 -- one more ticket of that very link is open
@@ -131,40 +153,44 @@ Orders slot (Route.Send link) (Order.Refused CancelRefusal.Busy) old new =
 -- no number is left for the ticket
 Orders slot (Route.Send link) (Order.Refused CancelRefusal.Exhausted) old new =
     Serves slot ServeReply.Exhausted old new
+-- the client of that slot waits no longer, and is owed `Cancelled`
+Orders slot (Route.Unwait waiting) (Order.Unwait told) old new =
+    (told ≡ waiting) × LinksStep (pool.UnwaitStep waiting) old new
 Orders slot way given old new = ⊥
 
 -- where a request with this key goes
-abbrev pub route_of : NodeView → ClientKey → Route
+abbrev pub route_of : NodeView → AnyKey → Route
 route_of v key = route v.me v.peers v.keys (standing_in v) key
 
--- a cancel request, by the one key that these bytes are
-pub record Cancels (bytes : List ℕ) (given : Order TicketRecord) (old new : NodeView) : Type 0 where
-  pub key : ClientKey
-  pub spelled : IsKey key × (key_bytes key ≡ bytes)
-  pub order_is : Orders key.slot (route_of old key) given old new
+-- a cancel request with this key
+abbrev pub CancelStep : AnyKey → Order TicketRecord → NodeView → NodeView → Type 0
+CancelStep key given old new = Orders (slot_of key) (route_of old key) given old new
 
--- a new incarnation: no slot is live, and there is no link
-pub record Restarts (old new : NodeView) : Type 0 where
+-- a new incarnation, with this boot: no slot is live, there is no link, and serials begin with 0
+pub record Restarts (boot : ℕ) (old new : NodeView) : Type 0 where
   pub links : pool.RestartStep RestartReply.Restarted old.links new.links
   pub peer : new.keys.peer ≡ old.keys.peer
-  pub free : new.keys.secrets ≡ replicate (length old.keys.secrets) None
-  pub next : IsNext new.keys.secrets new.keys.next
+  pub free : new.keys.entries ≡ replicate (length old.keys.entries) None
+  pub next : IsNext new.keys.entries new.keys.next
   pub after : new ≡ record old {
     keys = new.keys;
     clients = replicate (length old.clients) None;
+    boot = boot;
+    next_serial = 0;
     links = new.links;
   }
 
 -- a new start
-abbrev pub RestartStep : RestartReply → NodeView → NodeView → Type 0
-RestartStep RestartReply.Restarted old new = Restarts old new
+abbrev pub RestartStep : ℕ → RestartReply → NodeView → NodeView → Type 0
+RestartStep boot RestartReply.Restarted old new = Restarts boot old new
 -- no number is left for the incarnation
-RestartStep RestartReply.Exhausted old new =
+RestartStep boot RestartReply.Exhausted old new =
     pool.RestartStep RestartReply.Exhausted old.links new.links × (new ≡ old)
 
 -- from old, the node may give this call its reply and go on to new
 abbrev pub NodeStep : NodeView → Exchange → NodeView → Type 0
-NodeStep old (Exchange.Join database secret reply) new = JoinStep database secret reply old new
+NodeStep old (Exchange.Join database secret kind reply) new =
+    JoinStep database secret kind reply old new
 NodeStep old (Exchange.Leave pass reply) new = LeaveStep pass reply old new
 NodeStep old (Exchange.Acquire pass reply) new = AcquireStep pass reply old new
 NodeStep old (Exchange.Up permit key reply) new = LinksStep (pool.UpStep permit key reply) old new
@@ -172,10 +198,10 @@ NodeStep old (Exchange.UpFailed permit reply) new =
     LinksStep (pool.UpFailedStep permit reply) old new
 NodeStep old (Exchange.Release lease reply) new = LinksStep (pool.ReleaseStep lease reply) old new
 NodeStep old (Exchange.Close lease reply) new = LinksStep (pool.CloseStep lease reply) old new
-NodeStep old (Exchange.Cancel bytes reply) new = Cancels bytes reply old new
+NodeStep old (Exchange.Cancel key reply) new = CancelStep key reply old new
 NodeStep old (Exchange.Ended ticket reply) new = LinksStep (pool.EndedStep ticket reply) old new
 NodeStep old (Exchange.Failed ticket reply) new = LinksStep (pool.FailedStep ticket reply) old new
-NodeStep old (Exchange.Restart reply) new = RestartStep reply old new
+NodeStep old (Exchange.Restart boot reply) new = RestartStep boot reply old new
 
 -- a node with its streams takes the step of this call
 abbrev pub IsStep : {S : Type 0} → Exchange → NodeValue S → NodeValue S → Type 0

@@ -12,6 +12,8 @@ node_of v = record {
     keys = v.keys;
     clients = v.clients.items;
     next_pass = v.next_pass;
+    boot = v.boot;
+    next_serial = v.next_serial;
     links = v.links.view;
   };
   stored = v.links.stored;

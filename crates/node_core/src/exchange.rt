@@ -5,7 +5,8 @@ use link_pool::{
     AcquireReply, CloseReply, EndedReply, FailedReply, ReleaseReply, RestartReply, UpFailedReply,
     UpReply,
 };
-use pg_ids::{DatabaseNo, PeerNo, Secret, ServerKey};
+use pg_ids::{AnyKey, Boot, DatabaseNo, Kind, PeerNo, Secret, ServerKey, SlotNo};
+use startup::Packet;
 
 /// What leaving returns. `P` is the pass that is handed back: a `Pass`, or what it says.
 #[derive(Clone, Copy, Debug, PartialEq, Eq)]
@@ -26,8 +27,11 @@ pub enum Order<T> {
     /// Carry a CancelRequest with this key to the server of this database, and report its end by
     /// the ticket.
     Serve(T, DatabaseNo, ServerKey),
-    /// Carry this CancelRequest to this peer.
-    Forward(PeerNo, [u8; 16]),
+    /// Carry this CancelRequest to this peer. It is of the kind that came.
+    Forward(PeerNo, Packet),
+    /// Nothing: the client of this slot waited for a link. It waits no longer, and its next request
+    /// for one returns `Cancelled`.
+    Unwait(SlotNo),
     /// Nothing.
     Refused(CancelRefusal),
 }
@@ -36,8 +40,8 @@ pub enum Order<T> {
 /// that says.
 #[derive(Clone, Copy, Debug, PartialEq, Eq)]
 pub enum Exchange {
-    /// A client of this database asked for a slot with this secret.
-    Join(DatabaseNo, Secret, Result<PassRecord, JoinRefusal>),
+    /// A client of this database asked for a slot with this secret and a key of this kind.
+    Join(DatabaseNo, Secret, Kind, Result<PassRecord, JoinRefusal>),
     /// The client of this pass left.
     Leave(PassRecord, LeaveReply<PassRecord>),
     /// The client of this pass asked for a link of its database.
@@ -50,12 +54,12 @@ pub enum Exchange {
     Release(LinkRecord, ReleaseReply<()>),
     /// A client closed this link.
     Close(LinkRecord, CloseReply<()>),
-    /// A cancel request came with these eight key bytes.
-    Cancel([u8; 8], Order<TicketRecord>),
+    /// A cancel request came with this key.
+    Cancel(AnyKey, Order<TicketRecord>),
     /// The cancel request of this ticket ended cleanly.
     Ended(TicketRecord, EndedReply),
     /// The cancel request of this ticket didn't end cleanly.
     Failed(TicketRecord, FailedReply<()>),
-    /// The node was started anew.
-    Restart(RestartReply),
+    /// The node was started anew, with this boot.
+    Restart(Boot, RestartReply),
 }

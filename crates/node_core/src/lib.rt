@@ -7,6 +7,7 @@ mod client;
 mod exchange;
 mod node;
 mod refusal;
+mod view;
 
 pub use client::Client;
 pub use exchange::{Exchange, LeaveReply, Order};
@@ -20,3 +21,4 @@ pub use link_pool::{
 pub use node::NodeCore;
 pub use pg_ids::DatabaseNo;
 pub use refusal::{CancelRefusal, JoinRefusal, StepRefusal};
+pub use view::View;

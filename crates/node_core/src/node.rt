@@ -1,5 +1,6 @@
 //! A node: what can be read of its state, and its steps by subject.
-ghost use Rattle.std.specs.Prelude.{◌≡◌, IfOk, length, slice_get};
+ghost use Rattle.std.specs.Prelude.{◌≡◌, ◌<◌, IfOk, length, slice_get};
+ghost use Rattle.link_pool.specs.Turns.{IsTurn};
 ghost use Rattle.link_pool.specs.Streams.{NothingStored, AreStored, RestartStreams};
 ghost use Rattle.node_core.specs.View.{IsView, IsFresh, client_at, links_of};
 ghost use Rattle.node_core.specs.declared.exchange.Exchange.TheVariants as call;
@@ -13,7 +14,7 @@ use crate::client::Client;
 use ini_config::Settings;
 use key_table::KeyTable;
 use link_pool::{NextNumber, Pool, RestartReply};
-use pg_ids::{PeerNo, SlotNo};
+use pg_ids::{Boot, DatabaseNo, PeerNo, SlotNo};
 use std::alloc::{AllocError, Global};
 use std::marker::Model;
 
@@ -27,6 +28,8 @@ pub struct NodeCore<S> {
     keys: KeyTable,
     clients: Vec<Option<Client>>,
     next_pass: NextNumber,
+    boot: Boot,
+    next_serial: NextNumber,
     links: Pool<S>,
 }
 
@@ -43,10 +46,11 @@ impl<S> Model for NodeCore<S> {
 
 impl<S: Drop> NodeCore<S> {
     /// A node with these settings, at which nobody is logged in: its number, its peers and their
-    /// order, the pool size of each database, and a slot for each client. It takes all the memory
-    /// that the node needs.
-    pub fn new(alloc: Global, settings: &Settings) -> Result<NodeCore<S>, AllocError>
-        ensures fresh { IfOk result (λ core. IsFresh settings.now core.view) }
+    /// order, the pool size of each database, and a slot for each client. Its long keys have this
+    /// boot, which no other start of the node may have had. It takes all the memory that the node
+    /// needs.
+    pub fn new(alloc: Global, settings: &Settings, boot: Boot) -> Result<NodeCore<S>, AllocError>
+        ensures fresh { IfOk result (λ core. IsFresh settings.now boot core.view) }
         ensures streams { IfOk result (λ core. NothingStored core.stored) }
     {
         let me = settings.peer_id();
@@ -60,6 +64,8 @@ impl<S: Drop> NodeCore<S> {
             keys: KeyTable::new(alloc, me, limit)?,
             clients: vec![in alloc; None; limit as usize]?,
             next_pass: NextNumber::new(),
+            boot,
+            next_serial: NextNumber::new(),
             links,
         })
     }
@@ -96,6 +102,13 @@ impl<S: Drop> NodeCore<S> {
         self.links.incarnation()
     }
 
+    /// The boot of its long keys.
+    pub fn boot(&self) -> Boot
+        ensures { result ≡ self.now.view.boot }
+    {
+        self.boot
+    }
+
     /// How many slots it has.
     pub fn slots(&self) -> usize
         ensures { result ≡ length self.now.view.clients }
@@ -117,6 +130,27 @@ impl<S: Drop> NodeCore<S> {
         self.clients.get(slot.get() as usize).copied().flatten()
     }
 
+    // The client of each live slot, by slot.
+    pub(crate) fn clients(&self, alloc: Global) -> Result<Vec<Option<Client>>, AllocError>
+        ensures { IfOk result (λ clients. clients.items ≡ self.now.view.clients) }
+    {
+        let mut clients = Vec::with_capacity(alloc, self.clients.len())?;
+        clients.extend_from_slice(&self.clients)?;
+        Ok(clients)
+    }
+
+    /// The slot whose turn it is at a database: the first that waits for it, if a link is idle or a
+    /// place is free; and none where there is no such database.
+    pub fn turn(&self, database: DatabaseNo) -> Option<SlotNo>
+        ensures { database < length self.now.view.pools
+            → IsTurn database result self.now.view.links }
+    {
+        if database.get() as usize >= self.pools.len() {
+            return None;
+        }
+        self.links.turn(database)
+    }
+
     /// The links, and what each client has of them.
     pub fn links(&self) -> &Pool<S>
         ensures { result.now ≡ links_of self.now }
@@ -124,16 +158,19 @@ impl<S: Drop> NodeCore<S> {
         &self.links
     }
 
-    /// A new start: the next incarnation, in which nobody is logged in and no link is open. The
-    /// streams of idle and quarantined links are dropped; numbers go on.
-    pub fn restart(&mut self) -> RestartReply
-        ensures step { IsStep (call.Restart result) self.old self.new }
+    /// A new start: the next incarnation, in which nobody is logged in and no link is open. Its long
+    /// keys have this boot, which no other start of the node may have had, and serials from 0. The
+    /// streams of idle and quarantined links are dropped; other numbers go on.
+    pub fn restart(&mut self, boot: Boot) -> RestartReply
+        ensures step { IsStep (call.Restart boot result) self.old self.new }
         ensures streams { RestartStreams result self.old.stored self.new.stored }
     {
         match self.links.restart() {
             RestartReply::Restarted => {
                 self.keys.clear();
                 self.clients.fill(None);
+                self.boot = boot;
+                self.next_serial = NextNumber::new();
                 RestartReply::Restarted
             }
             RestartReply::Exhausted => RestartReply::Exhausted,

@@ -10,9 +10,11 @@ mod cancels;
 mod desk;
 mod links;
 mod logins;
+mod quarantined;
 mod restarts;
 mod rounds;
 mod settings;
+mod waits;
 
 // The key bytes of the clients that node 2 gave slot 0 and secret 1, and slot 1 and secret 5.
 const FIRST: [u8; 8] = [0, 8, 0, 0, 0, 0, 0, 7];
@@ -32,34 +34,32 @@ const ONE_LINK: &[(Act, Said)] = &[
     (Act::Up(0, 70, KEY), Said::Link(0)),
 ];
 
+// What was made by no step.
+const NOTHING: Made = Made {
+    boots: 0,
+    serials: 0,
+    permits: 0,
+    links: 0,
+    tickets: 0,
+};
+
 // Each act, from the first on, returns what stands beside it.
 fn run(rt: &impl Abort, desk: &mut Desk, rows: &[(Act, Said)]) -> Result<(), Fail> {
-    run_later(
-        rt,
-        desk,
-        rows,
-        0,
-        Made {
-            permits: 0,
-            links: 0,
-            tickets: 0,
-        },
-    )
+    run_later(rt, desk, rows, &NOTHING)
 }
 
-// The same after that many rounds, in each of which so many values were made.
+// The same after these were made.
 fn run_later(
     rt: &impl Abort,
     desk: &mut Desk,
     rows: &[(Act, Said)],
-    rounds: u64,
-    made: Made,
+    made: &Made,
 ) -> Result<(), Fail> {
     for &(act, said) in rows {
         assert_eq!(rt;
-            desk.act(act)?,
-            said.later(rounds, made),
-            "{act:?}, round {rounds}"
+            desk.act(act.later(made))?,
+            said.later(made),
+            "{act:?} after {made:?}"
         );
     }
     Ok(())

@@ -1,22 +1,24 @@
 //! A packet is written, and the end of the input awaited.
 ghost use Rattle.std.specs.Prelude.{◌≡◌, ℕ, List, Result, length, true, false, []};
 ghost use Rattle.std.specs.declared.io.Error.{Error};
+ghost use Rattle.startup.specs.CancelPacket.{packet_bytes};
 ghost use Rattle.peer_forward.specs.declared.outcome.Outcome.{Outcome};
 ghost use Rattle.peer_forward.specs.Calls.{Call, Makes};
 ghost use Rattle.peer_forward.specs.Carrying.{outcome_of, Carries, Carried, WritesAll};
 
 use crate::{Outcome, ReadCalls, WriteCalls};
+use startup::Packet;
 
-/// Writes the packet, and waits until the input ends. `T` is any reader and writer of std, or a
-/// stream that lists its calls. A call of the stream that is interrupted has failed, and none is
-/// tried again. It takes no memory and doesn't flush: the stream is to be unbuffered, as a socket
-/// is. (PostgreSQL manual, "Canceling Requests in Progress": the server closes the connection
-/// without a reply.)
-pub fn carry<T: WriteCalls + ReadCalls>(stream: &mut T, packet: [u8; 16]) -> Outcome
+/// Writes the packet, of 16 or 32 bytes, and waits until the input ends. `T` is any reader and
+/// writer of std, or a stream that lists its calls. A call of the stream that is interrupted has
+/// failed, and none is tried again. It takes no memory and doesn't flush: the stream is to be
+/// unbuffered, as a socket is. (PostgreSQL manual, "Canceling Requests in Progress": the server
+/// closes the connection without a reply.)
+pub fn carry<T: WriteCalls + ReadCalls>(stream: &mut T, packet: Packet) -> Outcome
     // Which calls are made, and the outcome, follow from the results of the calls.
-    ensures { Carried T.wrote T.gave stream.old packet result stream.new }
+    ensures { Carried T.wrote T.gave stream.old (packet_bytes packet) result stream.new }
 {
-    carry_bytes(stream, &packet)
+    carry_bytes(stream, packet.as_slice())
 }
 
 // The same for any bytes.

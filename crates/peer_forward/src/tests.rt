@@ -1,18 +1,29 @@
 //! Packets carried over streams that take so many bytes and then stop, and requests finished over
 //! them.
 use crate::{Outcome, ReadCalls, Verdict, WriteCalls, carry, finish};
+use startup::Packet;
 use std::alloc::{AllocError, Global};
 use std::io;
 use std::io::{ErrorKind, Read, Write};
 use std::process::Abort;
 use std::test::Fail;
 
-// The CancelRequest of peer 2, slot 0, secret 1, with two hops.
-const PACKET: [u8; 16] = [0, 0, 0, 16, 4, 0xd2, 0x16, 0x2e, 0, 8, 0, 0, 0, 0, 0, 6];
-
-// The CancelRequest of peer 16383, slot 65535, secret 4294967295, with three hops.
-const GREATEST: [u8; 16] = [
-    0, 0, 0, 16, 4, 0xd2, 0x16, 0x2e, 255, 255, 255, 255, 255, 255, 255, 255,
+// CancelRequests: of peer 2, slot 0, secret 1, with two hops, and of peer 16383, slot 65535, secret
+// 4294967295, with three; and the same of long keys, with boot 1 and serial 515, and with the
+// greatest of both.
+const PACKETS: [Packet; 4] = [
+    Packet::Short([0, 0, 0, 16, 4, 0xd2, 0x16, 0x2e, 0, 8, 0, 0, 0, 0, 0, 6]),
+    Packet::Short([
+        0, 0, 0, 16, 4, 0xd2, 0x16, 0x2e, 255, 255, 255, 255, 255, 255, 255, 255,
+    ]),
+    Packet::Long([
+        0, 0, 0, 32, 4, 0xd2, 0x16, 0x2e, 0, 8, 0, 0, 0, 0, 0, 6, 0, 0, 0, 0, 0, 0, 0, 1, 0, 0, 0,
+        0, 0, 0, 2, 3,
+    ]),
+    Packet::Long([
+        0, 0, 0, 32, 4, 0xd2, 0x16, 0x2e, 255, 255, 255, 255, 255, 255, 255, 255, 255, 255, 255,
+        255, 255, 255, 255, 255, 255, 255, 255, 255, 255, 255, 255, 255,
+    ]),
 ];
 
 // What a write returns that finds no room.
@@ -51,7 +62,7 @@ impl Wire {
         reply: Reply,
     ) -> Result<Wire, AllocError> {
         Ok(Wire {
-            held: Vec::with_capacity(alloc, PACKET.len())?,
+            held: Vec::with_capacity(alloc, 32)?,
             at_once,
             room,
             full,
@@ -99,80 +110,226 @@ impl Read for Wire {
     }
 }
 
-// The packet is carried with this outcome, by so many writes and reads, and so many bytes of it are
-// written.
-fn assert_carried(
-    rt: &impl Abort,
-    wire: &mut Wire,
-    packet: [u8; 16],
+// What comes of carrying a packet: the outcome, and how many bytes, writes and reads there were.
+#[derive(Clone, Copy)]
+struct Carried {
     outcome: Outcome,
     written: usize,
     writes: u32,
     reads: u32,
-) {
-    assert_eq!(rt; carry(wire, packet), outcome);
-    assert_eq!(rt; packet.get(..written), Some(wire.held.as_slice()));
-    assert_eq!(rt; wire.writes, writes);
-    assert_eq!(rt; wire.reads, reads);
 }
 
-// The packet taken by calls of 16, 3 and 1 bytes, then the end, a byte or a failing read; and a
-// write that fails or takes nothing after 7 or 5 bytes.
+impl Carried {
+    const fn new(outcome: Outcome, written: usize, writes: u32, reads: u32) -> Carried {
+        Carried {
+            outcome,
+            written,
+            writes,
+            reads,
+        }
+    }
+}
+
+// The packet is carried with this outcome, by so many writes and reads, and so many bytes of it are
+// written.
+fn assert_carried(rt: &impl Abort, wire: &mut Wire, packet: &Packet, expected: &Carried) {
+    assert_eq!(rt; carry(wire, *packet), expected.outcome);
+    assert_eq!(rt;
+        packet.as_slice().get(..expected.written),
+        Some(wire.held.as_slice())
+    );
+    assert_eq!(rt; wire.writes, expected.writes);
+    assert_eq!(rt; wire.reads, expected.reads);
+}
+
+// Streams, the length of the packets that are carried over them, and what comes of it. The packet
+// is taken by calls of all its bytes, of a few and of one, and then the input ends, a byte comes or
+// the read fails; or a write fails or takes nothing before the whole packet is taken.
+const STREAMS: [(usize, usize, usize, Full, Reply, Outcome, usize, u32, u32); 16] = [
+    (
+        16,
+        16,
+        16,
+        Full::Fails,
+        Reply::End,
+        Outcome::Ended,
+        16,
+        1,
+        1,
+    ),
+    (16, 3, 16, Full::Fails, Reply::End, Outcome::Ended, 16, 6, 1),
+    (
+        16,
+        1,
+        16,
+        Full::Fails,
+        Reply::End,
+        Outcome::Ended,
+        16,
+        16,
+        1,
+    ),
+    (16, 16, 7, Full::Fails, Reply::End, Outcome::Failed, 7, 2, 0),
+    (
+        16,
+        16,
+        5,
+        Full::TakesNothing,
+        Reply::End,
+        Outcome::Failed,
+        5,
+        2,
+        0,
+    ),
+    (
+        16,
+        16,
+        16,
+        Full::Fails,
+        Reply::Byte(0x4e),
+        Outcome::Failed,
+        16,
+        1,
+        1,
+    ),
+    (
+        16,
+        16,
+        16,
+        Full::Fails,
+        Reply::Byte(0),
+        Outcome::Failed,
+        16,
+        1,
+        1,
+    ),
+    (
+        16,
+        16,
+        16,
+        Full::Fails,
+        Reply::Fails,
+        Outcome::Failed,
+        16,
+        1,
+        1,
+    ),
+    (
+        32,
+        32,
+        32,
+        Full::Fails,
+        Reply::End,
+        Outcome::Ended,
+        32,
+        1,
+        1,
+    ),
+    (32, 5, 32, Full::Fails, Reply::End, Outcome::Ended, 32, 7, 1),
+    (
+        32,
+        1,
+        32,
+        Full::Fails,
+        Reply::End,
+        Outcome::Ended,
+        32,
+        32,
+        1,
+    ),
+    (
+        32,
+        32,
+        23,
+        Full::Fails,
+        Reply::End,
+        Outcome::Failed,
+        23,
+        2,
+        0,
+    ),
+    (
+        32,
+        32,
+        16,
+        Full::TakesNothing,
+        Reply::End,
+        Outcome::Failed,
+        16,
+        2,
+        0,
+    ),
+    (
+        32,
+        32,
+        32,
+        Full::Fails,
+        Reply::Byte(0x4e),
+        Outcome::Failed,
+        32,
+        1,
+        1,
+    ),
+    (
+        32,
+        32,
+        32,
+        Full::Fails,
+        Reply::Byte(0),
+        Outcome::Failed,
+        32,
+        1,
+        1,
+    ),
+    (
+        32,
+        32,
+        32,
+        Full::Fails,
+        Reply::Fails,
+        Outcome::Failed,
+        32,
+        1,
+        1,
+    ),
+];
+
 #[test]
 fn outcomes(rt: HostRuntime) -> Result<(), Fail> {
-    for (at_once, room, full, reply, outcome, written, writes, reads) in [
-        (16, 16, Full::Fails, Reply::End, Outcome::Ended, 16, 1, 1),
-        (3, 16, Full::Fails, Reply::End, Outcome::Ended, 16, 6, 1),
-        (1, 16, Full::Fails, Reply::End, Outcome::Ended, 16, 16, 1),
-        (16, 7, Full::Fails, Reply::End, Outcome::Failed, 7, 2, 0),
-        (
-            16,
-            5,
-            Full::TakesNothing,
-            Reply::End,
-            Outcome::Failed,
-            5,
-            2,
-            0,
-        ),
-        (
-            16,
-            16,
-            Full::Fails,
-            Reply::Byte(0x4e),
-            Outcome::Failed,
-            16,
-            1,
-            1,
-        ),
-        (
-            16,
-            16,
-            Full::Fails,
-            Reply::Byte(0),
-            Outcome::Failed,
-            16,
-            1,
-            1,
-        ),
-        (16, 16, Full::Fails, Reply::Fails, Outcome::Failed, 16, 1, 1),
-    ] {
-        for packet in [PACKET, GREATEST] {
-            let mut wire = Wire::new(rt.alloc(), at_once, room, full, reply)?;
-            assert_carried(&rt, &mut wire, packet, outcome, written, writes, reads);
+    for (length, at_once, room, full, reply, outcome, written, writes, reads) in STREAMS {
+        let expected = Carried::new(outcome, written, writes, reads);
+        for packet in &PACKETS {
+            if packet.as_slice().len() == length {
+                let mut wire = Wire::new(rt.alloc(), at_once, room, full, reply)?;
+                assert_carried(&rt, &mut wire, packet, &expected);
+            }
         }
     }
     Ok(())
 }
 
-// A stream that fails after so many bytes was written these and no others, and isn't read.
+// A stream that fails after so many bytes, taken one by one, was written these and no others, and
+// isn't read.
+fn assert_stops_at(
+    rt: &(impl Abort + AllocGlobal),
+    packet: &Packet,
+    room: u32,
+    full: Full,
+) -> Result<(), AllocError> {
+    let mut wire = Wire::new(rt.alloc(), 1, room as usize, full, Reply::End)?;
+    let expected = Carried::new(Outcome::Failed, room as usize, room.saturating_add(1), 0);
+    assert_carried(rt, &mut wire, packet, &expected);
+    Ok(())
+}
+
 #[test]
 fn each_place(rt: HostRuntime) -> Result<(), Fail> {
-    for room in 0..16usize {
-        for full in [Full::Fails, Full::TakesNothing] {
-            let mut wire = Wire::new(rt.alloc(), 1, room, full, Reply::End)?;
-            let writes = room as u32 + 1;
-            assert_carried(&rt, &mut wire, PACKET, Outcome::Failed, room, writes, 0);
+    for packet in &PACKETS {
+        for room in 0..32u32 {
+            if (room as usize) < packet.as_slice().len() {
+                assert_stops_at(&rt, packet, room, Full::Fails)?;
+                assert_stops_at(&rt, packet, room, Full::TakesNothing)?;
+            }
         }
     }
     Ok(())
@@ -194,6 +351,13 @@ struct Interrupted {
 }
 
 impl Interrupted {
+    fn new(alloc: Global, at: usize) -> Interrupted {
+        Interrupted {
+            at,
+            calls: Vec::new(alloc),
+        }
+    }
+
     // Lists a call, which fails where it is the interrupted one.
     fn call(&mut self, kind: Kind) -> io::Result<()> {
         let at = self.calls.len();
@@ -227,24 +391,29 @@ impl ReadCalls for Interrupted {
     }
 }
 
-// An interrupted call has failed, and is the last.
-#[test]
-fn interrupted_calls(rt: HostRuntime) -> Result<(), Fail> {
-    let all = [Kind::Write, Kind::Write, Kind::Read];
-    for at in 0..=all.len() {
-        let mut stream = Interrupted {
-            at,
-            calls: Vec::new(rt.alloc()),
-        };
-        let (outcome, made) = if at == all.len() {
-            (Outcome::Ended, all.len())
-        } else {
-            (Outcome::Failed, at + 1)
-        };
-        assert_eq!(rt; carry(&mut stream, PACKET), outcome);
-        assert_eq!(rt; all.get(..made), Some(stream.calls.as_slice()));
+// An interrupted call has failed, and is the last of those that carry the packet.
+fn assert_stops(rt: &(impl Abort + AllocGlobal), packet: &Packet, calls: &[Kind]) {
+    for at in 0..calls.len() {
+        let mut stream = Interrupted::new(rt.alloc(), at);
+        assert_eq!(rt; carry(&mut stream, *packet), Outcome::Failed);
+        assert_eq!(rt; calls.get(..at + 1), Some(stream.calls.as_slice()));
     }
-    Ok(())
+    let mut stream = Interrupted::new(rt.alloc(), calls.len());
+    assert_eq!(rt; carry(&mut stream, *packet), Outcome::Ended);
+    assert_eq!(rt; stream.calls.as_slice(), calls);
+}
+
+#[test]
+fn interrupted_calls(rt: HostRuntime) {
+    let calls = [
+        Kind::Write,
+        Kind::Write,
+        Kind::Write,
+        Kind::Write,
+        Kind::Read,
+    ];
+    assert_stops(&rt, &PACKETS[0], &calls[2..]);
+    assert_stops(&rt, &PACKETS[2], &calls);
 }
 
 // The byte is written, or one write is tried for it, exactly where the request isn't settled.

@@ -42,7 +42,8 @@ impl ClientKey {
         }
     }
 
-    /// The eight bytes, as BackendKeyData and CancelRequest have them: the key's number, big-endian.
+    /// The eight bytes, as BackendKeyData and CancelRequest have them: the key's number,
+    /// big-endian.
     pub fn to_bytes(self) -> [u8; 8]
         ensures { result ≡ key_bytes self }
     {
@@ -86,7 +87,8 @@ impl ClientKey {
         Some(ClientKey { hops, ..self })
     }
 
-    fn number(self) -> u64
+    /// The key as a number.
+    pub(crate) fn number(self) -> u64
         ensures number { result ≡ number_of self }
         ensures key { IsKey self }
     {

@@ -2,6 +2,8 @@
 use Rattle.std.proofs.Common.{ℕ, ◌≡◌, ◌+◌, ◌<◌, List, [], ◌∷◌, ◌++◌, Some, Ok, Err, refl, sym, ap, ◌∙◌, append_assoc, append-nil, length-append, arith, subst}
 use Rattle.std.specs.Prelude.{AllPairs, Result, MatchResult, IsErrAnd}
 use Rattle.std.proofs.lemmas.List.Quantifiers.{all_pairs_push}
+use Rattle.pg_ids.specs.declared.any_key.AnyKey.{AnyKey}
+use Rattle.pg_ids.specs.declared.any_key.Kind.TheVariants as kind
 use Rattle.lease.specs.declared.pass.PassRecord.{PassRecord}
 use Rattle.lease.specs.declared.ticket.TicketRecord.{TicketRecord}
 use Rattle.node_core.specs.View.{NodeView}
@@ -101,14 +103,14 @@ stops_then old middle new some given makes stops = record {
 
 -- a client joins, and then opens its link, if it has one
 pub coming_by : (client : LiveClient) (pass : PassRecord) (old middle new : CallerView)
-    (after : List Exchange) → CallerStep old (Join 0 client.secret (Ok pass)) middle
+    (after : List Exchange) → CallerStep old (Join 0 client.secret kind.Short (Ok pass)) middle
     → AreOpening pass client.server_key after → Makes middle after new
     → (calls : List Exchange) × IsComing client calls × Makes old calls new
 coming_by client pass old middle new after joining opening opened = (
-  Join 0 client.secret (Ok pass) ∷ after,
+  Join 0 client.secret kind.Short (Ok pass) ∷ after,
   record { pass = pass; after = after; are = refl; opening = opening },
-  makes_then old middle new (Join 0 client.secret (Ok pass) ∷ []) after
-      (makes_one old (Join 0 client.secret (Ok pass)) middle joining) opened,
+  makes_then old middle new (Join 0 client.secret kind.Short (Ok pass) ∷ []) after
+      (makes_one old (Join 0 client.secret kind.Short (Ok pass)) middle joining) opened,
 )
 
 -- the calls of some clients, and then those of one more
@@ -166,7 +168,7 @@ goes_then old middle new one other =
 
 -- ---- an order
 
-pub orders_by : (clients : List LiveClient) (key : List ℕ) (order : Order TicketRecord)
+pub orders_by : (clients : List LiveClient) (key : AnyKey) (order : Order TicketRecord)
     (old joined asked new : CallerView) → Comes old clients joined
     → CallerStep joined (Cancel key order) asked → Goes asked new → Orders old clients key order new
 orders_by clients key order old joined asked new comes step goes = record {
@@ -203,7 +205,7 @@ module _ (journal : JournalView) (first last : CallerView) (end : JournalView)
       subst (λ start. Replay start.view calls end.view) (makes.start ∙ started)
       (subst (λ all_made. Replay last.start.view all_made end.view) are is_whole.replay)
 
-  pub may_order : (clients : List LiveClient) (key : List ℕ) (order : Order TicketRecord)
+  pub may_order : (clients : List LiveClient) (key : AnyKey) (order : Order TicketRecord)
       → Orders first clients key order last → MayOrder journal.view clients key order
   may_order clients key order orders =
       let replay = replayed (orders.calls ++ Cancel key order ∷ orders.more) orders.makes in

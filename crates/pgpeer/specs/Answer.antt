@@ -1,10 +1,10 @@
 -- What the program answers to its arguments (own).
 use Rattle.std.specs.Prelude.{ℕ, ◌≡◌, ◌⊎◌, ◌<◌, true, List, ◌++◌, Option, Some, None, length, max, ⊤}
 use Rattle.std.specs.Io.KnownBytes.{Appends, Keeps}
-use Rattle.pg_ids.specs.Key.{IsKey, key_bytes}
-use Rattle.pg_ids.specs.declared.client_key.ClientKey.{ClientKey}
+use Rattle.pg_ids.specs.AnyKey.{IsAnyKey, any_key_bytes}
+use Rattle.pg_ids.specs.declared.any_key.AnyKey.{AnyKey}
 use Rattle.startup.specs.Kinds.{none_seen}
-use Rattle.startup.specs.Packet.{cancel_request}
+use Rattle.startup.specs.CancelPacket.{cancel_packet, packet_bytes}
 use Rattle.startup.specs.Numbers.{number_of_refusal}
 use Rattle.startup.specs.FirstPacket.{Outcome, Startup, Cancel, Ssl, Gss, More, Refused, IsOutcome}
 use Rattle.startup.specs.declared.startup_error.StartupError.{StartupError}
@@ -23,11 +23,11 @@ use Rattle.pgpeer.specs.Statuses.{status_of}
 
 -- ---- key
 
--- the line names the parts of the key that has these eight bytes
+-- the line names the parts of the key that has these bytes, 8 or 24
 pub record IsKeyLine (bytes line : List ℕ) : Type 0 where
-  pub key : ClientKey
-  pub is_key : IsKey key
-  pub bytes_are : key_bytes key ≡ bytes
+  pub key : AnyKey
+  pub is_key : IsAnyKey key
+  pub bytes_are : any_key_bytes key ≡ bytes
   pub text : line ≡ key_text key
 
 -- ---- decide
@@ -37,19 +37,19 @@ abbrev pub settings_in : Decision → NodeSettings
 settings_in given = plain_settings given.me given.peers (max (length given.clients) 1)
     (max (length given.clients) 1)
 
--- the line names an order that the node may give for the request in the packet, which is a
--- CancelRequest and nothing else
+-- the line names an order that the node may give for the request in the packet, which is the
+-- CancelRequest of a key of either kind and nothing else
 pub record IsOrderLine (given : Decision) (line : List ℕ) : Type 0 where
-  pub key : List ℕ
-  pub eight : length key ≡ 8
-  pub packet : given.packet ≡ cancel_request key
+  pub key : AnyKey
+  pub is_key : IsAnyKey key
+  pub packet : given.packet ≡ packet_bytes (cancel_packet key)
   pub order : Order TicketRecord
   pub decided : IsDecided (settings_in given) given.clients key order
   pub text : line ≡ order_text order
 
 -- a first packet that asks for something else
 abbrev pub IsNoCancel : Outcome → Type 0
-IsNoCancel (Startup user database used) = ⊤
+IsNoCancel (Startup kind user database used) = ⊤
 IsNoCancel Ssl = ⊤
 IsNoCancel Gss = ⊤
 IsNoCancel (Cancel key) = ⊥
@@ -58,11 +58,11 @@ IsNoCancel (Refused error) = ⊥
 
 -- bytes stand behind a CancelRequest
 pub record HasMore (packet : List ℕ) : Type 0 where
-  pub key : List ℕ
-  pub eight : length key ≡ 8
+  pub key : AnyKey
+  pub is_key : IsAnyKey key
   pub more : List ℕ
   pub some : 0 < length more
-  pub packet_is : packet ≡ cancel_request key ++ more
+  pub packet_is : packet ≡ packet_bytes (cancel_packet key) ++ more
 
 -- the packet is refused by this number
 pub record IsRefused (packet : List ℕ) (number : ℕ) : Type 0 where

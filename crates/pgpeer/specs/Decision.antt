@@ -1,5 +1,7 @@
 -- What `pgpeer decide` asks of a node (own).
 use Rattle.std.specs.Prelude.{ℕ, ◌≡◌, ◌+◌, ◌<◌, List, [], ◌∷◌, ◌++◌, AllPairs, Option, Some, None, length, Ok, Err, ⊤}
+use Rattle.pg_ids.specs.declared.any_key.AnyKey.{AnyKey}
+use Rattle.pg_ids.specs.declared.any_key.Kind.TheVariants as kind
 use Rattle.ini_config.specs.Node.{NodeSettings}
 use Rattle.lease.specs.declared.pass.PassRecord.{PassRecord}
 use Rattle.lease.specs.declared.permit.PermitRecord.{PermitRecord}
@@ -36,12 +38,12 @@ AreOpening pass (Some key) calls =
     (permit : PermitRecord) × (lease : LinkRecord)
     × (calls ≡ Acquire pass (acquire.Open permit) ∷ Up permit key (up.Up lease) ∷ [])
 
--- the calls by which a client comes: it joins the first database with its secret and gets a slot,
--- and then it opens its link, if it has one
+-- the calls by which a client comes: it joins the first database with its secret and gets a slot
+-- and a short key, and then it opens its link, if it has one
 pub record IsComing (client : LiveClient) (calls : List Exchange) : Type 0 where
   pub pass : PassRecord
   pub after : List Exchange
-  pub are : calls ≡ Join 0 client.secret (Ok pass) ∷ after
+  pub are : calls ≡ Join 0 client.secret kind.Short (Ok pass) ∷ after
   pub opening : AreOpening pass client.server_key after
 
 -- the calls by which these clients come, one after the other
@@ -55,9 +57,10 @@ AreLive (client ∷ clients) calls =
 
 -- the reply of a call that isn't expected, where that is none of those below
 abbrev pub reply_of : Exchange → Option Reply
-reply_of (Join database secret (Err refusal)) = Some (reply.Number (join_number refusal))
+reply_of (Join database secret asked (Err refusal)) = Some (reply.Number (join_number refusal))
 reply_of (Acquire pass (acquire.Got lease)) = Some reply.Got
 reply_of (Acquire pass acquire.Waiting) = Some reply.Waiting
+reply_of (Acquire pass acquire.Cancelled) = Some reply.Cancelled
 reply_of (Acquire pass acquire.Holding) = Some (reply.Number (step_number Holding))
 reply_of (Acquire pass acquire.Exhausted) = Some (reply.Number (step_number Exhausted))
 reply_of (Acquire pass acquire.Stale) = Some (reply.Number (step_number Stale))
@@ -125,9 +128,8 @@ pub record Goes (old new : CallerView) : Type 0 where
   pub calls : List Exchange
   pub makes : Makes old calls new
 
--- These clients came, and then a request with these key bytes got this order; more calls may
--- follow.
-pub record Orders (old : CallerView) (clients : List LiveClient) (key : List ℕ)
+-- these clients came, and then a request with this key got this order; more calls may follow
+pub record Orders (old : CallerView) (clients : List LiveClient) (key : AnyKey)
     (order : Order TicketRecord) (new : CallerView) : Type 0 where
   pub calls : List Exchange
   pub live : AreLive clients calls
@@ -136,9 +138,8 @@ pub record Orders (old : CallerView) (clients : List LiveClient) (key : List ℕ
 
 -- ---- what a new node may do
 
--- from this view these clients come, and then the node gives this order for a request with these
--- key bytes
-pub record MayOrder (first : NodeView) (clients : List LiveClient) (key : List ℕ)
+-- from this view these clients come, and then the node gives this order for a request with this key
+pub record MayOrder (first : NodeView) (clients : List LiveClient) (key : AnyKey)
     (order : Order TicketRecord) : Type 0 where
   pub calls : List Exchange
   pub live : AreLive clients calls
@@ -153,17 +154,17 @@ pub record MayReply (first : NodeView) (given : Reply) : Type 0 where
   pub last : NodeView
   pub replay : Replay first (calls ++ call ∷ []) last
 
--- a new node to which these clients came may give this order for a request with these key bytes
-pub record IsDecided (settings : NodeSettings) (clients : List LiveClient) (key : List ℕ)
+-- a new node of boot 0 to which these clients came may give this order for a request with this key
+pub record IsDecided (settings : NodeSettings) (clients : List LiveClient) (key : AnyKey)
     (order : Order TicketRecord) : Type 0 where
   pub fresh : NodeView
-  pub made : IsFresh settings fresh
+  pub made : IsFresh settings 0 fresh
   pub order_is : MayOrder fresh clients key order
 
--- a new node may give this reply, which isn't expected, to a call behind others
+-- a new node of boot 0 may give this reply, which isn't expected, to a call behind others
 pub record Gives (settings : NodeSettings) (given : Reply) : Type 0 where
   pub fresh : NodeView
-  pub made : IsFresh settings fresh
+  pub made : IsFresh settings 0 fresh
   pub reply_is : MayReply fresh given
 
 -- the node may give a reply that isn't expected, or memory ran out

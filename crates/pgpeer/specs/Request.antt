@@ -4,8 +4,8 @@ use Rattle.std.specs.Map.{lookup}
 use Rattle.std.specs.Option.{option_map, option_or}
 use Rattle.std.specs.Result.{result_ok}
 use Rattle.std.specs.Str.{bytes_eq}
-use Rattle.hex.specs.Hex.{decode_of}
-use Rattle.pg_ids.specs.Key.{key_bytes}
+use Rattle.hex.specs.Hex.{decode_of, decode_sized}
+use Rattle.pg_ids.specs.AnyKey.{any_key_bytes}
 use Rattle.pgpeer.specs.Arguments.{Text, Given, given_by_all, asks_help}
 use Rattle.pgpeer.specs.Numbers.{◌>>=◌, only_one, at_most_one, number_from, peers_of}
 use Rattle.pgpeer.specs.Clients.{eight_bytes, clients_of}
@@ -25,7 +25,7 @@ pub record Decision : Type 0 where
   pub clients : List LiveClient
   pub packet : List ℕ
 
--- a key's parts, by its eight bytes; a decision; whether files make a group; help on a command or
+-- a key's parts, by its bytes; a decision; whether files make a group; help on a command or
 -- on the program; the program's version
 pub data Asked : Type 0 where
   Key : (bytes : List ℕ) → Asked
@@ -64,11 +64,16 @@ is_none (text ∷ rest) = false
 abbrev pub no_option : Given → Bool
 no_option given = is_none given.me && (is_none given.peers && is_none given.live)
 
--- `key` wants 16 hexadecimal digits and nothing else
+-- the bytes of a key: the eight of a short one in 16 hexadecimal digits, or the 24 of a long one in
+-- 48
+abbrev pub key_bytes_of : Text → Option (List ℕ)
+key_bytes_of digits = option_or (eight_bytes digits) (result_ok (decode_sized digits 24))
+
+-- `key` wants a key in hexadecimal digits and nothing else
 abbrev pub key_of : List Text → Option Asked
 key_of texts = do
   digits ← only_one texts
-  bytes ← eight_bytes digits
+  bytes ← key_bytes_of digits
   Some (Key bytes)
 
 abbrev pub key_asked : Given → Option Asked
@@ -134,7 +139,7 @@ decision_in given = record {
 }
 
 abbrev pub asked_in : RequestGiven → Asked
-asked_in (request.Key key) = Key (key_bytes key)
+asked_in (request.Key key) = Key (any_key_bytes key)
 asked_in (request.Decide given) = Decide (decision_in given)
 asked_in (request.Check files) = Check (map (λ file. file.now) files.items)
 asked_in (request.Help topic) = Help topic

@@ -1,5 +1,5 @@
 -- What the program writes (own).
-use Rattle.std.specs.Prelude.{ℕ, List, ◌++◌, codes, string_bytes}
+use Rattle.std.specs.Prelude.{ℕ, List, [], ◌++◌, Option, Some, None, codes, string_bytes}
 use Rattle.std.specs.Fmt.{decimal}
 use Rattle.hex.specs.Hex.{encode_lower}
 use Rattle.ini_config.specs.Codes.{ini_number, group_number}
@@ -7,38 +7,58 @@ use Rattle.ini_config.specs.declared.fault.IniCode.{IniCode}
 use Rattle.ini_config.specs.declared.fault.IniCode.TheVariants as ini
 use Rattle.ini_config.specs.declared.fault.GroupError.{GroupError}
 use Rattle.ini_config.specs.declared.fault.GroupError.TheVariants as group
-use Rattle.pg_ids.specs.declared.client_key.ClientKey.{ClientKey}
+use Rattle.pg_ids.specs.AnyKey.{short_of, long_part_of}
+use Rattle.pg_ids.specs.declared.{any_key.AnyKey.AnyKey, client_key.ClientKey.ClientKey}
+use Rattle.pg_ids.specs.declared.long_part.LongPart.{LongPart}
+use Rattle.startup.specs.CancelPacket.{packet_bytes}
+use Rattle.startup.specs.declared.packet.Packet.{Packet as CancelPacket}
 use Rattle.lease.specs.declared.ticket.TicketRecord.{TicketRecord}
 use Rattle.node_core.specs.Refusals.{cancel_number}
 use Rattle.node_core.specs.declared.exchange.Order.{Order}
-use Rattle.node_core.specs.declared.exchange.Order.TheVariants.{Serve, Forward, Refused}
+use Rattle.node_core.specs.declared.exchange.Order.TheVariants.{Serve, Forward, Unwait, Refused}
 use Rattle.pgpeer.specs.declared.fault.Fault.{Fault}
 use Rattle.pgpeer.specs.declared.fault.Fault.TheVariants.{Usage, InFile, OfGroup, Unread, Packet, NotACancel, Unexpected, Memory}
 use Rattle.pgpeer.specs.declared.fault.Reply.{Reply}
 use Rattle.pgpeer.specs.declared.fault.Reply.TheVariants as reply
 
+-- the parts of a short key, and of a long key's first eight bytes
+abbrev pub short_text : ClientKey → List ℕ
+short_text k = codes "peer " ++ decimal k.peer ++ codes " slot " ++ decimal k.slot
+    ++ codes " secret " ++ decimal k.secret ++ codes " hops " ++ decimal k.hops
+
+-- what a long key has besides
+abbrev pub part_text : Option LongPart → List ℕ
+part_text None = []
+part_text (Some part) = codes " boot " ++ decimal part.boot ++ codes " serial "
+    ++ decimal part.serial
+
 -- the parts of a key
-abbrev pub key_text : ClientKey → List ℕ
-key_text k = codes "peer " ++ decimal k.peer ++ codes " slot " ++ decimal k.slot ++ codes " secret "
-    ++ decimal k.secret ++ codes " hops " ++ decimal k.hops ++ codes "\n"
+abbrev pub key_text : AnyKey → List ℕ
+key_text key = short_text (short_of key) ++ part_text (long_part_of key) ++ codes "\n"
 
 -- a request that is carried to a server, with the key by which that cancels
 abbrev pub serve_text : List ℕ → List ℕ
 serve_text key = codes "serve " ++ encode_lower key ++ codes "\n"
 
 -- a request that goes on to a peer
-abbrev pub forward_text : ℕ → List ℕ → List ℕ
-forward_text peer packet = codes "forward " ++ decimal peer ++ codes " " ++ encode_lower packet
-    ++ codes "\n"
+abbrev pub forward_text : ℕ → CancelPacket → List ℕ
+forward_text peer packet = codes "forward " ++ decimal peer ++ codes " "
+    ++ encode_lower (packet_bytes packet) ++ codes "\n"
+
+-- a request whose client waits for a link no longer
+abbrev pub unwait_text : ℕ → List ℕ
+unwait_text slot = codes "unwait " ++ decimal slot ++ codes "\n"
 
 -- a request that goes nowhere
 abbrev pub refused_text : ℕ → List ℕ
 refused_text number = codes "refused " ++ decimal number ++ codes "\n"
 
--- an order
+-- an order; no client among the arguments waits for a link, so none of them is told to wait no
+-- longer
 abbrev pub order_text : Order TicketRecord → List ℕ
 order_text (Serve ticket database key) = serve_text key
 order_text (Forward peer packet) = forward_text peer packet
+order_text (Unwait slot) = unwait_text slot
 order_text (Refused refusal) = refused_text (cancel_number refusal)
 
 -- how many nodes a group has
@@ -75,6 +95,7 @@ abbrev pub reply_text : Reply → List ℕ
 reply_text (reply.Number number) = decimal number
 reply_text reply.Got = codes "got"
 reply_text reply.Waiting = codes "waiting"
+reply_text reply.Cancelled = codes "cancelled"
 reply_text reply.Closed = codes "closed"
 
 -- what a fault is written as

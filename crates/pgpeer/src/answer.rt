@@ -1,10 +1,11 @@
 //! The program's answer to its arguments.
 ghost use Rattle.std.specs.Prelude.{◌≡◌, IfErr, IfOk, Some, map, string_bytes, true};
 ghost use Rattle.std.specs.Io.KnownBytes.{Appends, Keeps};
+ghost use Rattle.pg_ids.specs.AnyKey.{IsAnyKey};
 ghost use Rattle.pgpeer.specs.Answer.{AppendsPart, IsAnswer, IsFault, IsLine, IsWritten, WritesFault};
 ghost use Rattle.pgpeer.specs.Request.{asked, asked_in};
 ghost use Rattle.pgpeer.specs.Statuses.{status_of};
-ghost use Rattle.pgpeer.specs.Texts.{fault_text, key_text};
+ghost use Rattle.pgpeer.specs.Texts.{fault_text, key_text, part_text};
 
 use crate::check::check_line;
 use crate::decide::decide_line;
@@ -12,7 +13,7 @@ use crate::fault::Fault;
 use crate::opener::Opener;
 use crate::request::Request;
 use crate::usage::{help, usage, version};
-use pg_ids::ClientKey;
+use pg_ids::{AnyKey, LongPart};
 use std::alloc::{AllocError, Global};
 use std::io::{ErrorKind, Write};
 use std::sync::Wait;
@@ -79,14 +80,30 @@ fn line_of<R: Wait, O: Opener>(
 }
 
 // The line that names a key's parts.
-fn key_line(alloc: Global, key: ClientKey) -> Result<String, AllocError>
-    ensures { IfOk result (λ line. string_bytes line ≡ key_text key) }
+fn key_line(alloc: Global, key: AnyKey) -> Result<String, AllocError>
+    ensures line { IfOk result (λ line. string_bytes line ≡ key_text key) }
+    ensures key { IsAnyKey key }
 {
-    let peer = key.peer.get();
-    let slot = key.slot.get();
-    let secret = key.secret.get();
-    let hops = key.hops.get();
-    format!(in alloc; "peer {peer} slot {slot} secret {secret} hops {hops}\n")
+    let part = part_text(alloc, key.long_part())?;
+    let short = key.short();
+    let peer = short.peer.get();
+    let slot = short.slot.get();
+    let secret = short.secret.get();
+    let hops = short.hops.get();
+    let part = part.as_str();
+    format!(in alloc; "peer {peer} slot {slot} secret {secret} hops {hops}{part}\n")
+}
+
+// What the line of a long key has besides.
+fn part_text(alloc: Global, part: Option<LongPart>) -> Result<String, AllocError>
+    ensures { IfOk result (λ text. string_bytes text ≡ part_text part) }
+{
+    let Some(part) = part else {
+        return Ok(String::new(alloc));
+    };
+    let boot = part.boot.get();
+    let serial = part.serial.get();
+    format!(in alloc; " boot {boot} serial {serial}")
 }
 
 /// Writes a fault, and returns its status, or 1 where it can't be written.

@@ -1,9 +1,12 @@
 //! `pgpeer decide`: what a pooler does with the first packet of a connection.
-ghost use Rattle.std.specs.Prelude.{◌≡◌, IfErr, IfOk, MatchResult, length, string_bytes};
-ghost use Rattle.startup.specs.Packet.{cancel_request};
+ghost use Rattle.std.specs.Prelude.{◌≡◌, ℕ, List, IfErr, IfOk, length, take, true, string_bytes};
+ghost use Rattle.pg_ids.specs.AnyKey.{IsAnyKey, any_key_bytes};
+ghost use Rattle.startup.specs.CancelPacket.{cancel_packet, packet_bytes};
+ghost use Rattle.startup.specs.FirstPacket.{Cancel, IsOutcome};
+ghost use Rattle.startup.specs.Kinds.{none_seen};
 ghost use Rattle.pgpeer.specs.Answer.{IsDecideFault, IsOrderLine, IsPacketFault};
 ghost use Rattle.pgpeer.specs.Request.{decision_in};
-ghost use Rattle.pgpeer.specs.Texts.{order_text, serve_text, forward_text, refused_text};
+ghost use Rattle.pgpeer.specs.Texts.{order_text, serve_text, forward_text, unwait_text, refused_text};
 
 use crate::decide_request::DecideRequest;
 use crate::decision::decided;
@@ -11,8 +14,8 @@ use crate::fault::Fault;
 use crate::usage::longer_packet;
 use lease::TicketRecord;
 use node_core::Order;
-use pg_ids::ServerKey;
-use startup::{First, Opening, StartupError};
+use pg_ids::{AnyKey, ServerKey};
+use startup::{First, Opening, Packet, StartupError, write_cancel};
 use std::alloc::{AllocError, Global};
 use std::sync::Wait;
 
@@ -28,33 +31,61 @@ pub fn decide_line<R: Wait>(rt: &R, alloc: Global, request: DecideRequest) -> Re
         packet,
     } = request;
     let key = cancel_key(alloc, &packet)?;
-    let order = decided(rt, alloc, me, peers, &clients, &key)?;
+    let order = decided(rt, alloc, me, peers, &clients, key)?;
     Ok(order_line(alloc, order)?)
 }
 
 // The key of a CancelRequest that is the whole packet.
-fn cancel_key(alloc: Global, packet: &[u8]) -> Result<[u8; 8], Fault>
-    ensures key { IfOk result (λ key. packet.now ≡ cancel_request key) }
+fn cancel_key(alloc: Global, packet: &[u8]) -> Result<AnyKey, Fault>
+    ensures key { IfOk result (λ key. IsAnyKey key
+        × (packet.now ≡ packet_bytes (cancel_packet key))) }
     ensures fault { IfErr result (λ fault. IsPacketFault packet.now fault) }
 {
-    match Opening::new(alloc).read(packet, true) {
-        Ok(First::Cancel { key }) => match packet.len().saturating_sub(16) {
-            0 => Ok(key),
-            more => Err(longer_packet(alloc, more)),
-        },
-        Ok(_) => Err(Fault::NotACancel),
-        Err(StartupError::Memory) => Err(Fault::Memory),
-        Err(refusal) => Err(Fault::Packet(refusal.number())),
+    let first = match Opening::new(alloc).read(packet, true) {
+        Ok(first) => first,
+        Err(StartupError::Memory) => return Err(Fault::Memory),
+        Err(refusal) => return Err(Fault::Packet(refusal.number())),
+    };
+    match &first {
+        First::Cancel { key } => whole_request(alloc, packet, key),
+        _ => Err(Fault::NotACancel),
     }
 }
 
-/// The line that names an order.
+// The key of a packet that begins with its CancelRequest, where nothing follows that.
+fn whole_request(alloc: Global, packet: &[u8], key: &AnyKey) -> Result<AnyKey, Fault>
+    requires { IsOutcome none_seen packet.now true (Cancel (any_key_bytes key.now)) }
+    ensures key { IfOk result (λ key. IsAnyKey key
+        × (packet.now ≡ packet_bytes (cancel_packet key))) }
+    ensures fault { IfErr result (λ fault. IsPacketFault packet.now fault) }
+{
+    let length = request_length(*key);
+    match packet.len().saturating_sub(length) {
+        0 => Ok(*key),
+        more => Err(longer_packet(alloc, length, more)),
+    }
+}
+
+// How many bytes the CancelRequest of a key has.
+fn request_length(key: AnyKey) -> usize
+    ensures length { result ≡ length (packet_bytes (cancel_packet key)) }
+    ensures key { IsAnyKey key }
+    // Bytes that are read as a request with this key begin with it.
+    ensures begins { (text : List ℕ) → IsOutcome none_seen text true (Cancel (any_key_bytes key))
+        → take result text ≡ packet_bytes (cancel_packet key) }
+{
+    let request = write_cancel(key);
+    request.as_slice().len()
+}
+
+// The line that names an order.
 fn order_line(alloc: Global, order: Order<TicketRecord>) -> Result<String, AllocError>
     ensures { IfOk result (λ line. string_bytes line ≡ order_text order) }
 {
     match order {
         Order::Serve(_, _, key) => serve_line(alloc, key),
         Order::Forward(peer, packet) => forward_line(alloc, peer.get(), packet),
+        Order::Unwait(slot) => unwait_line(alloc, slot.get()),
         Order::Refused(refusal) => refused_line(alloc, refusal.number()),
     }
 }
@@ -67,12 +98,18 @@ fn serve_line(alloc: Global, key: ServerKey) -> Result<String, AllocError>
     format!(in alloc; "serve {key}\n")
 }
 
-fn forward_line(alloc: Global, peer: u16, packet: [u8; 16]) -> Result<String, AllocError>
+fn forward_line(alloc: Global, peer: u16, packet: Packet) -> Result<String, AllocError>
     ensures { IfOk result (λ line. string_bytes line ≡ forward_text peer packet) }
 {
-    let packet = hex::encode(alloc, packet)?;
+    let packet = hex::encode(alloc, packet.as_slice())?;
     let packet = packet.as_str();
     format!(in alloc; "forward {peer} {packet}\n")
+}
+
+fn unwait_line(alloc: Global, slot: u16) -> Result<String, AllocError>
+    ensures { IfOk result (λ line. string_bytes line ≡ unwait_text slot) }
+{
+    format!(in alloc; "unwait {slot}\n")
 }
 
 fn refused_line(alloc: Global, number: u8) -> Result<String, AllocError>

@@ -14,9 +14,12 @@ use ini_config::Settings;
 use lease::{Ticket, TicketRecord};
 use locked_node::{Caller, Journal, Shared};
 use node_core::{NodeCore, Order};
-use pg_ids::PeerNo;
+use pg_ids::{AnyKey, Boot, PeerNo};
 use std::alloc::Global;
 use std::sync::Wait;
+
+// The run of the node, which has no other.
+const BOOT: Boot = Boot(0);
 
 /// The order that a node gives, once these clients have come: each joins with its secret, and then
 /// opens its link, if it has a server's key. There is a slot and a place for a link for each. The
@@ -27,7 +30,7 @@ pub fn decided<R: Wait>(
     me: PeerNo,
     peers: Vec<PeerNo>,
     clients: &[LiveClient],
-    key: &[u8; 8],
+    key: AnyKey,
 ) -> Result<Order<TicketRecord>, Fault>
     requires clients { length clients.now ≤ 65535 }
     requires peers { length peers.items ≤ 64 }
@@ -35,7 +38,7 @@ pub fn decided<R: Wait>(
     requires distinct { AllPairs (λ a b. a ≢ b) peers.items }
     ensures { MatchResult result
         (λ order. IsDecided (plain_settings me peers.items
-        (max (length clients.now) 1) (max (length clients.now) 1)) clients.now key.now order)
+        (max (length clients.now) 1) (max (length clients.now) 1)) clients.now key order)
         (λ fault. IsNodeFault (plain_settings me peers.items
         (max (length clients.now) 1) (max (length clients.now) 1)) fault) }
 {
@@ -58,13 +61,13 @@ fn fresh_journal(
     requires numbered { All (λ number. 0 < number) peers.items }
     requires distinct { AllPairs (λ a b. a ≢ b) peers.items }
     ensures fresh { IfOk result (λ journal. IsFresh (plain_settings me peers.items places places)
-        journal.view) }
+        0 journal.view) }
     ensures database { IfOk result (λ journal. 0 < length journal.view.pools) }
     ensures calls { IfOk result (λ journal. log_all journal.log ≡ 0) }
     ensures memory { IfErr result (λ fault. fault ≡ Fault.Memory) }
 {
     let settings = Settings::plain(alloc, me, peers, places as u16, places as u32)?;
-    Ok(Journal::new(alloc, NodeCore::new(alloc, &settings)?)?)
+    Ok(Journal::new(alloc, NodeCore::new(alloc, &settings, BOOT)?)?)
 }
 
 // The order that the node of this journal gives.
@@ -73,7 +76,7 @@ fn ordered<R: Wait>(
     alloc: Global,
     journal: Journal<NoStream>,
     clients: &[LiveClient],
-    key: &[u8; 8],
+    key: AnyKey,
     held: &mut Held,
 ) -> Result<Order<TicketRecord>, Fault>
     requires few { length clients.now ≤ 65535 }
@@ -83,7 +86,7 @@ fn ordered<R: Wait>(
     requires passes { length clients.now ≤ vec_capacity held.old.passes }
     requires leases { length clients.now ≤ vec_capacity held.old.leases }
     ensures { MatchResult result
-        (λ order. MayOrder journal.view clients.now key.now order)
+        (λ order. MayOrder journal.view clients.now key order)
         (λ fault. IsReplyFault journal.view fault) }
 {
     let (shared, mut caller) = Shared::new(alloc, journal)?;
@@ -103,7 +106,7 @@ fn order_behind<R: Wait>(
     shared: &Shared<NoStream>,
     caller: &mut Caller<NoStream>,
     clients: &[LiveClient],
-    key: &[u8; 8],
+    key: AnyKey,
     held: &mut Held,
 ) -> Result<Order<TicketRecord>, Reply>
     requires own { caller.old.lock ≡ shared.now }
@@ -113,7 +116,7 @@ fn order_behind<R: Wait>(
     requires passes { length clients.now ≤ vec_capacity held.old.passes }
     requires leases { length clients.now ≤ vec_capacity held.old.leases }
     ensures { MatchResult result
-        (λ order. Orders caller.old clients.now key.now order caller.new)
+        (λ order. Orders caller.old clients.now key order caller.new)
         (λ reply. Stops caller.old reply caller.new) }
 {
     all_come(rt, shared, caller, clients, held)?;
@@ -132,6 +135,7 @@ fn apart(order: Order<Ticket>) -> (Order<TicketRecord>, Option<Ticket>)
             Some(ticket),
         ),
         Order::Forward(peer, packet) => (Order::Forward(peer, packet), None),
+        Order::Unwait(slot) => (Order::Unwait(slot), None),
         Order::Refused(refusal) => (Order::Refused(refusal), None),
     }
 }

@@ -49,6 +49,8 @@ pub enum Reply {
     Got,
     /// No link yet.
     Waiting,
+    /// No link: a wait for one was cancelled.
+    Cancelled,
     /// The link is closed.
     Closed,
 }
@@ -143,6 +145,7 @@ impl Reply {
             Reply::Number(number) => format!(in alloc; "unexpected answer: {number}\n"),
             Reply::Got => String::from_str(alloc, "unexpected answer: got\n"),
             Reply::Waiting => String::from_str(alloc, "unexpected answer: waiting\n"),
+            Reply::Cancelled => String::from_str(alloc, "unexpected answer: cancelled\n"),
             Reply::Closed => String::from_str(alloc, "unexpected answer: closed\n"),
         }
     }

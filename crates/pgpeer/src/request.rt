@@ -1,8 +1,9 @@
 //! What arguments ask for.
 ghost use Rattle.std.specs.Prelude.{◌≡◌, Some, map};
+ghost use Rattle.pg_ids.specs.AnyKey.{any_key_bytes};
 ghost use Rattle.pgpeer.specs.Arguments.{given_in};
 ghost use Rattle.pgpeer.specs.Finds.{Finds, Reads};
-ghost use Rattle.pgpeer.specs.Request.{asked, asked_behind, asked_in, check_asked, decide_asked, key_asked, topic_of};
+ghost use Rattle.pgpeer.specs.Request.{asked, asked_behind, asked_in, check_asked, decide_asked, key_asked, key_bytes_of, topic_of};
 ghost use Rattle.pgpeer.specs.declared.command_name.FirstArgument.TheVariants.{Command};
 
 use crate::arguments::{Given, ask_help};
@@ -12,14 +13,14 @@ use crate::decide_texts::read_decide;
 use crate::list::{at_most_one, only_one};
 use crate::wrong::{Place, Wrong};
 use hex::FromHex;
-use pg_ids::ClientKey;
+use pg_ids::AnyKey;
 use std::alloc::Global;
 
 /// What the program is asked for.
 #[derive(Drop)]
 pub enum Request<'a> {
     /// A key's parts.
-    Key(ClientKey),
+    Key(AnyKey),
     /// What a node does with a cancel request.
     Decide(DecideRequest),
     /// Whether these files make a group.
@@ -87,10 +88,7 @@ impl<'a> Request<'a> {
             return Err(Wrong::Form);
         }
         let digits = only_one(&given.plain)?;
-        match <[u8; 8] as FromHex>::from_hex(digits) {
-            Ok(bytes) => Ok(Request::Key(ClientKey::from_bytes(bytes))),
-            Err(_) => Err(Wrong::Value(Place::Key, digits)),
-        }
+        Ok(Request::Key(key_of(digits)?))
     }
 
     fn check(given: Given<'a>) -> Result<Request<'a>, Wrong<'a>>
@@ -111,5 +109,18 @@ impl<'a> Request<'a> {
         let packet = only_one(&given.plain)?;
         let request = read_decide(alloc, me, peers, live, packet)?;
         Ok(Request::Decide(request))
+    }
+}
+
+// The key in these digits: 16 of a short one, or 48 of a long one.
+fn key_of<'a>(digits: &'a str) -> Result<AnyKey, Wrong<'a>>
+    ensures { Reads any_key_bytes result (key_bytes_of digits.now) }
+{
+    if let Ok(bytes) = <[u8; 8] as FromHex>::from_hex(digits) {
+        return Ok(AnyKey::from_short_bytes(bytes));
+    }
+    match <[u8; 24] as FromHex>::from_hex(digits) {
+        Ok(bytes) => Ok(AnyKey::from_long_bytes(bytes)),
+        Err(_) => Err(Wrong::Value(Place::Key, digits)),
     }
 }

@@ -1,6 +1,8 @@
 //! The steps of a node behind its lock, each with the reply that is expected, or the one that came
 //! in its place.
 ghost use Rattle.std.specs.Prelude.{◌≡◌, ◌<◌, ℕ, Ok, Some, List, MatchResult, length};
+ghost use Rattle.pg_ids.specs.declared.any_key.Kind.{Kind};
+ghost use Rattle.pg_ids.specs.declared.any_key.Kind.TheVariants as kind;
 ghost use Rattle.lease.specs.declared.pass.PassRecord.{PassRecord};
 ghost use Rattle.lease.specs.declared.permit.PermitRecord.{PermitRecord};
 ghost use Rattle.lease.specs.declared.link_record.LinkRecord.{LinkRecord};
@@ -20,13 +22,13 @@ use lease::{Lease, Pass, Permit, Ticket};
 use link_pool::{AcquireReply, CloseReply, FailedReply, UpReply};
 use locked_node::{Caller, Shared};
 use node_core::{DatabaseNo, JoinRefusal, LeaveReply, StepRefusal};
-use pg_ids::{Secret, ServerKey};
+use pg_ids::{Kind, Secret, ServerKey};
 use std::sync::Wait;
 
 // The database of each client.
 const DATABASE: DatabaseNo = DatabaseNo(0);
 
-/// A client joins with this secret.
+/// A client joins with this secret, and gets a short key.
 pub fn join<R: Wait>(
     rt: &R,
     shared: &Shared<NoStream>,
@@ -37,16 +39,16 @@ pub fn join<R: Wait>(
     requires database { 0 < length caller.old.start.view.pools }
     requires allowance { 0 < caller.old.allowance }
     ensures { MatchResult result
-        (λ pass. CallerStep caller.old (call.Join 0 secret (Ok pass)) caller.new)
+        (λ pass. CallerStep caller.old (call.Join 0 secret kind.Short (Ok pass)) caller.new)
         (λ reply. Trips caller.old reply caller.new) }
 {
-    pass_in(shared.join(rt, caller, DATABASE, secret))
+    pass_in(shared.join(rt, caller, DATABASE, secret, Kind::Short))
 }
 
 fn pass_in(reply: Result<Pass, JoinRefusal>) -> Result<Pass, Reply>
-    ensures { (database secret : ℕ) → MatchResult result
+    ensures { (database secret : ℕ) (asked : Kind) → MatchResult result
         (λ pass. reply ≡ Ok pass)
-        (λ given. reply_of (call.Join database secret reply) ≡ Some given) }
+        (λ given. reply_of (call.Join database secret asked reply) ≡ Some given) }
 {
     match reply {
         Ok(pass) => Ok(pass),
@@ -82,6 +84,7 @@ fn permit_in(reply: AcquireReply<Lease<NoStream>, Permit>) -> Result<Permit, Rep
             Err(Reply::Got)
         }
         AcquireReply::Waiting => Err(Reply::Waiting),
+        AcquireReply::Cancelled => Err(Reply::Cancelled),
         AcquireReply::Holding => Err(Reply::Number(StepRefusal::Holding.number())),
         AcquireReply::Exhausted => Err(Reply::Number(StepRefusal::Exhausted.number())),
         AcquireReply::Stale => Err(Reply::Number(StepRefusal::Stale.number())),

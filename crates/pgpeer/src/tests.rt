@@ -108,7 +108,7 @@ fn expect_refused_line(
 }
 
 // The usage of each command.
-const KEY: &str = "key <HEX16>";
+const KEY: &str = "key <HEX16|HEX48>";
 
 const DECIDE: &str = "decide --me <N> [--peers <P,P..>] [--live <C,C..>] <HEX>";
 

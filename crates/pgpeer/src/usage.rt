@@ -40,19 +40,19 @@ pub fn usage<'a>(alloc: Global, arguments: &'a [&'a str], wrong: Wrong<'_>) -> F
     }
 }
 
-/// The fault of a packet that has this many bytes behind its CancelRequest.
-pub fn longer_packet(alloc: Global, more: usize) -> Fault
+/// The fault of a packet whose CancelRequest has this length, and that has more bytes behind it.
+pub fn longer_packet(alloc: Global, length: usize, more: usize) -> Fault
     ensures { IsUsage result }
 {
-    match longer_packet_text(alloc, more) {
+    match longer_packet_text(alloc, length, more) {
         Ok(text) => Fault::Usage(text),
         Err(_) => Fault::Memory,
     }
 }
 
-fn longer_packet_text(alloc: Global, more: usize) -> Result<String, AllocError> {
+fn longer_packet_text(alloc: Global, length: usize, more: usize) -> Result<String, AllocError> {
     let message = format!(in alloc;
-        "invalid value for '<HEX>': {more} bytes follow the CancelRequest, which has 16"
+        "invalid value for '<HEX>': {more} bytes follow the CancelRequest, which has {length}"
     )?;
     error_text(decide_command(alloc)?, message.as_str(), alloc)
 }
@@ -108,7 +108,7 @@ fn message(alloc: Global, place: Place, value: &str) -> Result<String, AllocErro
 // The argument that a value is of, as the usage of its command names it.
 fn argument(place: Place) -> &'static str {
     match place {
-        Place::Key => "<HEX16>",
+        Place::Key => "<HEX16|HEX48>",
         Place::Me => "--me <N>",
         Place::Peer | Place::PeerAgain | Place::PeerTooMany => "--peers <P,P..>",
         Place::Secret | Place::ServerKey | Place::ClientTooMany => "--live <C,C..>",
@@ -119,7 +119,7 @@ fn argument(place: Place) -> &'static str {
 // What is expected there, or what else is wrong with a value.
 fn expected(place: Place) -> &'static str {
     match place {
-        Place::Key => "expected 16 hexadecimal digits",
+        Place::Key => "expected 16 or 48 hexadecimal digits",
         Place::Me => "expected a number from 0 to 16383",
         Place::Peer => "expected numbers from 1 to 16383",
         Place::PeerAgain => "a number is there twice",
@@ -183,16 +183,19 @@ fn command<'a>(alloc: Global, name: CommandName) -> Result<Command<'a>, AllocErr
 }
 
 fn key_command<'a>(alloc: Global) -> Result<Command<'a>, AllocError> {
-    let key = Arg::new(alloc, "HEX16")
-        .required(true)
-        .help("The key's eight bytes, in 16 hexadecimal digits");
+    let key = Arg::new(alloc, "HEX16|HEX48").required(true).help(KEY);
     command(alloc, CommandName::Key)?.arg(key)
 }
 
+const KEY: &str = "The key's eight bytes in 16 hexadecimal digits, or a long key's 24 in 48";
+
 const AFTER_KEY: &str = "\
-Example:
+Examples:
   $ pgpeer key 0008000000000007
-  peer 2 slot 0 secret 1 hops 3";
+  peer 2 slot 0 secret 1 hops 3
+
+  $ pgpeer key 000800000000000700000000000000010000000000000004
+  peer 2 slot 0 secret 1 hops 3 boot 1 serial 4";
 
 fn decide_command<'a>(alloc: Global) -> Result<Command<'a>, AllocError> {
     let me = Arg::new(alloc, "me")
@@ -208,9 +211,7 @@ fn decide_command<'a>(alloc: Global) -> Result<Command<'a>, AllocError> {
         .long("live")
         .value_name("C,C..")
         .help(LIVE);
-    let packet = Arg::new(alloc, "HEX")
-        .required(true)
-        .help("The first packet of a connection, in hexadecimal digits");
+    let packet = Arg::new(alloc, "HEX").required(true).help(PACKET);
     command(alloc, CommandName::Decide)?
         .override_usage("pgpeer decide --me <N> [--peers <P,P..>] [--live <C,C..>] <HEX>")
         .arg(me)?
@@ -218,6 +219,9 @@ fn decide_command<'a>(alloc: Global) -> Result<Command<'a>, AllocError> {
         .arg(live)?
         .arg(packet)
 }
+
+const PACKET: &str =
+    "A connection's first packet, in hexadecimal digits; a cancel request has 16 or 32 bytes";
 
 const LIVE: &str = "\
 Its clients in the order of their logins, at most 65535, each by its secret,
@@ -227,7 +231,7 @@ connection's cancel key in 16 hexadecimal digits";
 const AFTER_DECIDE: &str = "\
 Output, one of:
   serve KEYHEX     the client's server is asked to cancel, by this key
-  forward P HEX32  the request goes on to peer P, as these 16 bytes
+  forward P HEX    the request goes on to peer P, as these 16 or 32 bytes
   refused 60       the request may pass through no more poolers
   refused 61       no client has the key's slot and secret
   refused 62       the key's pooler is no peer

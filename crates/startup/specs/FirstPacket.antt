@@ -2,6 +2,8 @@
 -- "Start-up"; the limit of 10,000, the refusals and their order are own).
 use Rattle.std.specs.Prelude.{ℕ, ◌≡◌, ◌≢◌, ◌+◌, ◌<◌, ◌≤◌, ◌⊎◌, Bool, true, false, if◌then◌else◌, List, [], length, drop, string_bytes, Result, Ok, Err}
 use Rattle.byteorder.specs.Endian.{big_number}
+use Rattle.pg_ids.specs.AnyKey.{any_key_bytes}
+use Rattle.pg_ids.specs.declared.any_key.Kind.{Kind}
 use Rattle.startup.specs.Kinds.{Seen}
 use Rattle.startup.specs.Packet.{startup_code, cancel_code, ssl_code, gss_code, cancel_request, ssl_request, gss_request, startup_message, Begins}
 use Rattle.startup.specs.StartupMessage.{Parameter, AreParameters, body_of, user_of, database_of}
@@ -12,7 +14,7 @@ use Rattle.startup.specs.declared.first.First.TheVariants as first
 
 -- what a text is as a first packet
 pub data Outcome : Type 0 where
-  Startup : (user : List ℕ) (database : List ℕ) (used : ℕ) → Outcome
+  Startup : (kind : Kind) (user : List ℕ) (database : List ℕ) (used : ℕ) → Outcome
   Cancel : (key : List ℕ) → Outcome
   Ssl : Outcome
   Gss : Outcome
@@ -46,22 +48,26 @@ AsksFirst seen text = Asks false seen text
 abbrev pub AsksAgain : Seen → List ℕ → Type 0
 AsksAgain seen text = Asks true seen text
 
--- the text begins with the StartupMessage of this body, whose length is within its limit
-pub record StartsWith (text body : List ℕ) : Type 0 where
-  pub begins : Begins text (startup_message body)
+-- the text begins with the StartupMessage of this kind and body, whose length is within its limit
+pub record StartsWith (kind : Kind) (text body : List ℕ) : Type 0 where
+  pub begins : Begins text (startup_message kind body)
   pub upper : 8 + length body ≤ 10000
 
--- the text begins with the StartupMessage of these parameters
-pub record Starts (text : List ℕ) (ps : List Parameter) : Type 0 where
+-- the text begins with the StartupMessage of this kind and these parameters
+pub record Starts (kind : Kind) (text : List ℕ) (ps : List Parameter) : Type 0 where
   pub sendable : AreParameters ps
-  pub message : StartsWith text (body_of ps)
+  pub message : StartsWith kind text (body_of ps)
+
+-- key bytes are eight, or 24
+abbrev pub IsKeyLength : ℕ → Type 0
+IsKeyLength n = (n ≡ 8) ⊎ (n ≡ 24)
 
 -- what the bytes that stand decide, whatever follows them
 abbrev pub Decides : Seen → List ℕ → Outcome → Type 0
-Decides seen text (Startup user database used) =
+Decides seen text (Startup kind user database used) =
     (ps : List Parameter)
-    × Starts text ps × (user ≢ []) × (user ≡ user_of ps) × (database ≡ database_of ps) × (used ≡ 8 + length (body_of ps))
-Decides seen text (Cancel key) = (length key ≡ 8) × Begins text (cancel_request key)
+    × Starts kind text ps × (user ≢ []) × (user ≡ user_of ps) × (database ≡ database_of ps) × (used ≡ 8 + length (body_of ps))
+Decides seen text (Cancel key) = IsKeyLength (length key) × Begins text (cancel_request key)
 Decides seen text Ssl = (seen.ssl ≡ false) × Begins text ssl_request
 Decides seen text Gss = (seen.gss ≡ false) × Begins text gss_request
 Decides seen text More = ⊥
@@ -69,13 +75,15 @@ Decides seen text (Refused TooShort) = (4 ≤ length text) × (length_of text < 
 Decides seen text (Refused TooLong) =
     ((4 ≤ length text) × (10000 < length_of text)) ⊎ (AsksFirst seen text × (8 < length_of text))
 Decides seen text (Refused BadVersion) =
-    HasHeader text × (code_of text ≢ startup_code) × (code_of text ≢ cancel_code) × (code_of text ≢ ssl_code)
-    × (code_of text ≢ gss_code)
+    HasHeader text × ((kind : Kind) → code_of text ≢ startup_code kind)
+    × (code_of text ≢ cancel_code) × (code_of text ≢ ssl_code) × (code_of text ≢ gss_code)
 Decides seen text (Refused BadText) =
-    (body : List ℕ) × StartsWith text body × ((ps : List Parameter) → AreParameters ps → body ≢ body_of ps)
-Decides seen text (Refused NoUser) = (ps : List Parameter) × Starts text ps × (user_of ps ≡ [])
+    (kind : Kind) × (body : List ℕ) × StartsWith kind text body
+    × ((ps : List Parameter) → AreParameters ps → body ≢ body_of ps)
+Decides seen text (Refused NoUser) =
+    (kind : Kind) × (ps : List Parameter) × Starts kind text ps × (user_of ps ≡ [])
 Decides seen text (Refused BadCancelLength) =
-    HasHeader text × (code_of text ≡ cancel_code) × (length_of text ≢ 16)
+    HasHeader text × (code_of text ≡ cancel_code) × (length_of text ≢ 16) × (length_of text ≢ 32)
 Decides seen text (Refused Repeated) = AsksAgain seen text
 Decides seen text (Refused Truncated) = ⊥
 Decides seen text (Refused Memory) = ⊥
@@ -93,15 +101,15 @@ IsOutcome seen text at_end outcome =
 
 -- what an answer says
 abbrev pub outcome_of : First → Outcome
-outcome_of (first.Startup user database used) = Startup (string_bytes user) (string_bytes database) used
-outcome_of (first.Cancel key) = Cancel key
+outcome_of (first.Startup kind user database used) = Startup kind (string_bytes user) (string_bytes database) used
+outcome_of (first.Cancel key) = Cancel (any_key_bytes key)
 outcome_of first.Ssl = Ssl
 outcome_of first.Gss = Gss
 outcome_of first.More = More
 
 -- a session begins
 abbrev pub IsStartup : Outcome → Type 0
-IsStartup (Startup user database used) = Unit {0}
+IsStartup (Startup kind user database used) = Unit {0}
 IsStartup (Cancel key) = ⊥
 IsStartup Ssl = ⊥
 IsStartup Gss = ⊥
@@ -122,7 +130,7 @@ pub record Answers (seen : Seen) (text : List ℕ) (at_end : Bool) (answer : Res
 
 -- what a connection has seen after an answer: a negotiation counts once it is answered
 abbrev pub seen_after : Seen → Result First StartupError → Seen
-seen_after seen (Ok (first.Startup user database used)) = seen
+seen_after seen (Ok (first.Startup kind user database used)) = seen
 seen_after seen (Ok (first.Cancel key)) = seen
 seen_after seen (Ok first.Ssl) = record seen { ssl = true }
 seen_after seen (Ok first.Gss) = record seen { gss = true }

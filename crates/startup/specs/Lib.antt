@@ -1,4 +1,5 @@
 pub mod Packet
+pub mod CancelPacket
 pub mod StartupMessage
 pub mod Kinds
 pub mod FirstPacket

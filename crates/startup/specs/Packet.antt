@@ -2,10 +2,14 @@
 -- SSLRequest, GSSENCRequest).
 use Rattle.std.specs.Prelude.{ℕ, ◌≡◌, ◌+◌, ◌*◌, ◌^◌, List, [], ◌++◌, length}
 use Rattle.byteorder.specs.Endian.{big_bytes}
+use Rattle.pg_ids.specs.declared.any_key.Kind.{Kind}
+use Rattle.pg_ids.specs.declared.any_key.Kind.TheVariants.{Short, Long}
 
--- the code of a StartupMessage of protocol 3.0, the version's two numbers
-abbrev pub startup_code : ℕ
-startup_code = 3 * 2 ^ 16
+-- the code of a StartupMessage, the version's two numbers: clients of protocol 3.0 get short keys,
+-- and those of 3.2 long ones (own)
+abbrev pub startup_code : Kind → ℕ
+startup_code Short = 3 * 2 ^ 16
+startup_code Long = 3 * 2 ^ 16 + 2
 
 -- the codes of the other first packets
 abbrev pub cancel_code : ℕ
@@ -32,9 +36,9 @@ ssl_request = packet ssl_code []
 abbrev pub gss_request : List ℕ
 gss_request = packet gss_code []
 
--- the packet that opens a session, by its body
-abbrev pub startup_message : List ℕ → List ℕ
-startup_message body = packet startup_code body
+-- the packet that opens a session, by its client's kind of key and its body
+abbrev pub startup_message : Kind → List ℕ → List ℕ
+startup_message kind body = packet (startup_code kind) body
 
 -- the text begins with this packet
 pub record Begins (text whole : List ℕ) : Type 0 where

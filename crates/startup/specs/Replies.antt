@@ -4,7 +4,9 @@ use Rattle.std.specs.Prelude.{ℕ, ◌+◌, ◌≤◌, List, [], ◌∷◌, ◌+
 use Rattle.byteorder.specs.Endian.{big_bytes}
 use Rattle.startup.specs.StartupMessage.{HasNoZero}
 use Rattle.pg_ids.specs.Key.{key_bytes}
-use Rattle.pg_ids.specs.declared.client_key.ClientKey.{ClientKey}
+use Rattle.pg_ids.specs.AnyKey.{long_part_bytes}
+use Rattle.pg_ids.specs.declared.any_key.AnyKey.{AnyKey}
+use Rattle.pg_ids.specs.declared.any_key.AnyKey.TheVariants.{Short, Long}
 
 -- a message: a type byte, an Int32 length that counts itself and not the type byte, and the body
 abbrev pub message : ℕ → List ℕ → List ℕ
@@ -23,16 +25,17 @@ abbrev pub parameter_status : List ℕ → List ℕ → List ℕ
 parameter_status name value = message 83 (zero_ended name ++ zero_ended value)
 
 -- BackendKeyData, none where the client has no key
-abbrev pub backend_key_data : Option ClientKey → List ℕ
+abbrev pub backend_key_data : Option AnyKey → List ℕ
 backend_key_data None = []
-backend_key_data (Some key) = message 75 (key_bytes key)
+backend_key_data (Some (Short key)) = message 75 (key_bytes key)
+backend_key_data (Some (Long key part)) = message 75 (key_bytes key ++ long_part_bytes part)
 
 -- ReadyForQuery, idle
 abbrev pub ready_for_query : List ℕ
 ready_for_query = message 90 (73 ∷ [])
 
 -- what a client reads once it is logged in
-abbrev pub login : Option ClientKey → List ℕ
+abbrev pub login : Option AnyKey → List ℕ
 login key =
     authentication_ok ++ parameter_status (codes "server_version") (codes "16")
     ++ parameter_status (codes "server_encoding") (codes "UTF8") ++ parameter_status (codes "client_encoding") (codes "UTF8")

@@ -3,6 +3,7 @@
 use Rattle.std.specs.Prelude.{ℕ, ◌≡◌, ◌≢◌, ◌||◌, Bool, false, List, [], ◌∷◌, ◌++◌, codes, bytes_eq, nat_eq, flat_map, if◌then◌else◌}
 use Rattle.std.specs.List.{AllByRecursion, starts_with}
 use Rattle.std.specs.Str.{IsUtf8}
+use Rattle.pg_ids.specs.declared.any_key.Kind.TheVariants.{Short}
 use Rattle.startup.specs.Packet.{startup_message}
 
 -- a parameter that a client sets for its session
@@ -71,6 +72,6 @@ abbrev pub asked_for : List ℕ → List ℕ → List Parameter
 asked_for user database =
     record { name = codes "user"; value = user } ∷ record { name = codes "database"; value = database } ∷ []
 
--- the StartupMessage that a pooler sends to a server: user, database, nothing else
+-- the StartupMessage that a pooler sends to a server, of protocol 3.0: user, database, nothing else
 abbrev pub startup_request : List ℕ → List ℕ → List ℕ
-startup_request user database = startup_message (body_of (asked_for user database))
+startup_request user database = startup_message Short (body_of (asked_for user database))

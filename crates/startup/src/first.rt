@@ -1,18 +1,20 @@
 //! What a first packet asks for.
+use pg_ids::{AnyKey, Kind};
 
 /// What was read of a connection's first packet.
 #[derive(Debug, PartialEq, Eq, Drop)]
 pub enum First {
-    /// A StartupMessage: a session begins. `used` is the packet's length in bytes; what follows belongs
-    /// to the session.
+    /// A StartupMessage: a session begins, whose client gets a key of this kind. `used` is the
+    /// packet's length in bytes; what follows belongs to the session.
     Startup {
+        kind: Kind,
         user: String,
         database: String,
         used: usize,
     },
-    /// A CancelRequest, with the eight bytes of its key.
+    /// A CancelRequest, with its key.
     Cancel {
-        key: [u8; 8],
+        key: AnyKey,
     },
     /// An SSLRequest.
     Ssl,

@@ -7,6 +7,9 @@ use byteorder::{BigEndian, ByteOrder};
 
 pub const STARTUP_CODE: u32 = 3 << 16;
 
+// Protocol 3.2, whose clients get long keys (own).
+pub const LONG_STARTUP_CODE: u32 = STARTUP_CODE + 2;
+
 pub const CANCEL_CODE: u32 = 80877102;
 
 pub const SSL_CODE: u32 = 80877103;

@@ -2,10 +2,11 @@
 ghost use Rattle.std.specs.Prelude.{◌≡◌};
 
 use crate::first::First;
-use crate::header::{CANCEL_CODE, GSS_CODE, Header, SSL_CODE, STARTUP_CODE};
+use crate::header::{CANCEL_CODE, GSS_CODE, Header, LONG_STARTUP_CODE, SSL_CODE, STARTUP_CODE};
 use crate::packets::{read_cancel, read_negotiation, unfinished};
 use crate::session::read_startup;
 use crate::startup_error::StartupError;
+use pg_ids::Kind;
 use std::alloc::Global;
 use std::marker::Model;
 
@@ -40,9 +41,9 @@ impl Opening {
         }
     }
 
-    /// What the connection's bytes so far ask for, which begin at the packet; `at_end` says that no more
-    /// will come. Bytes may follow the packet. After `Ssl` or `Gss` the next packet is read by another
-    /// call, from its own beginning (PostgreSQL manual, "Start-up" and "Message Formats").
+    /// What the connection's bytes so far ask for, which begin at the packet; `at_end` says that no
+    /// more will come. Bytes may follow the packet. After `Ssl` or `Gss` the next packet is read by
+    /// another call, from its own beginning (PostgreSQL manual, "Start-up" and "Message Formats").
     pub fn read(&mut self, so_far: &[u8], at_end: bool) -> Result<First, StartupError>
         // What is answered is the outcome of these bytes. Only where a session begins memory may be
         // wanting.
@@ -50,7 +51,8 @@ impl Opening {
         // The bytes have no other outcome.
         ensures only { (outcome : Outcome) → IsOutcome self.old so_far.now at_end outcome
             → Tells result outcome }
-        // A negotiation is seen from its answer on. Every other answer leaves the connection as it was.
+        // A negotiation is seen from its answer on. Every other answer leaves the connection as it
+        // was.
         ensures seen { self.new ≡ seen_after self.old result }
     {
         let first = self.judge(so_far, at_end)?;
@@ -70,7 +72,8 @@ impl Opening {
             return unfinished(at_end);
         };
         match header.code {
-            STARTUP_CODE => read_startup(self.alloc, so_far, header, at_end),
+            STARTUP_CODE => read_startup(self.alloc, Kind::Short, so_far, header, at_end),
+            LONG_STARTUP_CODE => read_startup(self.alloc, Kind::Long, so_far, header, at_end),
             CANCEL_CODE => read_cancel(so_far, header, at_end),
             SSL_CODE => read_negotiation(self.ssl, header, First::Ssl),
             GSS_CODE => read_negotiation(self.gss, header, First::Gss),

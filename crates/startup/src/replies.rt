@@ -6,7 +6,7 @@ ghost use Rattle.startup.specs.Replies.{login, error_fields, error_response, IsF
 use crate::append::append;
 use crate::error_code::Severity;
 use crate::startup_error::StartupError;
-use pg_ids::ClientKey;
+use pg_ids::AnyKey;
 
 // AuthenticationOk and the three parameters that a login reports.
 const GREETING: &[u8; 84] = b"R\0\0\0\x08\0\0\0\0\
@@ -14,20 +14,32 @@ const GREETING: &[u8; 84] = b"R\0\0\0\x08\0\0\0\0\
     S\0\0\0\x19server_encoding\0UTF8\0\
     S\0\0\0\x19client_encoding\0UTF8\0";
 
-// BackendKeyData up to its key, and ReadyForQuery, idle.
+// BackendKeyData up to its key, of eight bytes and of 24, and ReadyForQuery, idle.
 const KEY_DATA: &[u8; 5] = b"K\0\0\0\x0c";
+
+const LONG_KEY_DATA: &[u8; 5] = b"K\0\0\0\x1c";
 
 const READY: &[u8; 6] = b"Z\0\0\0\x05I";
 
 /// Puts a login's messages at the end of the buffer, with BackendKeyData where the client has a key
 /// (PostgreSQL manual, "Start-up"; the parameters are own). Answers `Memory` alone.
-pub fn write_login(key: Option<ClientKey>, out: &mut Vec<u8>) -> Result<(), StartupError>
+pub fn write_login(key: Option<AnyKey>, out: &mut Vec<u8>) -> Result<(), StartupError>
     ensures ok { OnOk result (out.new.items ≡ out.old.items ++ login key) }
     ensures err { OnErr result (out.new.items ≡ out.old.items) }
     ensures memory { IsOkUnless result StartupError.Memory }
 {
     match key {
-        Some(key) => append(out, &[GREETING, KEY_DATA, &key.to_bytes(), READY]),
+        Some(AnyKey::Short(key)) => append(out, &[GREETING, KEY_DATA, &key.to_bytes(), READY]),
+        Some(AnyKey::Long(key, part)) => append(
+            out,
+            &[
+                GREETING,
+                LONG_KEY_DATA,
+                &key.to_bytes(),
+                &part.to_bytes(),
+                READY,
+            ],
+        ),
         None => append(out, &[GREETING, READY]),
     }
 }

@@ -12,21 +12,24 @@ use crate::names::are_distinct;
 use crate::packets::unfinished;
 use crate::parameter::Parameter;
 use crate::startup_error::StartupError;
+use pg_ids::Kind;
 use std::alloc::Global;
 
-// How many parameters the longest packet can hold: three bytes each, between the header and a zero byte.
+// How many parameters the longest packet can hold: three bytes each, between the header and a zero
+// byte.
 const MOST_PARAMETERS: usize = 3330;
 
-/// The answer to a StartupMessage's header and what stands behind it.
+/// The answer to the header of a StartupMessage of this kind and what stands behind it.
 pub fn read_startup(
     alloc: Global,
+    kind: Kind,
     so_far: &[u8],
     header: Header,
     at_end: bool,
 ) -> Result<First, StartupError>
     requires stands { HasHeader so_far.now }
     requires length { header.length ≡ length_of so_far.now }
-    requires code { code_of so_far.now ≡ startup_code }
+    requires code { code_of so_far.now ≡ startup_code kind }
     ensures { (seen : Seen) → Answers seen so_far.now at_end result }
 {
     let used = header.length as usize;
@@ -42,14 +45,15 @@ pub fn read_startup(
     let user = String::from_str(alloc, session.user)?;
     let database = String::from_str(alloc, session.database_or_user())?;
     Ok(First::Startup {
+        kind,
         user,
         database,
         used,
     })
 }
 
-/// What a pooler takes from a StartupMessage's parameters: user and database, each empty where it isn't
-/// given.
+/// What a pooler takes from a StartupMessage's parameters: user and database, each empty where it
+/// isn't given.
 #[derive(Clone, Copy, Debug)]
 pub struct Session<'a> {
     pub user: &'a str,
@@ -59,8 +63,8 @@ pub struct Session<'a> {
 impl<'a> Session<'a> {
     ghost use Rattle.startup.specs.Session.{IsSessionOf, IsReadOf};
 
-    /// The session of a StartupMessage's body, none where the body isn't of its form or names what may
-    /// not be set.
+    /// The session of a StartupMessage's body, none where the body isn't of its form or names what
+    /// may not be set.
     pub fn read(body: &'a [u8]) -> Option<Session<'a>>
         requires { length body.now ≤ 9992 }
         ensures found { IfSome result (λ session. IsSessionOf session body.now) }
@@ -75,8 +79,8 @@ impl<'a> Session<'a> {
         }
     }
 
-    // The session of a body's parameters and their number, none where the body isn't of its form or names
-    // what is reserved. Their names are put at the front of `names`; some may be the same.
+    // The session of a body's parameters and their number, none where the body isn't of its form or
+    // names what is reserved. Their names are put at the front of `names`; some may be the same.
     fn read_all(body: &'a [u8], names: &mut [&'a str]) -> Option<(Session<'a>, usize)>
         requires { length body.now ≤ 3 * length names.old + 2 }
         ensures found { IfSome result (λ read. (read.1 ≤ length names.new)
@@ -107,7 +111,8 @@ impl<'a> Session<'a> {
     fn with(self, parameter: Parameter<'a>) -> Session<'a>
         ensures user { result.user.now ≡ (if bytes_eq (codes "user") parameter.entry.name.now
             then parameter.entry.value.now else self.entry.user.now) }
-        ensures database { result.database.now ≡ (if bytes_eq (codes "database") parameter.entry.name.now
+        ensures database { result.database.now ≡
+            (if bytes_eq (codes "database") parameter.entry.name.now
             then parameter.entry.value.now else self.entry.database.now) }
     {
         match parameter.name {

@@ -17,15 +17,15 @@ pub enum StartupError {
     /// The code is of no first packet.
     #[error("the packet's code is unknown")]
     BadVersion,
-    /// The StartupMessage's body isn't pairs of texts and a zero byte, a name comes twice, or one may not
-    /// be set.
+    /// The StartupMessage's body isn't pairs of texts and a zero byte, a name comes twice, or one
+    /// may not be set.
     #[error("the start-up parameters are malformed or not allowed")]
     BadText,
     /// No user is named.
     #[error("no user is named")]
     NoUser,
-    /// A CancelRequest's length isn't 16.
-    #[error("a cancel request's length is not 16")]
+    /// A CancelRequest's length is neither 16 nor 32.
+    #[error("a cancel request's length is neither 16 nor 32")]
     BadCancelLength,
     /// The connection has seen this kind of negotiation.
     #[error("this negotiation was asked for before")]
@@ -59,8 +59,8 @@ impl StartupError {
         }
     }
 
-    /// What the client is told before its connection is closed, a FATAL error; none where the bytes may
-    /// not be a client's (own).
+    /// What the client is told before its connection is closed, a FATAL error; none where the bytes
+    /// may not be a client's (own).
     pub const fn error_code(self) -> Option<ErrorCode>
         ensures { result ≡ told_of_refusal self }
     {

@@ -34,7 +34,8 @@ impl<S: Drop> Pool<S> {
 
     // The link of a lease, and its client.
     fn held(&self, lease: &LinkRecord) -> Option<Held>
-        ensures held { IfSome result (λ found. IsHeld lease.now found.link found.slot self.now.view) }
+        ensures held { IfSome result
+            (λ found. IsHeld lease.now found.link found.slot self.now.view) }
         ensures stale { IfNone result (StaleLease lease.now self.now.view) }
         ensures whole { IsPool self.now.view }
     {
@@ -111,6 +112,7 @@ impl<S: Drop> Pool<S> {
                     link: lease.quarantine(),
                     key: link.key,
                     hold: link.hold,
+                    giver: Some(slot),
                 };
                 self.change(&details.at, slot, quarantined);
                 ReleaseReply::Quarantined

@@ -13,10 +13,10 @@ use crate::refusal::CancelRefusal;
 use cancel_router::{Route, Standing, TableView, decide};
 use lease::Ticket;
 use link_pool::{Claim, EndedReply, FailedReply, Place, ServeReply};
-use pg_ids::{ClientKey, LinkNo, SlotNo};
+use pg_ids::{AnyKey, LinkNo, SlotNo};
 use startup::write_cancel;
 
-/// The slots, and who has a link.
+/// The slots, and who has a link or waits for one.
 impl<S: Drop> TableView for NodeCore<S> {
     ghost use Rattle.node_core.specs.NodeStep.{standing_in};
 
@@ -24,40 +24,44 @@ impl<S: Drop> TableView for NodeCore<S> {
 
     ghost standing = { λ v. standing_in v.view };
 
-    fn find(&self, key: &ClientKey) -> Option<SlotNo> {
+    fn find(&self, key: &AnyKey) -> Option<SlotNo> {
         self.keys.find(key)
     }
 
     fn standing(&self, slot: SlotNo) -> Standing {
-        let Some(Claim::Link(at)) = self.links.claim(slot) else {
-            return Standing::Without;
-        };
-        match self.links.place(at) {
-            Some(Place::Link(link)) => Standing::Holds(link.details.link),
+        match self.links.claim(slot) {
+            Some(Claim::Link(at)) => match self.links.place(at) {
+                Some(Place::Link(link)) => Standing::Holds(link.details.link),
+                _ => Standing::Without,
+            },
+            Some(Claim::Waiting(_)) => Standing::Waits,
             _ => Standing::Without,
         }
     }
 }
 
 impl<S: Drop> NodeCore<S> {
-    /// A cancel request with these eight key bytes comes.
-    pub fn cancel(&mut self, key: &[u8; 8]) -> Order<Ticket>
-        ensures step { IsStep (call.Cancel key.now result) self.old self.new }
+    /// A cancel request with this key comes.
+    pub fn cancel(&mut self, key: AnyKey) -> Order<Ticket>
+        ensures step { IsStep (call.Cancel key result) self.old self.new }
         ensures streams { self.new.stored ≡ self.old.stored }
     {
-        let key = ClientKey::from_bytes(*key);
-        match self.route(&key) {
-            Route::Forward(peer, lowered) => Order::Forward(peer, write_cancel(lowered.to_bytes())),
+        match self.route(key) {
+            Route::Forward(peer, lowered) => Order::Forward(peer, write_cancel(lowered)),
             Route::Refused(refusal) => Order::Refused(CancelRefusal::Route(refusal)),
-            Route::Send(link) => self.serve(key.slot, link),
+            Route::Send(link) => self.serve(key.slot(), link),
+            Route::Unwait(slot) => {
+                self.links.unwait(slot);
+                Order::Unwait(slot)
+            }
         }
     }
 
     // Where a request with this key goes.
-    fn route(&self, key: &ClientKey) -> Route
-        ensures { result ≡ route_of self.now.view key.now }
+    fn route(&self, key: AnyKey) -> Route
+        ensures { result ≡ route_of self.now.view key }
     {
-        decide(self.me, self, &self.peers, *key)
+        decide(self.me, self, &self.peers, key)
     }
 
     // A ticket for the link that the client of a slot has.

@@ -11,8 +11,10 @@ use link_pool::{AcquireReply, CloseReply, ReleaseReply, UpFailedReply, UpReply};
 use pg_ids::ServerKey;
 
 impl<S: Drop> NodeCore<S> {
-    /// The client of a pass asks for a link of its database. It gets an idle one, if nobody waits
-    /// before it; otherwise the leave to open one, if the pool isn't full; otherwise it waits.
+    /// The client of a pass asks for a link of its database. If its wait was cancelled, it gets
+    /// `Cancelled`, once; otherwise the link that it gave back, if that is still quarantined, even
+    /// where others wait; otherwise an idle one, if nobody waits before it; otherwise the leave to
+    /// open one, if the pool isn't full; otherwise it waits.
     pub fn acquire(&mut self, pass: &Pass) -> AcquireReply<Lease<S>, Permit>
         ensures step { IsStep (call.Acquire pass.now (acquire_said result)) self.old self.new }
         ensures streams { AcquireStreams result self.old.stored self.new.stored }
@@ -21,7 +23,7 @@ impl<S: Drop> NodeCore<S> {
         let Some(client) = self.client_of(&pass) else {
             return AcquireReply::Stale;
         };
-        self.links.acquire(pass.key.slot, client.database)
+        self.links.acquire(pass.key.slot(), client.database)
     }
 
     /// A link is open, over this stream, and its server cancels by this key: the permit's client
@@ -48,6 +50,8 @@ impl<S: Drop> NodeCore<S> {
         ensures step { IsStep (call.Release lease.details (release_said result)) self.old self.new }
         ensures streams { ReleaseStreams lease result self.old.stored self.new.stored }
     {
+        // The client that holds a link has its lease: this is known of every node's links.
+        self.links.incarnation();
         self.links.release(lease)
     }
 

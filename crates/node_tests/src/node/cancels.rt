@@ -12,6 +12,53 @@ const AT_ANOTHER_NODE: &[(Act, Said)] = &[
     (Act::Cancel([0, 12, 0, 0, 0, 0, 0, 7]), Said::Refused(62)),
 ];
 
+// A long key that ends in 7, with the boot 258 and the serial 3 behind it, is sent on with them.
+const LONG_LOWERED: [u8; 32] = [
+    0, 0, 0, 32, 4, 0xd2, 0x16, 0x2e, 0, 8, 0, 0, 0, 0, 0, 6, 0, 0, 0, 0, 0, 0, 1, 2, 0, 0, 0, 0,
+    0, 0, 0, 3,
+];
+
+const LONG_AT_ANOTHER_NODE: &[(Act, Said)] = &[
+    (
+        Act::CancelLong(FIRST, 258, 3),
+        Said::ForwardLong(2, LONG_LOWERED),
+    ),
+    (
+        Act::CancelLong([0, 8, 0, 0, 0, 0, 0, 5], 258, 3),
+        Said::Refused(60),
+    ),
+    (
+        Act::CancelLong([0, 12, 0, 0, 0, 0, 0, 7], 258, 3),
+        Said::Refused(62),
+    ),
+    (
+        Act::CancelLong([0, 4, 0, 0, 0, 0, 0, 7], 258, 3),
+        Said::Refused(61),
+    ),
+];
+
+// What node 1 sends on, and what node 2 does with it.
+const LOWERED_AT_FIRST_BOOT: [u8; 32] = [
+    0, 0, 0, 32, 4, 0xd2, 0x16, 0x2e, 0, 8, 0, 0, 0, 0, 0, 6, 0, 0, 0, 0, 0, 0, 0, 0, 0, 0, 0, 0,
+    0, 0, 0, 0,
+];
+
+const SENT_ON: &[(Act, Said)] = &[(
+    Act::CancelLong(FIRST, 0, 0),
+    Said::ForwardLong(2, LOWERED_AT_FIRST_BOOT),
+)];
+
+const SENT_HERE: &[(Act, Said)] = &[
+    (Act::JoinLong(1), Said::LongKey(FIRST, 0, 0)),
+    (Act::Acquire(0), Said::Open(0)),
+    (Act::Up(0, 70, KEY), Said::Link(0)),
+    (
+        Act::CancelLong([0, 8, 0, 0, 0, 0, 0, 6], 0, 0),
+        Said::Serve(0, KEY),
+    ),
+    (Act::Cancel([0, 8, 0, 0, 0, 0, 0, 6]), Said::Refused(61)),
+];
+
 const BY_KEY: &[(Act, Said)] = &[
     (Act::Join(1), Said::Key(FIRST)),
     (Act::Join(5), Said::Key(SECOND)),
@@ -29,6 +76,39 @@ const BY_KEY: &[(Act, Said)] = &[
     (Act::Cancel(FIRST), Said::Refused(63)),
     (Act::Leave(0), Said::Left),
     (Act::Cancel(FIRST), Said::Refused(61)),
+];
+
+// A short request never finds a long key, nor the reverse, and a long one has to name boot and
+// serial.
+const BY_KIND: &[(Act, Said)] = &[
+    (Act::Join(1), Said::Key(FIRST)),
+    (Act::JoinLong(5), Said::LongKey(SECOND, 0, 0)),
+    (Act::CancelLong(SECOND, 0, 0), Said::Refused(63)),
+    (Act::Acquire(0), Said::Open(0)),
+    (Act::Up(0, 70, KEY), Said::Link(0)),
+    (Act::Acquire(1), Said::Open(1)),
+    (Act::Up(1, 71, OTHER_KEY), Said::Link(1)),
+    (Act::CancelLong(FIRST, 0, 0), Said::Refused(61)),
+    (Act::Cancel(SECOND), Said::Refused(61)),
+    (Act::CancelLong(SECOND, 1, 0), Said::Refused(61)),
+    (Act::CancelLong(SECOND, 0, 1), Said::Refused(61)),
+    (
+        Act::CancelLong([0, 8, 0, 4, 0, 0, 0, 0x1b], 0, 0),
+        Said::Refused(61),
+    ),
+    (
+        Act::CancelLong([0, 8, 0, 4, 0, 0, 0, 0x14], 0, 0),
+        Said::Refused(60),
+    ),
+    (Act::Cancel(FIRST), Said::Serve(0, KEY)),
+    (Act::CancelLong(SECOND, 0, 0), Said::Serve(1, OTHER_KEY)),
+    (
+        Act::CancelLong([0, 8, 0, 4, 0, 0, 0, 0x15], 0, 0),
+        Said::Serve(2, OTHER_KEY),
+    ),
+    (Act::Close(1), Said::Close(CloseReply::Closed(71))),
+    (Act::Leave(1), Said::Left),
+    (Act::CancelLong(SECOND, 0, 0), Said::Refused(61)),
 ];
 
 const ONE_TICKET: &[(Act, Said)] = &[
@@ -82,6 +162,23 @@ fn routes(rt: HostRuntime) -> Result<(), Fail> {
         AT_ANOTHER_NODE,
     )?;
     run(&rt, &mut Desk::new(rt.alloc(), 2, None, 2, 2)?, BY_KEY)
+}
+
+#[test]
+fn long_keys(rt: HostRuntime) -> Result<(), Fail> {
+    let mut one = Desk::new(rt.alloc(), 1, Some(2), 5, 1)?;
+    run(&rt, &mut one, LONG_AT_ANOTHER_NODE)?;
+    run(&rt, &mut one, SENT_ON)?;
+    run(
+        &rt,
+        &mut Desk::new(rt.alloc(), 2, Some(1), 1, 2)?,
+        SENT_HERE,
+    )
+}
+
+#[test]
+fn kinds(rt: HostRuntime) -> Result<(), Fail> {
+    run(&rt, &mut Desk::new(rt.alloc(), 2, None, 2, 2)?, BY_KIND)
 }
 
 #[test]

@@ -8,7 +8,8 @@ use node_core::{
     NodeCore, Order, Pass, PassRecord, Permit, PermitRecord, ReleaseReply, RestartReply,
     StepRefusal, Ticket, TicketRecord, UpFailedReply, UpReply,
 };
-use pg_ids::{PeerNo, Secret, ServerKey, SlotNo};
+use pg_ids::{AnyKey, Boot, ClientKey, Kind, LongPart, PeerNo, Secret, Serial, ServerKey, SlotNo};
+use startup::Packet;
 use std::alloc::{AllocError, Global};
 use std::test::Fail;
 
@@ -20,10 +21,14 @@ const KEPT: usize = 8;
 /// What is done at a node. A value is named by how many of its kind were handed out before it.
 #[derive(Clone, Copy, Debug, PartialEq, Eq)]
 pub(crate) enum Act {
-    /// With this secret.
+    /// With this secret, and a short key.
     Join(u32),
-    /// The same, whichever slot it gets.
+    /// With this secret, and a long key.
+    JoinLong(u32),
+    /// As `Join`, whichever slot it gets.
     Enter(u32),
+    /// As `JoinLong`, whichever slot it gets.
+    EnterLong(u32),
     Leave(usize),
     Acquire(usize),
     /// Over this stream, and with this key.
@@ -31,23 +36,45 @@ pub(crate) enum Act {
     UpFailed(usize),
     Release(usize),
     Close(usize),
+    /// With this short key.
     Cancel([u8; 8]),
-    /// That many cancel requests with one key, none of which ends.
+    /// With the long key that has these eight bytes, and this boot and serial behind them.
+    CancelLong([u8; 8], u64, u64),
+    /// With the key of this pass.
+    CancelOf(usize),
+    /// That many cancel requests with one short key, none of which ends.
     Cancels(u32, [u8; 8]),
     Ended(usize),
     Failed(usize),
-    Restart,
+    /// With this boot.
+    Restart(u64),
+}
+
+impl Act {
+    /// The same after these were made.
+    pub(crate) fn later(self, made: &Made) -> Act {
+        match self {
+            Act::Restart(boot) => Act::Restart(boot.saturating_add(made.boots)),
+            act => act,
+        }
+    }
 }
 
 /// What a node returned: of a value its key, its number or its link.
 #[derive(Clone, Copy, Debug, PartialEq, Eq)]
 pub(crate) enum Said {
     Key([u8; 8]),
+    /// The first eight bytes of a long key, its boot and its serial.
+    LongKey([u8; 8], u64, u64),
+    /// With a short key.
     Entered,
+    /// With a long key of this boot and this serial.
+    EnteredLong(u64, u64),
     Left,
     Open(u64),
     Link(u64),
     Waiting,
+    Cancelled,
     /// The link wasn't opened in time, and its stream is handed back.
     Stale(u32),
     UpFailed(UpFailedReply),
@@ -55,6 +82,11 @@ pub(crate) enum Said {
     Close(CloseReply<u32>),
     Serve(u64, [u8; 8]),
     Forward(u16, [u8; 16]),
+    ForwardLong(u16, [u8; 32]),
+    /// The client of this slot waits no longer.
+    Unwait(u16),
+    /// The client of the very pass whose key the request had waits no longer.
+    Unwaited,
     Served(u32),
     Ended(EndedReply),
     Failed(FailedReply<u32>),
@@ -63,27 +95,77 @@ pub(crate) enum Said {
 }
 
 impl Said {
-    /// The same as many rounds later, in each of which so many permits, links and tickets are made.
-    pub(crate) fn later(self, rounds: u64, made: Made) -> Said {
+    /// The same after these were made.
+    pub(crate) fn later(self, made: &Made) -> Said {
         match self {
-            Said::Open(number) => Said::Open(after(number, rounds, made.permits)),
-            Said::Link(number) => Said::Link(after(number, rounds, made.links)),
-            Said::Serve(number, key) => Said::Serve(after(number, rounds, made.tickets), key),
+            Said::EnteredLong(boot, serial) => {
+                // Serials begin anew with each boot.
+                let serials = if boot == 0 { made.serials } else { 0 };
+                Said::EnteredLong(
+                    boot.saturating_add(made.boots),
+                    serial.saturating_add(serials),
+                )
+            }
+            Said::Open(number) => Said::Open(number.saturating_add(made.permits)),
+            Said::Link(number) => Said::Link(number.saturating_add(made.links)),
+            Said::Serve(number, key) => Said::Serve(number.saturating_add(made.tickets), key),
+            said => said,
+        }
+    }
+
+    // What a login returned, whichever slot it got.
+    fn entered(self) -> Said {
+        match self {
+            Said::Key(_first) => Said::Entered,
+            Said::LongKey(_first, boot, serial) => Said::EnteredLong(boot, serial),
             said => said,
         }
     }
 }
 
-/// How many permits, links and tickets are made in one round of steps.
+/// What was made by some steps: how many new starts, long keys since the last of these, permits,
+/// links and tickets.
 #[derive(Clone, Copy, Debug)]
 pub(crate) struct Made {
+    pub(crate) boots: u64,
+    pub(crate) serials: u64,
     pub(crate) permits: u64,
     pub(crate) links: u64,
     pub(crate) tickets: u64,
 }
 
-fn after(number: u64, rounds: u64, each: u64) -> u64 {
-    number.saturating_add(rounds.saturating_mul(each))
+impl Made {
+    /// What was made after these too.
+    pub(crate) fn and(&self, next: &Made) -> Made {
+        let serials = if next.boots == 0 { self.serials } else { 0 };
+        Made {
+            boots: self.boots.saturating_add(next.boots),
+            serials: serials.saturating_add(next.serials),
+            permits: self.permits.saturating_add(next.permits),
+            links: self.links.saturating_add(next.links),
+            tickets: self.tickets.saturating_add(next.tickets),
+        }
+    }
+}
+
+fn key_said(key: AnyKey) -> Said {
+    let first = key.short().to_bytes();
+    match key.long_part() {
+        Some(part) => Said::LongKey(first, part.boot.get(), part.serial.get()),
+        None => Said::Key(first),
+    }
+}
+
+fn long_key(first: [u8; 8], boot: u64, serial: u64) -> AnyKey {
+    let part = LongPart::new(Boot(boot), Serial(serial));
+    AnyKey::new(ClientKey::from_bytes(first), Some(part))
+}
+
+fn forwarded(peer: PeerNo, packet: Packet) -> Said {
+    match packet {
+        Packet::Short(bytes) => Said::Forward(peer.get(), bytes),
+        Packet::Long(bytes) => Said::ForwardLong(peer.get(), bytes),
+    }
 }
 
 fn refused(refusal: StepRefusal) -> Said {
@@ -127,8 +209,8 @@ pub(crate) struct Desk {
 }
 
 impl Desk {
-    /// A node with this number, one peer at most, and one database. Room for what it hands out is
-    /// there before the node is made.
+    /// A node with this number, one peer at most, one database, and the boot 0. Room for what it
+    /// hands out is there before the node is made.
     pub(crate) fn new(
         alloc: Global,
         me: u16,
@@ -147,7 +229,7 @@ impl Desk {
         let links = Vec::with_capacity(alloc, KEPT)?;
         let tickets = Vec::with_capacity(alloc, KEPT)?;
         Ok(Desk {
-            core: NodeCore::new(alloc, &settings)?,
+            core: NodeCore::new(alloc, &settings, Boot(0))?,
             passes,
             permits,
             links,
@@ -176,19 +258,25 @@ impl Desk {
     /// Does this, and says what the node returned.
     pub(crate) fn act(&mut self, act: Act) -> Result<Said, Fail> {
         match act {
-            Act::Join(secret) => self.join(secret),
-            Act::Enter(secret) => self.enter(secret),
+            Act::Join(secret) => self.join(secret, Kind::Short),
+            Act::JoinLong(secret) => self.join(secret, Kind::Long),
+            Act::Enter(secret) => Ok(self.join(secret, Kind::Short)?.entered()),
+            Act::EnterLong(secret) => Ok(self.join(secret, Kind::Long)?.entered()),
             Act::Leave(pass) => self.leave(pass),
             Act::Acquire(pass) => self.acquire(pass),
             Act::Up(permit, stream, key) => self.up(permit, stream, key),
             Act::UpFailed(permit) => self.up_failed(permit),
             Act::Release(link) => self.release(link),
             Act::Close(link) => self.close(link),
-            Act::Cancel(key) => Ok(self.cancel(&key)?),
-            Act::Cancels(count, key) => Ok(self.cancels(count, &key)),
+            Act::Cancel(key) => Ok(self.cancel(AnyKey::from_short_bytes(key))?),
+            Act::CancelLong(first, boot, serial) => {
+                Ok(self.cancel(long_key(first, boot, serial))?)
+            }
+            Act::CancelOf(pass) => self.cancel_of(pass),
+            Act::Cancels(count, key) => Ok(self.cancels(count, &AnyKey::from_short_bytes(key))),
             Act::Ended(ticket) => self.ended(ticket),
             Act::Failed(ticket) => self.failed(ticket),
-            Act::Restart => Ok(Said::Restart(self.core.restart())),
+            Act::Restart(boot) => Ok(Said::Restart(self.core.restart(Boot(boot)))),
         }
     }
 
@@ -208,24 +296,17 @@ impl Desk {
         Ok(Ticket::new(self.tickets.get(number).copied().ok_or("no such ticket")?))
     }
 
-    fn join(&mut self, secret: u32) -> Result<Said, Fail> {
+    fn join(&mut self, secret: u32, kind: Kind) -> Result<Said, Fail> {
         if self.core.pool_sizes().is_empty() {
             return Err(Fail::from("no database"));
         }
-        match self.core.join(SHOP, Secret(secret)) {
+        match self.core.join(SHOP, Secret(secret), kind) {
             Ok(pass) => {
-                let said = Said::Key(pass.key().to_bytes());
+                let said = key_said(pass.key());
                 self.passes.push(pass.forfeit())?;
                 Ok(said)
             }
             Err(refusal) => Ok(Said::Refused(refusal.number())),
-        }
-    }
-
-    fn enter(&mut self, secret: u32) -> Result<Said, Fail> {
-        match self.join(secret)? {
-            Said::Key(_key) => Ok(Said::Entered),
-            said => Ok(said),
         }
     }
 
@@ -254,6 +335,7 @@ impl Desk {
                 Ok(said)
             }
             AcquireReply::Waiting => Ok(Said::Waiting),
+            AcquireReply::Cancelled => Ok(Said::Cancelled),
             AcquireReply::Holding => Ok(refused(StepRefusal::Holding)),
             AcquireReply::Exhausted => Ok(refused(StepRefusal::Exhausted)),
             AcquireReply::Stale => Ok(refused(StepRefusal::Stale)),
@@ -294,22 +376,33 @@ impl Desk {
         Ok(Said::Close(self.core.close(lease)))
     }
 
-    fn cancel(&mut self, key: &[u8; 8]) -> Result<Said, AllocError> {
+    fn cancel(&mut self, key: AnyKey) -> Result<Said, AllocError> {
         match self.core.cancel(key) {
             Order::Serve(ticket, _database, server_key) => {
                 let said = Said::Serve(ticket.details().number, server_key.0);
                 self.tickets.push(ticket.forfeit())?;
                 Ok(said)
             }
-            Order::Forward(peer, packet) => Ok(Said::Forward(peer.get(), packet)),
+            Order::Forward(peer, packet) => Ok(forwarded(peer, packet)),
+            Order::Unwait(slot) => Ok(Said::Unwait(slot.get())),
             Order::Refused(refusal) => Ok(Said::Refused(refusal.number())),
         }
     }
 
-    fn cancels(&mut self, count: u32, key: &[u8; 8]) -> Said {
+    fn cancel_of(&mut self, pass: usize) -> Result<Said, Fail> {
+        let pass = self.pass(pass)?.forfeit();
+        let said = self.cancel(pass.key)?;
+        if said == Said::Unwait(pass.key.slot().get()) {
+            Ok(Said::Unwaited)
+        } else {
+            Ok(said)
+        }
+    }
+
+    fn cancels(&mut self, count: u32, key: &AnyKey) -> Said {
         let mut served = 0u32;
         for _ in 0..count {
-            if let Order::Serve(ticket, _database, _key) = self.core.cancel(key) {
+            if let Order::Serve(ticket, _database, _key) = self.core.cancel(*key) {
                 let _details = ticket.forfeit();
                 served = served.saturating_add(1);
             }

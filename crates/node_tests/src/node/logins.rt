@@ -1,6 +1,7 @@
 //! Logins and leaves, and the passes of another node.
 use crate::node::desk::{Act, Desk, Said};
 use crate::node::{FIRST, run};
+use node_core::RestartReply;
 use std::test::Fail;
 
 const ONE_SLOT: &[(Act, Said)] = &[
@@ -13,6 +14,29 @@ const ONE_SLOT: &[(Act, Said)] = &[
     (Act::Acquire(1), Said::Open(0)),
 ];
 
+// The long keys of each boot have serials from 0. Short keys have none, and a refused login uses
+// none.
+const LONG_KEYS: &[(Act, Said)] = &[
+    (Act::JoinLong(1), Said::LongKey(FIRST, 0, 0)),
+    (Act::Leave(0), Said::Left),
+    (Act::JoinLong(1), Said::LongKey(FIRST, 0, 1)),
+    (Act::Restart(1), Said::Restart(RestartReply::Restarted)),
+    (Act::JoinLong(1), Said::LongKey(FIRST, 1, 0)),
+    (Act::Join(1), Said::Refused(30)),
+    (Act::JoinLong(1), Said::Refused(30)),
+    (Act::Cancel(FIRST), Said::Refused(61)),
+    (Act::CancelLong(FIRST, 0, 0), Said::Refused(61)),
+    (Act::CancelLong(FIRST, 0, 1), Said::Refused(61)),
+    (Act::CancelLong(FIRST, 1, 0), Said::Refused(63)),
+    (Act::Leave(2), Said::Left),
+    (Act::Join(1), Said::Key(FIRST)),
+    (Act::CancelLong(FIRST, 1, 0), Said::Refused(61)),
+    (Act::Leave(3), Said::Left),
+    (Act::JoinLong(1), Said::LongKey(FIRST, 1, 1)),
+    (Act::Restart(7), Said::Restart(RestartReply::Restarted)),
+    (Act::JoinLong(1), Said::LongKey(FIRST, 7, 0)),
+];
+
 const ONE_CLIENT: &[(Act, Said)] = &[(Act::Join(1), Said::Key(FIRST))];
 
 const OF_ANOTHER_NODE: &[(Act, Said)] = &[
@@ -23,6 +47,11 @@ const OF_ANOTHER_NODE: &[(Act, Said)] = &[
 #[test]
 fn slots(rt: HostRuntime) -> Result<(), Fail> {
     run(&rt, &mut Desk::new(rt.alloc(), 2, None, 1, 1)?, ONE_SLOT)
+}
+
+#[test]
+fn long_keys(rt: HostRuntime) -> Result<(), Fail> {
+    run(&rt, &mut Desk::new(rt.alloc(), 2, None, 1, 1)?, LONG_KEYS)
 }
 
 #[test]

@@ -1,7 +1,7 @@
 //! What a node has of its settings.
 use ini_config::{Settings, read_settings};
 use node_core::NodeCore;
-use pg_ids::{PeerNo, SlotNo};
+use pg_ids::{Boot, PeerNo, SlotNo};
 use std::alloc::Global;
 use std::test::Fail;
 
@@ -18,13 +18,14 @@ fn settings(alloc: Global) -> Result<Settings, Fail> {
 #[test]
 fn a_node_of_a_file(rt: HostRuntime) -> Result<(), Fail> {
     let settings = settings(rt.alloc())?;
-    let core = NodeCore::<u32>::new(rt.alloc(), &settings)?;
+    let core = NodeCore::<u32>::new(rt.alloc(), &settings, Boot(3))?;
     assert_eq!(rt; core.me().get(), 1);
     let three = PeerNo::new(3).ok_or("no peer 3")?;
     let two = PeerNo::new(2).ok_or("no peer 2")?;
     assert_eq!(rt; core.peers(), [three, two].as_slice());
     assert_eq!(rt; core.pool_sizes(), [2, 20].as_slice());
     assert_eq!(rt; core.incarnation(), 0);
+    assert_eq!(rt; core.boot(), Boot(3));
     assert_eq!(rt; core.next_slot(), Some(SlotNo(0)));
     assert_eq!(rt; core.client(SlotNo(0)), None);
     assert_eq!(rt; core.links().incarnation(), 0);

@@ -31,17 +31,20 @@ Examples:
 const KEY: &str = "\
 Print the parts of a cancel key
 
-Usage: pgpeer key <HEX16>
+Usage: pgpeer key <HEX16|HEX48>
 
 Arguments:
-  <HEX16>  The key's eight bytes, in 16 hexadecimal digits
+  <HEX16|HEX48>  The key's eight bytes in 16 hexadecimal digits, or a long key's 24 in 48
 
 Options:
   -h, --help  Print help
 
-Example:
+Examples:
   $ pgpeer key 0008000000000007
   peer 2 slot 0 secret 1 hops 3
+
+  $ pgpeer key 000800000000000700000000000000010000000000000004
+  peer 2 slot 0 secret 1 hops 3 boot 1 serial 4
 ";
 
 const DECIDE: &str = "\
@@ -50,7 +53,7 @@ Print what a pooler does with a cancel request
 Usage: pgpeer decide --me <N> [--peers <P,P..>] [--live <C,C..>] <HEX>
 
 Arguments:
-  <HEX>  The first packet of a connection, in hexadecimal digits
+  <HEX>  A connection's first packet, in hexadecimal digits; a cancel request has 16 or 32 bytes
 
 Options:
       --me <N>         The pooler's own number, 0 to 16383
@@ -62,7 +65,7 @@ Options:
 
 Output, one of:
   serve KEYHEX     the client's server is asked to cancel, by this key
-  forward P HEX32  the request goes on to peer P, as these 16 bytes
+  forward P HEX    the request goes on to peer P, as these 16 or 32 bytes
   refused 60       the request may pass through no more poolers
   refused 61       no client has the key's slot and secret
   refused 62       the key's pooler is no peer

@@ -3,7 +3,7 @@ use super::expect_lines;
 use std::test::Fail;
 
 // The arguments, and the order.
-const ORDERS: [(&str, &str); 33] = [
+const ORDERS: [(&str, &str); 40] = [
     // None of its clients holds a link.
     (
         "decide --me 1 --peers 2 0000001004d2162e0008000000000007",
@@ -118,6 +118,37 @@ const ORDERS: [(&str, &str); 33] = [
     (
         "decide --me 2 --live 1:1112131415161718,5 0000001004d2162e0008000400000017",
         "refused 63\n",
+    ),
+    // A long key: it goes on whole, and no short key's client is found by it.
+    (
+        "decide --me 1 --peers 2 0000002004d2162e000800000000000700000000000000000000000000000000",
+        "forward 2 0000002004d2162e000800000000000600000000000000000000000000000000\n",
+    ),
+    (
+        "decide --me 1 --peers 2 0000002004d2162e000bffffffffffffffffffffffffffff0000000000000004",
+        "forward 2 0000002004d2162e000bfffffffffffeffffffffffffffff0000000000000004\n",
+    ),
+    (
+        "decide --me 1 0000002004d2162e000800000000000700000000000000000000000000000000",
+        "refused 62\n",
+    ),
+    (
+        "decide --me 1 --peers 2 0000002004d2162e000800000000000500000000000000000000000000000000",
+        "refused 60\n",
+    ),
+    (
+        "decide --me 2 --live 1 0000002004d2162e000800000000000700000000000000000000000000000000",
+        "refused 61\n",
+    ),
+    (
+        "decide --me 2 --live 1:1112131415161718 \
+         0000002004d2162e000800000000000700000000000000000000000000000000",
+        "refused 61\n",
+    ),
+    (
+        "decide --me 2 --live 1:1112131415161718 \
+         0000002004d2162e000800000000000400000000000000000000000000000000",
+        "refused 60\n",
     ),
     // Options in other orders and forms.
     (

@@ -3,7 +3,7 @@ use super::{expect_answer, expect_line};
 use std::test::Fail;
 
 // The packet, and what is written to standard error.
-const PACKETS: [(&str, &str); 10] = [
+const PACKETS: [(&str, &str); 16] = [
     ("", "packet 8\n"),
     ("0000001004d2162e00080000000000", "packet 8\n"),
     ("0000001104d2162e000800000000000700", "packet 6\n"),
@@ -14,6 +14,19 @@ const PACKETS: [(&str, &str); 10] = [
     ("0000000804d21630", "not a cancel\n"),
     ("0000000804d2162fff", "not a cancel\n"),
     ("00000010000300007573657200610000", "not a cancel\n"),
+    // Those of protocol 3.2, and of long keys.
+    ("00000010000300027573657200610000", "not a cancel\n"),
+    ("0000000900030003", "packet 3\n"),
+    (
+        "0000001804d2162e00080000000000070000000000000000",
+        "packet 6\n",
+    ),
+    ("0000002104d2162e0008000000000007", "packet 6\n"),
+    ("0000002004d2162e0008000000000007", "packet 8\n"),
+    (
+        "0000002004d2162e0008000000000007000000000000000000000000000000",
+        "packet 8\n",
+    ),
 ];
 
 #[test]

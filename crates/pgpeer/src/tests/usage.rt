@@ -54,7 +54,7 @@ fn refused(rt: HostRuntime) -> Result<(), Fail> {
 
 // The arguments, those that are missing, and the usage.
 const MISSING_ARGUMENTS: [(&str, &str, &str); 5] = [
-    ("key", "<HEX16>", KEY),
+    ("key", "<HEX16|HEX48>", KEY),
     ("check", "<FILE>...", CHECK),
     ("decide", "--me <N>\n  <HEX>", DECIDE),
     ("decide 00", "--me <N>", DECIDE),

@@ -3,20 +3,24 @@ use super::{DECIDE, KEY, ONE, expect_refused};
 use std::test::Fail;
 
 // The digits, and how many characters they are.
-const KEYS: [(&str, &str); 4] = [
+const KEYS: [(&str, &str); 8] = [
     ("000800000000000", "15"),
     ("00080000000000070", "17"),
     ("000800000000000g", "16"),
+    ("00080000000000070000000000000001", "32"),
+    ("00080000000000070000000000000001000000000000000", "47"),
+    ("00080000000000070000000000000001000000000000000g", "48"),
+    ("0008000000000007000000000000000100000000000000000", "49"),
     ("", "0"),
 ];
 
-const SIXTEEN: &str = "expected 16 hexadecimal digits";
+const DIGITS: &str = "expected 16 or 48 hexadecimal digits";
 
 #[test]
 fn keys(rt: HostRuntime) -> Result<(), Fail> {
     for (digits, count) in KEYS {
         let line = format!(in rt.alloc();
-            "invalid value '{digits}' for '<HEX16>': {SIXTEEN}, found {count} characters"
+            "invalid value '{digits}' for '<HEX16|HEX48>': {DIGITS}, found {count} characters"
         )?;
         expect_refused(&rt, &["key", digits], line.as_str(), KEY)?;
     }
@@ -115,7 +119,37 @@ fn packets(rt: HostRuntime) -> Result<(), Fail> {
         )?;
         expect_refused(&rt, &["decide", "--me", "1", packet], line.as_str(), DECIDE)?;
     }
-    let longer = "invalid value for '<HEX>': 1 bytes follow the CancelRequest, which has 16";
-    let packet = "0000001004d2162e000800000000000700";
-    expect_refused(&rt, &["decide", "--me", "1", packet], longer, DECIDE)
+    Ok(())
+}
+
+// The packet, how many bytes follow its CancelRequest, and how many that has.
+const LONGER: [(&str, &str, &str); 4] = [
+    ("0000001004d2162e000800000000000700", "1", "16"),
+    (
+        "0000001004d2162e000800000000000700000000000000000000000000000000",
+        "16",
+        "16",
+    ),
+    (
+        "0000002004d2162e00080000000000070000000000000000000000000000000000",
+        "1",
+        "32",
+    ),
+    (
+        "0000002004d2162e000800000000000700000000000000000000000000000000\
+         0000001004d2162e0008000000000007",
+        "16",
+        "32",
+    ),
+];
+
+#[test]
+fn longer_packets(rt: HostRuntime) -> Result<(), Fail> {
+    for (packet, more, length) in LONGER {
+        let line = format!(in rt.alloc();
+            "invalid value for '<HEX>': {more} bytes follow the CancelRequest, which has {length}"
+        )?;
+        expect_refused(&rt, &["decide", "--me", "1", packet], line.as_str(), DECIDE)?;
+    }
+    Ok(())
 }

@@ -23,6 +23,6 @@ returns g c =
     let cost = c.in_ok-all_come.ensures.allowance in
     let left : 0 < joined.allowance = omega (arith, before, cost) in
     rw c.apart-order.ensures
-    (orders_by c.args.clients.now c.args.key.now c.cancel.result c.args.caller.now joined
+    (orders_by c.args.clients.now c.args.key c.cancel.result c.args.caller.now joined
     c.cancel.new.caller c.hand_back.new.caller c.in_ok-all_come.ensures.came
     (c.cancel.ensures.counted.made left) c.in_ok-hand_back.ensures.handed)

@@ -7,7 +7,7 @@ returns-in-Ok g c =
     let made = c.in_ok-shared.ensures in
     may_order (journal_view c.args.journal) c.in_ok-shared.caller c.order_behind-order.new.caller
     (journal_view c.into_journal.result) made.start made.allowance made.totals.all made.none
-    c.into_journal.ensures.whole c.args.clients.now c.args.key.now c.in-Ok.order c.in-Ok.ensures
+    c.into_journal.ensures.whole c.args.clients.now c.args.key c.in-Ok.order c.in-Ok.ensures
 
 pub returns-in-Err : goal.returns-in-Err
 returns-in-Err g c =

@@ -1,20 +1,15 @@
-use Rattle.std.proofs.Common.{rules, ◌≡◌, subst, sym, arith, None, replicate, vec_len}
-use Rattle.key_table.specs.FreeList.{IsFreeList}
-use Rattle.key_table.proofs.FreeLists.{next_of}
+use Rattle.std.proofs.Common.{ℕ, ◌≡◌, Option, None, replicate, ap, ◌∙◌, arith, rules}
+use Rattle.key_table.specs.Live.{IsTable}
+use Rattle.key_table.specs.declared.entry.Entry.{Entry}
+use Rattle.key_table.proofs.Tables.{all_free, is_next}
 use Rattle.key_table.proofs.key_table.KeyTable.new.Goals as goal
 
--- the list is the new table's
-keeps : (c : goal.After-list_all) → IsFreeList c.in_ok-secrets.secrets.items c.list_all.new.free.items
-keeps c =
-    let made : c.in_ok-secrets.secrets.items ≡ replicate c.args.limit None = search rules in
-    subst (λ secrets. IsFreeList secrets c.list_all.new.free.items) (sym made) c.list_all.ensures.listed
-
-pub invariant_of-result : goal.invariant_of-result
-invariant_of-result c =
-    let made : vec_len c.in_ok-secrets.secrets ≡ c.args.limit = search rules in
-    let capacity = c.list_all.ensures.capacity in
-    let room = c.in_ok-free.ensures.capacity in
-    (omega arith, omega (arith, capacity, room), keeps c)
+pub returns-clause-free : goal.returns-clause-free
+returns-clause-free c =
+    let size : c.in_ok-live.live.capacity ≡ c.args.limit = omega (arith, c.capacity.ensures.value) in
+    all_free c.in_ok-live.live c.in_ok-live.ensures.empty ∙ ap (λ (n : ℕ). replicate {A = Option Entry} n None) size
 
 pub returns-clause-next : goal.returns-clause-next
-returns-clause-next c = next_of c.in_ok-secrets.secrets.items c.list_all.new.free.items (keeps c)
+returns-clause-next c =
+    let table : IsTable c.in_ok-live.live = search rules in
+    is_next c.in_ok-live.live table

@@ -1,32 +1,19 @@
-use Rattle.std.proofs.Common.{rules, ◌≡◌, subst, sym, length, arith, None, vec_len, slice_set}
-use Rattle.key_table.specs.Slots.{IsLive}
-use Rattle.key_table.specs.FreeList.{IsFreeList}
-use Rattle.key_table.proofs.FreeLists.{after_retire, next_of, some_live}
+use Rattle.std.proofs.Common.{Some, None, is_some, refl, ap, rules}
+use Rattle.key_table.specs.Live.{IsTable}
+use Rattle.key_table.proofs.Tables.{slab_at, written, is_next}
 use Rattle.key_table.proofs.key_table.KeyTable.retire.Goals as goal
 
-pub push_reserved-requires : goal.push_reserved-requires
-push_reserved-requires c =
-    let live = subst (λ t. IsLive t c.args.slot) (sym c.self.view_is) c.requires in
-    let counted = c.self.invariant.2.counted in
-    let room = c.self.invariant.1 in
-    let few = some_live c.self.inside.secrets.items c.args.slot live.0 live.1 in
-    let free_len : vec_len c.self.inside.free ≡ length c.self.inside.free.items = search rules in
-    let len : vec_len c.self.inside.secrets ≡ length c.self.inside.secrets.items = search rules in
-    omega (arith, counted, room, few, free_len, len)
+pub remove-requires : goal.remove-requires
+remove-requires c =
+    let live = rw (← c.self.view_is) at c.requires in
+    rw c.get.ensures (ap is_some (slab_at c.self.inside.live c.args.slot (Some live.0) live.1))
 
--- the freed slot is listed
-keeps : (c : goal.After-push_reserved) → IsFreeList (slice_set c.self.inside.secrets.items c.get.result None) c.push_reserved.new.self.items
-keeps c =
-    let live = subst (λ t. IsLive t c.args.slot) (sym c.self.view_is) c.requires in
-    let after = after_retire c.self.inside.secrets.items c.self.inside.free.items c.args.slot live.0 live.1 c.self.invariant.2 in
-    rw (c.get.ensures, c.push_reserved.ensures.items) after
-
-pub invariant_of-self : goal.invariant_of-self
-invariant_of-self c =
-    let within = c.self.invariant.0 in
-    let room = c.self.invariant.1 in
-    let capacity = c.push_reserved.ensures.capacity in
-    (omega arith, omega (arith, room, capacity), keeps c)
+pub returns-clause-freed : goal.returns-clause-freed
+returns-clause-freed c =
+    let is = c.remove.ensures in
+    rw (← c.self.view_is, ← c.get.ensures) (record { entries = written c.self.inside.live c.remove.new.self c.get.result None is.updates is.capacity; peer = refl })
 
 pub returns-clause-next : goal.returns-clause-next
-returns-clause-next c = next_of (slice_set c.self.inside.secrets.items c.get.result None) c.push_reserved.new.self.items (keeps c)
+returns-clause-next c =
+    let table : IsTable c.remove.new.self = search rules in
+    is_next c.remove.new.self table

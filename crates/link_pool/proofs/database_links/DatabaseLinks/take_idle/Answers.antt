@@ -2,8 +2,8 @@ use Rattle.std.proofs.Common.{rules, ◌≡◌, ℕ, false, length, slice_get, v
 use Rattle.std.proofs.lemmas.Option.{slice_get_within, same_Some}
 use Rattle.link_pool.specs.declared.entry.Entry.TheVariants as entry
 use Rattle.link_pool.specs.PoolStep.{new_hold}
-use Rattle.link_pool.specs.Entries.{idle_entry}
-use Rattle.link_pool.proofs.Stacking.{last_of, none_listed, popped, below}
+use Rattle.link_pool.specs.Entries.{idle_entry, free_entry}
+use Rattle.link_pool.proofs.Stacking.{last_of, none_listed, popped, relisted}
 use Rattle.link_pool.proofs.Changes.{was_read}
 use Rattle.link_pool.proofs.Entries.{idle_one}
 use Rattle.link_pool.proofs.database_links.DatabaseLinks.take_idle.Goals as goal
@@ -34,7 +34,8 @@ invariant_of-self-2 g c =
       c.self.invariant.0,
       omega (arith, room, capacity),
       popped idle_entry entries c.self.inside.idle.items c.pop.new.self.items index (entry.Idle top.link top.key) (entry.Held top.link.details top.key new_hold c.args.slot) c.in-Some.ensures.items top.is refl c.self.invariant.2,
-      below entries index c.self.inside.lowest c.self.inside.lowest (entry.Held top.link.details top.key new_hold c.args.slot) within (omega arith) (λ e. absurd (cc)) c.self.invariant.3,
+      c.self.invariant.3,
+      relisted free_entry entries c.self.inside.free.items index (entry.Idle top.link top.key) (entry.Held top.link.details top.key new_hold c.args.slot) top.is refl c.self.invariant.4,
     )
 
 pub returns : goal.returns

@@ -1,7 +1,6 @@
-use Rattle.std.proofs.Common.{◌≡◌, sym, subst, ap, ◌∙◌}
+use Rattle.std.proofs.Common.{◌≡◌, refl, sym, subst, ap, ◌∙◌}
 use Rattle.link_pool.specs.declared.place.Place.TheVariants as place
-use Rattle.link_pool.specs.declared.place.LinkState.TheVariants as state
-use Rattle.link_pool.specs.Pool.{give_back}
+use Rattle.link_pool.specs.Pool.{give_back, quarantine}
 use Rattle.link_pool.specs.OnePlace.{IsPool}
 use Rattle.link_pool.proofs.Handing.{of_held, vacated, rested, quarantined, idle_of}
 use Rattle.link_pool.proofs.Settling.{clear_at, waiting_at}
@@ -30,7 +29,7 @@ change-requires-in-Waiting-clause-whole g c =
     let link = c.in-Some.field-0.link in
     let waits = waiting_at link.hold.tickets c.in-Waiting.field-0 link.hold.condemned (sym c.in-Waiting.ensures.state) in
     let says : link.details ≡ c.quarantine.result.details = c.in-Some.ensures.held.says ∙ c.details-details.ensures ∙ ap (λ l. l.details) (sym c.quarantine.ensures) in
-    subst (λ d. IsPool (give_back v c.details-details.result.at c.in-Some.field-0.slot (place.Link (record { details = d; key = link.key; state = state.Quarantined; hold = link.hold })))) says
+    subst (λ d. IsPool (quarantine v c.details-details.result.at c.in-Some.field-0.slot (record { details = d; key = link.key; state = link.state; hold = link.hold }))) says
     (quarantined v c.details-details.result link c.in-Some.field-0.slot c.held.ensures.whole c.in-Some.ensures.held waits)
 
 pub change-requires-in-Condemned-clause-slot : goal.change-requires-in-Condemned-clause-slot
@@ -39,4 +38,4 @@ change-requires-in-Condemned-clause-slot g c =
 
 pub change-requires-in-Condemned-clause-whole : goal.change-requires-in-Condemned-clause-whole
 change-requires-in-Condemned-clause-whole g c =
-    vacated c.args.self.now.view c.details-details.result.at c.in-Some.field-0.slot c.held.ensures.whole (of_held c.args.self.now.view c.details-details.result c.in-Some.field-0.link c.in-Some.field-0.slot c.held.ensures.whole c.in-Some.ensures.held)
+    vacated c.args.self.now.view c.details-details.result.at c.in-Some.field-0.slot c.held.ensures.whole (of_held c.args.self.now.view c.details-details.result c.in-Some.field-0.link c.in-Some.field-0.slot c.held.ensures.whole c.in-Some.ensures.held) refl

@@ -1,4 +1,4 @@
-use Rattle.std.proofs.Common.{◌≡◌, ◌<◌, false, None, length, slice_get, sym, ap, subst, ◌∙◌, arith, refl, length-set}
+use Rattle.std.proofs.Common.{◌≡◌, ◌<◌, true, None, length, slice_get, sym, ap, subst, ◌∙◌, arith, refl, length-set}
 use Rattle.lease.specs.declared.link_place.LinkPlace.{LinkPlace}
 use Rattle.lease.specs.declared.link_record.LinkRecord.{LinkRecord}
 use Rattle.link_pool.specs.declared.entry.Entry.TheVariants as entry
@@ -9,7 +9,7 @@ use Rattle.link_pool.specs.declared.place.Claim.TheVariants as claim
 use Rattle.slot_queues.specs.Queues.{Queues}
 use Rattle.link_pool.specs.Pool.{PoolView, place_at, unqueued, in_state, lend}
 use Rattle.link_pool.specs.PoolOf.{pool_of}
-use Rattle.link_pool.specs.PoolStep.{new_hold, nth_of, is_holding, NoIdle}
+use Rattle.link_pool.specs.PoolStep.{new_hold, nth_of, may_ask, NoIdle}
 use Rattle.link_pool.specs.OnePlace.{IsPool}
 use Rattle.link_pool.proofs.Asking.{place_unqueued, nothing_unqueued, whole_unqueued, served}
 use Rattle.link_pool.proofs.Entries.{read_pool, seen, not_idle_at, entry_in, wrote_place, wrote_stream, moves}
@@ -42,7 +42,7 @@ invariant_of-self-2 g c =
     let link : Link = record { details = lease.details; key = taken.key; state = state.Idle; hold = new_hold } in
     let was = seen pools at c.index_mut-pool.result.now (entry.Idle lease taken.key) there taken.was in
     let said : c.details.result.at ≡ at = ap (λ (r : LinkRecord). r.at) c.details.ensures ∙ its_place v at link c.self.invariant.0 was in
-    let free : is_holding (slice_get v.claims slot) ≡ false = subst (λ w. is_holding (slice_get w.view.claims slot) ≡ false) (sym c.self.view_is) c.requires.free in
+    let free : may_ask (slice_get v.claims slot) ≡ true = subst (λ w. may_ask (slice_get w.view.claims slot) ≡ true) (sym c.self.view_is) c.requires.free in
     let some : slot < length v.claims = subst (λ w. slot < length w.view.claims) (sym c.self.view_is) c.requires.slot in
     let both = wrote_place pools at c.get.result c.index_mut-pool.result.now c.take_idle.new.self (entry.Held lease.details taken.key new_hold slot) c.get.ensures there taken.after in
     let after = served v at (place.Link (in_state (state.Held slot) link)) slot (claim.Link at) c.self.invariant.0 free some in
@@ -62,7 +62,7 @@ returns g c =
     let was = seen pools at c.index_mut-pool.result.now (entry.Idle lease taken.key) there taken.was in
     let place_is = its_place v at link c.self.invariant.0 was in
     let said : c.details.result.at ≡ at = ap (λ (r : LinkRecord). r.at) c.details.ensures ∙ place_is in
-    let free : is_holding (slice_get v.claims slot) ≡ false = subst (λ w. is_holding (slice_get w.view.claims slot) ≡ false) (sym c.self.view_is) c.requires.free in
+    let free : may_ask (slice_get v.claims slot) ≡ true = subst (λ w. may_ask (slice_get w.view.claims slot) ≡ true) (sym c.self.view_is) c.requires.free in
     let some : slot < length v.claims = subst (λ w. slot < length w.view.claims) (sym c.self.view_is) c.requires.slot in
     let both = wrote_place pools at c.get.result c.index_mut-pool.result.now c.take_idle.new.self (entry.Held lease.details taken.key new_hold slot) c.get.ensures there taken.after in
     let after = served v at (place.Link (in_state (state.Held slot) link)) slot (claim.Link at) c.self.invariant.0 free some in

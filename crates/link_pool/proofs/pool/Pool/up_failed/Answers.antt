@@ -1,3 +1,4 @@
+use Rattle.std.proofs.Common.{refl}
 use Rattle.link_pool.proofs.Handing.{of_open, vacated}
 use Rattle.link_pool.proofs.pool.Pool.up_failed.Goals as goal
 
@@ -7,4 +8,4 @@ change-requires-clause-slot g c =
 
 pub change-requires-clause-whole : goal.change-requires-clause-whole
 change-requires-clause-whole g c =
-    vacated c.args.self.now.view c.spend-permit.result.at c.in-Some.slot c.opener.ensures.whole (of_open c.args.self.now.view c.spend-permit.result c.in-Some.slot c.opener.ensures.whole c.in-Some.ensures.kept)
+    vacated c.args.self.now.view c.spend-permit.result.at c.in-Some.slot c.opener.ensures.whole (of_open c.args.self.now.view c.spend-permit.result c.in-Some.slot c.opener.ensures.whole c.in-Some.ensures.kept) refl

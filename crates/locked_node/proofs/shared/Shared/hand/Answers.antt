@@ -1,4 +1,4 @@
-use Rattle.std.proofs.Common.{sym, ◌∙◌, arith}
+use Rattle.std.proofs.Common.{sym, ◌∙◌}
 use Rattle.locked_node.proofs.Locking.{lock_splits}
 use Rattle.locked_node.proofs.shared.Shared.hand.Goals as goal
 

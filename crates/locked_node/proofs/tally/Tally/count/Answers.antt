@@ -5,6 +5,6 @@ use Rattle.locked_node.proofs.tally.Tally.count.Goals as goal
 
 pub returns : goal.returns
 returns c =
-    let long : length c.args.self.now.rows ≡ 46 = search rules in
+    let long : length c.args.self.now.rows ≡ 96 = search rules in
     counts_row c.args.self.now.rows c.index.result _ c.args.call.now (omega arith)
     (c.index.ensures.value ∙ ap index_of c.of-kind.ensures) c.count.ensures.calls c.count.ensures.sums

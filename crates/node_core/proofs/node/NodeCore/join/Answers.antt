@@ -8,7 +8,7 @@ pub index_mut-requires : goal.index_mut-requires
 index_mut-requires g c =
     let node = (node_of c.self.inside).view in
     let slot = c.in-Some.slot in
-    let nobody = free_client node.keys.secrets node.clients slot c.self.invariant.live
+    let nobody = free_client node.keys.entries node.clients slot c.self.invariant.live
     c.in-Some.ensures.free in
     let within = slice_get_within node.clients slot None nobody in
     let len : vec_len c.self.inside.clients ≡ length c.self.inside.clients.items = search rules in
@@ -21,5 +21,6 @@ invariant_of-self-2 g c =
     let given = c.in-Some-give.ensures.given in
     let key = c.in-Ok.ensures in
     let known = rw (← c.self.view_is) at c.requires in
-    rw c.get.ensures (joined_view _ _ _ _ _ _ _ c.self.invariant next.free (sym next.value)
-    key.issued key.next known given.0 given.2 (omega (arith, given)))
+    let serial = c.advance.ensures.within c.self.invariant.numbers.1 in
+    rw c.get.ensures (joined_view _ _ _ _ _ _ _ _ _ c.self.invariant next.free (sym next.value)
+    key.issued key.next known given.0 given.2 (omega (arith, given), serial))

@@ -1,6 +1,8 @@
-use Rattle.std.proofs.Common.{arith, ◌≡◌, ◌∙◌, Some, None, Ok, Option, refl, inl, inr, sym, subst}
+use Rattle.std.proofs.Common.{arith, ℕ, ◌≡◌, ◌≢◌, ◌∙◌, Some, None, Ok, Option, refl, inl, inr, sym, subst}
 use Rattle.std.proofs.lemmas.Result.{err_from_is_err_and}
-use Rattle.startup.specs.Packet.{ssl_code, gss_code}
+use Rattle.pg_ids.specs.declared.any_key.Kind.{Kind}
+use Rattle.pg_ids.specs.declared.any_key.Kind.TheVariants.{Short, Long}
+use Rattle.startup.specs.Packet.{startup_code, ssl_code, gss_code}
 use Rattle.startup.specs.FirstPacket.{Answers, HasHeader, code_of, length_of}
 use Rattle.startup.specs.Header.{IsHeaderRead}
 use Rattle.startup.specs.declared.first.First.TheVariants.{Ssl, Gss}
@@ -42,8 +44,13 @@ returns-in-80877104 c =
     let code : code_of c.args.so_far.now ≡ gss_code = sym read.2 ∙ c.in-80877104.is in
     subst (λ seen. Answers seen c.args.so_far.now c.args.at_end c.read_negotiation-in-80877104.result) c.self.view_is (negotiated c.self.inside.gss _ c.args.so_far.now c.args.at_end c.in-Some.header.length Gss c.read_negotiation-in-80877104.result (read.0, inr (code, refl)) read.1 (λ first eight. (first, begins_alone c.args.so_far.now gss_code (bytes (goal.at.returns-in-80877104 c).In-Some) read.0 code eight)) c.read_negotiation-in-80877104.ensures)
 
+-- no StartupMessage of either kind
+no_kind : (code : ℕ) → code ≢ startup_code Short → code ≢ startup_code Long → (kind : Kind) → code ≢ startup_code kind
+no_kind code short long Short = short
+no_kind code short long Long = long
+
 pub returns-in_default-code : goal.returns-in_default-code
 returns-in_default-code c =
     let read = header (goal.at.returns-in_default-code c).In-Some in
     let other = c.in_default-code in
-    refused c.args.self.now c.args.so_far.now c.args.at_end BadVersion (read.0, omega (arith, read.2), omega (arith, read.2), omega (arith, read.2), omega (arith, read.2))
+    refused c.args.self.now c.args.so_far.now c.args.at_end BadVersion (read.0, no_kind (code_of c.args.so_far.now) (omega (arith, read.2)) (omega (arith, read.2)), omega (arith, read.2), omega (arith, read.2), omega (arith, read.2))

@@ -1,0 +1,6 @@
+use Rattle.std.proofs.Common.{◌≡◌}
+use Rattle.lock_tests.proofs.turns.start_anew.Given as goal
+
+-- the caller is of the same lock
+abbrev pub invariant-loop : goal.invariant-loop
+invariant-loop g l = (l.caller.lock ≡ l.fn.caller.lock) × (l.caller.start ≡ l.fn.caller.start)

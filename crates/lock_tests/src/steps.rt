@@ -1,0 +1,175 @@
+//! Steps for the tests, through a lock: what each hands out, or that it was another answer.
+ghost use Rattle.std.specs.Prelude.{◌≡◌, ◌<◌, length, IfOk};
+
+use crate::nodes::{BOOT, Caller, Journal, Shared, Stream, left, ordered};
+use ini_config::Settings;
+use node_core::{
+    AcquireReply, DatabaseNo, Lease, LeaveReply, NodeCore, Order, Pass, Permit, Ticket, UpReply,
+};
+use pg_ids::{Kind, PeerNo, Secret, ServerKey};
+use std::alloc::Global;
+use std::sync::Wait;
+use std::test::Fail;
+
+const SHOP: DatabaseNo = DatabaseNo(0);
+
+// Another answer than the one that is waited for.
+#[derive(Clone, Copy, Debug, PartialEq, Eq)]
+pub(crate) struct Other;
+
+// Node 2 with one link for two slots, and no peer.
+pub(crate) fn one_link(alloc: Global) -> Result<Journal, Fail>
+    ensures { IfOk result (λ journal. 0 < length journal.view.pools) }
+{
+    let me = PeerNo::new(2).ok_or("no such peer")?;
+    let settings = Settings::plain(alloc, me, Vec::new(alloc), 1, 2)?;
+    let core = NodeCore::new(alloc, &settings, BOOT)?;
+    Ok(Journal::new(alloc, core)?)
+}
+
+pub(crate) fn opened(reply: AcquireReply<Lease<Stream>, Permit>) -> Result<Permit, Other> {
+    match reply {
+        AcquireReply::Open(permit) => Ok(permit),
+        AcquireReply::Got(lease) => {
+            let _stream = lease.forfeit();
+            Err(Other)
+        }
+        AcquireReply::Waiting
+        | AcquireReply::Cancelled
+        | AcquireReply::Holding
+        | AcquireReply::Exhausted
+        | AcquireReply::Stale => Err(Other),
+    }
+}
+
+pub(crate) fn got(reply: AcquireReply<Lease<Stream>, Permit>) -> Result<Lease<Stream>, Other> {
+    match reply {
+        AcquireReply::Got(lease) => Ok(lease),
+        AcquireReply::Open(permit) => {
+            let _details = permit.forfeit();
+            Err(Other)
+        }
+        AcquireReply::Waiting
+        | AcquireReply::Cancelled
+        | AcquireReply::Holding
+        | AcquireReply::Exhausted
+        | AcquireReply::Stale => Err(Other),
+    }
+}
+
+// Whether the client was to wait for a link.
+pub(crate) fn waits(reply: AcquireReply<Lease<Stream>, Permit>) -> bool {
+    match reply {
+        AcquireReply::Waiting => true,
+        AcquireReply::Got(lease) => {
+            let _stream = lease.forfeit();
+            false
+        }
+        AcquireReply::Open(permit) => {
+            let _details = permit.forfeit();
+            false
+        }
+        AcquireReply::Cancelled
+        | AcquireReply::Holding
+        | AcquireReply::Exhausted
+        | AcquireReply::Stale => false,
+    }
+}
+
+// Whether the client was told that its wait was cancelled.
+pub(crate) fn is_cancelled(reply: AcquireReply<Lease<Stream>, Permit>) -> bool {
+    match reply {
+        AcquireReply::Cancelled => true,
+        AcquireReply::Got(lease) => {
+            let _stream = lease.forfeit();
+            false
+        }
+        AcquireReply::Open(permit) => {
+            let _details = permit.forfeit();
+            false
+        }
+        AcquireReply::Waiting
+        | AcquireReply::Holding
+        | AcquireReply::Exhausted
+        | AcquireReply::Stale => false,
+    }
+}
+
+// The pass of a client that stays.
+pub(crate) fn stayed(reply: LeaveReply<Pass>) -> Result<Pass, Other> {
+    match reply {
+        LeaveReply::Holding(pass) => Ok(pass),
+        LeaveReply::Left | LeaveReply::Stale | LeaveReply::Exhausted => Err(Other),
+    }
+}
+
+fn went_up(reply: UpReply<Lease<Stream>, Permit, Stream>) -> Result<Lease<Stream>, Other> {
+    match reply {
+        UpReply::Up(lease) => Ok(lease),
+        UpReply::Exhausted(permit, _stream) => {
+            let _details = permit.forfeit();
+            Err(Other)
+        }
+        UpReply::Stale(_stream) | UpReply::AtEnd(_stream) => Err(Other),
+    }
+}
+
+// The ticket of a request that is sent to the server with this key.
+pub(crate) fn served(order: Order<Ticket>, server: ServerKey) -> Result<Ticket, Other> {
+    match order {
+        Order::Serve(ticket, database, key) if key == server && database == SHOP => Ok(ticket),
+        other => {
+            let _order = ordered(other);
+            Err(Other)
+        }
+    }
+}
+
+// A client logs in, and gets a key of this kind.
+pub(crate) fn login<R: Wait>(
+    rt: &R,
+    shared: &Shared,
+    caller: &mut Caller,
+    secret: u32,
+    kind: Kind,
+) -> Result<Pass, Other>
+    requires own { caller.old.lock ≡ shared.now }
+    requires database { 0 < length caller.old.start.view.pools }
+    ensures { (caller.new.lock ≡ caller.old.lock) × (caller.new.start ≡ caller.old.start) }
+{
+    shared
+        .join(rt, caller, SHOP, Secret(secret), kind)
+        .map_err(|_| Other)
+}
+
+// The client of a pass opens a link, whose server has this key.
+pub(crate) fn open<R: Wait>(
+    rt: &R,
+    shared: &Shared,
+    caller: &mut Caller,
+    pass: &Pass,
+    stream: u8,
+    key: ServerKey,
+) -> Result<Lease<Stream>, Other>
+    requires own { caller.old.lock ≡ shared.now }
+    ensures { (caller.new.lock ≡ caller.old.lock) × (caller.new.start ≡ caller.old.start) }
+{
+    let permit = opened(shared.acquire(rt, caller, pass))?;
+    went_up(shared.up(rt, caller, permit, Stream(stream), key))
+}
+
+// Both clients leave.
+pub(crate) fn leave<R: Wait>(
+    rt: &R,
+    shared: &Shared,
+    caller: &mut Caller,
+    first: Pass,
+    second: Pass,
+) -> (bool, bool)
+    requires own { caller.old.lock ≡ shared.now }
+    ensures { (caller.new.lock ≡ caller.old.lock) × (caller.new.start ≡ caller.old.start) }
+{
+    let first = left(shared.leave(rt, caller, first));
+    let second = left(shared.leave(rt, caller, second));
+    (first == LeaveReply::Left, second == LeaveReply::Left)
+}
