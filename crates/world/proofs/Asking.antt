@@ -279,7 +279,7 @@ same_backend w q at v lease link x f whole at_q was says here of =
     )
 
 -- a link that no client has is at rest
-at_rest : (w : World) (q at : ℕ) (v : NodeView) (lease : LinkRecord) (link : Link) (x : Backend)
+pub at_rest : (w : World) (q at : ℕ) (v : NodeView) (lease : LinkRecord) (link : Link) (x : Backend)
     → Facts w → slice_get w.nodes q ≡ Some v
     → place_at v.links lease.at ≡ Some (Place.Link link) → is_with_client link.state ≡ false
     → link.details ≡ lease → slice_get w.backends at ≡ Some x → x.link ≡ Some lease

@@ -165,7 +165,7 @@ pub order_connection : (w : World) → Facts w → AreWhole w.nodes → (q label
     (key : AnyKey) (server_key : List ℕ) (ticket : TicketRecord)
     → IsNode w.nodes node q v → IsAnyKey key → TakesHome v key → IsInSlot w node (slot_of key) label
     → PoolServes (slot_of key) ticket database server_key v.links u
-    → (c : Connection) × IsConnection w node database server_key ticket c
+    → (c : Connection) × IsConnection w node database server_key ticket c × (c.holder ≡ Some label)
 order_connection w f whole q label node database v u key server_key ticket is is_key home in_slot serves =
     let at = serves.at in
     let link = serves.link in
@@ -204,4 +204,5 @@ order_connection w f whole q label node database v u key server_key ticket is is
             (sym (ap (λ (t : TicketRecord). t.incarnation) serves.says)) has.holds;
         is = refl;
       },
+      refl,
     )

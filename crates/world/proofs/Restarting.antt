@@ -46,7 +46,7 @@ made_places (size ∷ sizes) zero i link h = free_places size i link h
 made_places (size ∷ sizes) (suc d) i link h = made_places sizes d i link h
 
 -- a boot that a node takes next is none that it had
-next_boot : (starts : List Start) (node : ℕ) (asked : Option ℕ) (boot : ℕ) → IsNextBoot starts node asked boot
+pub next_boot : (starts : List Start) (node : ℕ) (asked : Option ℕ) (boot : ℕ) → IsNextBoot starts node asked boot
     → HadBoot starts node boot → ⊥
 next_boot starts node (Some asked) boot next had =
     next.1 (subst (HadBoot starts node) next.0 had)

@@ -36,7 +36,7 @@ differ_below group differ i j s t below at_i at_j e =
     (ap (λ (x : NodeSettings). x.peer_id) (get_or_from_slice_get group i s s at_i) ∙ e
     ∙ ap (λ (x : NodeSettings). x.peer_id) (sym (get_or_from_slice_get group j t s at_j)))
 
-one_number : (group : List NodeSettings) → PeersDiffer group → (i j : ℕ) (s t : NodeSettings)
+pub one_number : (group : List NodeSettings) → PeersDiffer group → (i j : ℕ) (s t : NodeSettings)
     → slice_get group i ≡ Some s → slice_get group j ≡ Some t → s.peer_id ≡ t.peer_id → i ≡ j
 one_number group differ i j s t at_i at_j e = ⊎_elim (λ same. same)
     (λ apart. ⊎_elim (λ below. absurd (differ_below group differ i j s t below at_i at_j e))
@@ -53,7 +53,7 @@ fresh_apart group nodes differ fresh i j a b at_i at_j same =
     (sym (ap (λ (v : NodeView). v.me) x.2.fields) ∙ same ∙ ap (λ (v : NodeView). v.me) y.2.fields)
 
 -- a database of a node has one server
-one_server : (group : List NodeSettings) → PeersDiffer group → OneServer group
+pub one_server : (group : List NodeSettings) → PeersDiffer group → OneServer group
 one_server group differ node database a b x y =
     let place = one_number group differ x.place y.place x.settings y.settings x.there y.there (x.number ∙ sym y.number) in
     let settings : x.settings ≡ y.settings = same_Some x.settings y.settings
@@ -64,7 +64,7 @@ one_server group differ node database a b x y =
 
 -- what is true of a world in which nothing has happened
 pub nothing_facts : (group : List NodeSettings) (nodes : List NodeView) → IsGroup group
-    → ((i : ℕ) (s : NodeSettings) → slice_get group i ≡ Some s → IsNodeSettings s)
+    → AreInRange group
     → AreFresh group nodes → Facts (nothing_yet group nodes)
 nothing_facts group nodes is ranges fresh = record {
   servers = record {
@@ -77,9 +77,9 @@ nothing_facts group nodes is ranges fresh = record {
     ranges = λ i v at.
         let x = fresh_at group nodes fresh i v at in
         let r = ranges i x.0 x.1 in (
-          subst (λ (n : ℕ). n < 2 ^ 14) (sym (ap (λ (z : NodeView). z.me) x.2.fields)) r.peer,
+          subst (λ (n : ℕ). n < 2 ^ 14) (sym (ap (λ (z : NodeView). z.me) x.2.fields)) r.0,
           subst (λ (n : ℕ). n ≤ 2 ^ 16) (sym (ap (λ (z : NodeView). length z.clients) x.2.fields
-              ∙ length-replicate x.0.max_client_conn None)) r.clients.1,
+              ∙ length-replicate x.0.max_client_conn None)) r.1,
         );
     long = AllZip-long (λ (settings : NodeSettings). IsFresh settings 0) group nodes fresh;
     settings = λ i v at.

@@ -383,3 +383,8 @@ AreApart nodes = (i j : ℕ) (a b : NodeView) → slice_get nodes i ≡ Some a �
 pub record AreKept (nodes : List NodeView) : Type 0 where
   pub whole : AreWhole nodes
   pub apart : AreApart nodes
+
+-- the numbers of nodes and their slots are in the ranges of settings
+abbrev pub AreInRange : List NodeSettings → Type 0
+AreInRange group = (i : ℕ) (s : NodeSettings) → slice_get group i ≡ Some s
+    → (s.peer_id < 2 ^ 14) × (s.max_client_conn ≤ 2 ^ 16)

@@ -12,3 +12,4 @@ pub mod Starts
 pub mod Wire
 pub mod Held
 pub mod Leased
+pub mod Answered

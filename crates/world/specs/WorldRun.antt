@@ -62,3 +62,7 @@ pub record WorldRun (group : List NodeSettings) (events : List Event) (did : Lis
   pub nodes : List NodeView
   pub fresh : AreFresh group nodes
   pub runs : Runs (nothing_yet group nodes) events did w
+
+-- the world of a group in which nothing has happened: its nodes were just made
+abbrev pub IsNew : List NodeSettings → World → Type 0
+IsNew group w = (nodes : List NodeView) × AreFresh group nodes × (w ≡ nothing_yet group nodes)

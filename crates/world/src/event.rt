@@ -1,5 +1,6 @@
 //! What may happen to a group of nodes, their clients and their servers.
 ghost use Rattle.std.specs.Prelude.{◌≡◌, IfOk};
+ghost use Rattle.world.specs.Facts.{IsEvent};
 
 use crate::numbers::{BackendNo, ConnectionNo, FlightNo, Label};
 use pg_ids::{Boot, DatabaseNo, Kind, PeerNo, Secret, ServerKey};
@@ -93,4 +94,15 @@ pub enum Event {
     Broken(ConnectionNo),
     /// The node starts anew, with this boot, or else with one more than the greatest that it had.
     Restart(PeerNo, Option<Boot>),
+}
+
+impl Event {
+    /// Its numbers are in the ranges of their types.
+    pub(crate) fn in_range(&self)
+        ensures { IsEvent self.now }
+    {
+        if let Event::Login(_, _, _, secret, _) = self {
+            secret.get();
+        }
+    }
 }

@@ -34,7 +34,10 @@ impl Model for Forwards {
 
     ghost Value = { Rows ForwardRow };
 
-    ghost view = { λ f. record { rows = f.by_flight.rows; room = min f.by_flight.room f.origins.room } };
+    ghost view = { λ f. record {
+      rows = f.by_flight.rows;
+      room = min f.by_flight.room f.origins.room;
+    } };
 
     ghost invariant = { λ f. map (λ row. row.origin) f.by_flight.rows ≡ f.origins.keys };
 }
@@ -52,7 +55,8 @@ impl Forwards {
 
     /// The forward connection of a flight.
     pub fn of_flight(&self, flight: FlightNo) -> Option<Found<Forward>>
-        ensures found { IfSome result (λ found. slice_get self.now.rows found.place ≡ Some found.row) }
+        ensures found { IfSome result (λ found.
+            slice_get self.now.rows found.place ≡ Some found.row) }
         ensures key { IfSome result (λ found. found.row.flight ≡ flight) }
         // There is no other.
         ensures only { (place : ℕ) (row : ForwardRow) → slice_get self.now.rows place ≡ Some row
@@ -63,7 +67,8 @@ impl Forwards {
 
     /// The forward connection for an arrival.
     pub fn of_arrival(&self, origin: ArrivalNo) -> Option<Found<Forward>>
-        ensures found { IfSome result (λ found. slice_get self.now.rows found.place ≡ Some found.row) }
+        ensures found { IfSome result (λ found.
+            slice_get self.now.rows found.place ≡ Some found.row) }
         ensures key { IfSome result (λ found. found.row.origin ≡ origin) }
         // There is no other.
         ensures only { (place : ℕ) (row : ForwardRow) → slice_get self.now.rows place ≡ Some row
@@ -86,10 +91,10 @@ impl Forwards {
     /// Adds one, for which there is room.
     pub fn push(&mut self, forward: Forward)
         requires room { 0 < self.old.room }
-        requires flight { (place : ℕ) (other : ForwardRow) → slice_get self.old.rows place ≡ Some other
-            → other.flight ≢ forward.flight }
-        requires origin { (place : ℕ) (other : ForwardRow) → slice_get self.old.rows place ≡ Some other
-            → other.origin ≢ forward.origin }
+        requires flight { (place : ℕ) (other : ForwardRow)
+            → slice_get self.old.rows place ≡ Some other → other.flight ≢ forward.flight }
+        requires origin { (place : ℕ) (other : ForwardRow)
+            → slice_get self.old.rows place ≡ Some other → other.origin ≢ forward.origin }
         ensures { self.new.rows ≡ self.old.rows ++ forward ∷ [] }
     {
         self.origins.push(forward.origin);

@@ -42,7 +42,8 @@ impl<K: Key> Index<K> {
     pub fn find(&self, key: K) -> Option<usize>
         ensures found { IfSome result (λ place. slice_get self.now.keys place ≡ Some key) }
         // There is no other.
-        ensures only { (place : ℕ) → slice_get self.now.keys place ≡ Some key → result ≡ Some place }
+        ensures only { (place : ℕ) → slice_get self.now.keys place ≡ Some key
+            → result ≡ Some place }
     {
         self.keys.get_index_of(&key)
     }

@@ -16,6 +16,7 @@ mod session;
 mod starts;
 mod state;
 mod table;
+mod world;
 
 pub use event::{Bytes, Event};
 pub use memory::Memory;
@@ -23,3 +24,4 @@ pub use numbers::{ArrivalNo, BackendNo, ConnectionNo, FlightNo, Label, ServerNo}
 pub use reply::{Reply, Took};
 pub use request::{Arrival, Connection, Forward, Interrupt, Issue, Report, Start, Taken};
 pub use session::{Hand, Session};
+pub use world::{World, run};

@@ -8,7 +8,7 @@ ghost use Rattle.node_core.specs.NodeStep.{IsStep};
 ghost use Rattle.world.specs.World.{IsNode};
 ghost use Rattle.world.specs.WorldRun.{AreFresh};
 ghost use Rattle.world.specs.Changes.{Steps};
-ghost use Rattle.world.specs.Facts.{AreWhole};
+ghost use Rattle.world.specs.Facts.{AreApart, AreWhole};
 
 use ini_config::Group;
 use node_core::{
@@ -57,6 +57,15 @@ impl Nodes {
         Ok(Nodes { cores })
     }
 
+    /// How many nodes there are.
+    pub fn len(&self) -> usize
+        ensures count { result ≡ length self.now }
+        // What is true of every node.
+        ensures whole { AreWhole self.now }
+    {
+        self.cores.len()
+    }
+
     // The place of a node.
     fn place(&self, node: PeerNo) -> Option<usize>
         ensures found { IfSome result (λ place. (view : NodeView)
@@ -73,8 +82,9 @@ impl Nodes {
             × IsNode self.now node place core.now.view) }
         ensures none { IfNone result ((place : ℕ) (view : NodeView)
             → IsNode self.now node place view → ⊥) }
-        // What is true of every node.
+        // What is true of every node, and that no two have one number.
         ensures whole { AreWhole self.now }
+        ensures apart { AreApart self.now }
     {
         self.cores.get(self.place(node)?)
     }
@@ -83,7 +93,9 @@ impl Nodes {
     fn step<C: Step>(&mut self, node: PeerNo, made: C) -> C::Reply
         requires { (place : ℕ) × (view : NodeView) × IsNode self.old node place view
             × C.can_make view.pools made }
-        ensures { Steps node (C.exchange made result) self.old self.new }
+        ensures step { Steps node (C.exchange made result) self.old self.new }
+        // What was true of every node.
+        ensures whole { AreWhole self.old }
     {
         let Some(place) = self.place(node) else {
             unreachable!()
@@ -124,7 +136,9 @@ impl Nodes {
         pass: PassRecord,
     ) -> AcquireReply<LinkRecord, PermitRecord>
         requires has { (place : ℕ) × (view : NodeView) × IsNode self.old node place view }
-        ensures { Steps node (call.Acquire pass result) self.old self.new }
+        ensures step { Steps node (call.Acquire pass result) self.old self.new }
+        // What was true of every node.
+        ensures whole { AreWhole self.old }
     {
         self.step(node, Acquire(pass))
     }

@@ -1,5 +1,6 @@
 //! What a world keeps of its keys and of its cancel requests.
-ghost use Rattle.std.specs.Prelude.{◌≡◌, true, Some};
+ghost use Rattle.std.specs.Prelude.{◌≡◌, ◌↔◌, true, IsTrue, Some};
+ghost use Rattle.world.specs.declared.request.Report.TheVariants as report;
 ghost use Rattle.std.proofs.Common.{rules};
 
 use crate::index::Key;
@@ -151,6 +152,13 @@ impl Connection {
         self.ticket.peer
     }
 
+    /// Whether its end was reported clean.
+    pub(crate) fn is_clean(&self) -> bool
+        ensures { IsTrue result ↔ (self.now.report ≡ Some report.Clean) }
+    {
+        matches!(self.report, Some(Report::Clean))
+    }
+
     /// It once the server has acted on it.
     pub(crate) fn acting(&self) -> Connection
         ensures { result ≡ record self.now { acted = true } }
@@ -183,6 +191,13 @@ impl Connection {
 }
 
 impl Forward {
+    /// Whether its end was reported clean.
+    pub(crate) fn is_clean(&self) -> bool
+        ensures { IsTrue result ↔ (self.now.report ≡ Some report.Clean) }
+    {
+        matches!(self.report, Some(Report::Clean))
+    }
+
     /// It once it has led to this arrival.
     pub(crate) fn leading(&self, arrival: ArrivalNo) -> Forward
         ensures { result ≡ record self.now { accepted = Some arrival } }

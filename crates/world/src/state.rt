@@ -1,24 +1,28 @@
 //! The state of a world, and its events by subject.
-ghost use Rattle.std.specs.Prelude.{◌≡◌, ℕ, true, IfSome, IfNone};
+ghost use Rattle.std.specs.Prelude.{◌≡◌, ℕ, true, IfSome, IfNone, IfOk, OnErr, length};
 ghost use Rattle.lease.specs.declared.link_record.LinkRecord.{LinkRecord};
 ghost use Rattle.world.specs.World.{IsSession};
 ghost use Rattle.world.specs.declared.session.Hand.TheVariants as hand;
 ghost use Rattle.world.specs.Held.{IsHeld};
 ghost use Rattle.world.specs.Admissible.{HasInHand, HasPermit};
+ghost use Rattle.world.specs.Facts.{AreWhole, Facts};
+ghost use Rattle.world.specs.WorldRun.{IsNew, WorldStep};
 
 mod arrivals;
 mod clients;
 mod forwarding;
 mod links;
+mod replies;
 mod requests;
 mod strikes;
 
 use crate::backends::Backends;
-use crate::event::Bytes;
+use crate::event::{Bytes, Event};
 use crate::forwards::Forwards;
 use crate::memory::Memory;
 use crate::nodes::Nodes;
 use crate::numbers::Label;
+use crate::reply::Took;
 use crate::request::{Arrival, Connection, Interrupt, Issue, Taken};
 use crate::session::{InHand, Session};
 use crate::starts::Starts;
@@ -91,6 +95,64 @@ struct Held {
 }
 
 impl State {
+    /// The state of a group in which nothing has happened.
+    pub fn new(alloc: Global, group: Group) -> Result<State, Memory>
+        ensures new { IfOk result (λ state. IsNew group state) }
+        ensures facts { IfOk result (λ state. Facts state) }
+    {
+        unreachable!()
+    }
+
+    /// How many nodes there are.
+    pub fn nodes(&self) -> usize
+        ensures count { result ≡ length self.now.nodes }
+        // What is true of every node.
+        ensures whole { AreWhole self.now.nodes }
+    {
+        self.nodes.len()
+    }
+
+    /// The interruptions, in their order.
+    pub fn interrupts(&self) -> &[Interrupt]
+        ensures { result.now ≡ self.now.interrupts }
+    {
+        self.interrupts.as_slice()
+    }
+
+    /// An event, which takes place exactly where it is admissible.
+    pub fn apply(&mut self, event: &Event) -> Result<Took, Memory>
+        requires { Facts self.old }
+        ensures step { IfOk result (λ took. WorldStep event.now took self.old self.new) }
+        ensures err { OnErr result (self.new ≡ self.old) }
+    {
+        match event {
+            Event::Login(node, label, database, secret, kind) => {
+                self.login(*node, *label, *database, *secret, *kind)
+            }
+            Event::Acquire(label) => Ok(self.acquire(*label)),
+            Event::Up(label, key) => self.up(*label, *key),
+            Event::UpFailed(label) => Ok(self.up_failed(*label)),
+            Event::Send(label) => self.send(*label),
+            Event::Take(backend) => Ok(self.take(*backend)),
+            Event::Finish(backend) => self.finish(*backend),
+            Event::Ready(label) => Ok(self.ready(*label)),
+            Event::Release(label) => Ok(self.release(*label)),
+            Event::Close(label) => Ok(self.close(*label)),
+            Event::Leave(label) => Ok(self.leave(*label)),
+            Event::Put(bytes) => self.put(bytes),
+            Event::Deliver(flight, node) => self.deliver(*flight, *node),
+            Event::Accept(flight, node) => self.accept(*flight, *node),
+            Event::ForwardEnded(flight) => Ok(self.end_forward(*flight)),
+            Event::ForwardTold(flight) => Ok(self.tell_forward(*flight)),
+            Event::ForwardBroken(flight) => Ok(self.break_forward(*flight)),
+            Event::Act(connection) => self.act(*connection),
+            Event::End(connection) => Ok(self.end(*connection)),
+            Event::Told(connection) => Ok(self.told(*connection)),
+            Event::Broken(connection) => Ok(self.broken(*connection)),
+            Event::Restart(node, boot) => self.restart(*node, *boot),
+        }
+    }
+
     // The client with this label, if it is there and has nothing in hand.
     fn idle(&self, label: Label) -> Option<Idle>
         ensures found { IfSome result (λ idle. IsSession self.now.sessions label idle.place idle.session) }

@@ -39,7 +39,10 @@ impl<R: Row> Model for Table<R> {
 
     ghost Value = { Rows R };
 
-    ghost view = { λ t. record { rows = t.rows.items; room = min (vec_capacity t.rows - vec_len t.rows) t.index.room } };
+    ghost view = { λ t. record {
+      rows = t.rows.items;
+      room = min (vec_capacity t.rows - vec_len t.rows) t.index.room;
+    } };
 
     ghost invariant = { λ t. map R.key_of t.rows.items ≡ t.index.keys };
 }
@@ -71,7 +74,8 @@ impl<R: Row> Table<R> {
 
     /// The row with a key.
     pub fn find(&self, key: R::Key) -> Option<Found<R>>
-        ensures found { IfSome result (λ found. slice_get self.now.rows found.place ≡ Some found.row) }
+        ensures found { IfSome result (λ found.
+            slice_get self.now.rows found.place ≡ Some found.row) }
         ensures key { IfSome result (λ found. R.key_of found.row ≡ key) }
         // There is no other.
         ensures only { (place : ℕ) (row : R) → slice_get self.now.rows place ≡ Some row

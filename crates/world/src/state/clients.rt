@@ -1,8 +1,10 @@
 //! Clients that log in and leave, and new starts of nodes.
-ghost use Rattle.std.specs.Prelude.{◌≡◌, ◌↔◌, IfOk, OnErr, IsTrue};
+ghost use Rattle.std.specs.Prelude.{◌≡◌, ◌↔◌, ◌<◌, ◌^◌, IfOk, OnErr, IsTrue};
+ghost use Rattle.pg_ids.specs.Key.{IsKey};
+ghost use Rattle.key_table.specs.Slots.{first_key};
 ghost use Rattle.world.specs.declared.event.Event.TheVariants as event;
 ghost use Rattle.world.specs.Admissible.{IsNewSecret, MayLogIn};
-ghost use Rattle.world.specs.Facts.{Facts};
+ghost use Rattle.world.specs.Facts.{AreWhole, Facts};
 ghost use Rattle.world.specs.WorldRun.{WorldStep};
 
 use super::State;
@@ -66,8 +68,13 @@ impl State {
         kind: Kind,
     ) -> bool
         requires { Facts self.now }
-        ensures { IsTrue result ↔ MayLogIn self.now node label database secret kind }
+        ensures may { IsTrue result ↔ MayLogIn self.now node label database secret kind }
+        // What is true of every node.
+        ensures whole { IsTrue result → AreWhole self.now.nodes }
+        ensures range { secret < 2 ^ 32 }
     {
+        // A secret has 32 bits.
+        secret.get();
         let Some(core) = self.nodes.get(node) else {
             return false;
         };
@@ -89,8 +96,11 @@ impl State {
     {
         match (kind, next) {
             (Kind::Short, Some(slot)) => {
-                let key = ClientKey::new(node, slot, secret, Hops::MAX);
-                self.issues.find(AnyKey::Short(key).identity()).is_none()
+                let key = first_key(node, slot, secret);
+                match self.issues.find(AnyKey::Short(key).identity()) {
+                    Some(_) => false,
+                    None => true,
+                }
             }
             _ => true,
         }
@@ -119,9 +129,9 @@ impl State {
         ensures step { IfOk result (λ took. WorldStep (event.Restart node asked) took self.old self.new) }
         ensures err { OnErr result (self.new ≡ self.old) }
     {
-        if self.nodes.get(node).is_none() {
+        let Some(_) = self.nodes.get(node) else {
             return Ok(Took::Skipped);
-        }
+        };
         let Some(boot) = self.starts.next(node, asked) else {
             return Ok(Took::Skipped);
         };
@@ -134,4 +144,16 @@ impl State {
             RestartReply::Exhausted => Ok(Took::Done(Reply::Exhausted)),
         }
     }
+}
+
+// The short key of a client with this secret in this slot.
+fn first_key(node: PeerNo, slot: SlotNo, secret: Secret) -> ClientKey
+    ensures key { result ≡ first_key node slot secret }
+    ensures ranges { IsKey result }
+{
+    // Its parts are in the ranges of their types.
+    node.get();
+    slot.get();
+    secret.get();
+    ClientKey::new(node, slot, secret, Hops::MAX)
 }

@@ -1,7 +1,8 @@
 //! Bytes in flight, and how the connections that forward requests end.
-ghost use Rattle.std.specs.Prelude.{◌≡◌, ◌↔◌, IfOk, OnErr, IsTrue};
+ghost use Rattle.std.specs.Prelude.{◌≡◌, ◌↔◌, IfOk, OnErr, IsTrue, slice_get};
 ghost use Rattle.world.specs.declared.event.Event.TheVariants as event;
 ghost use Rattle.world.specs.Admissible.{IsAnswered};
+ghost use Rattle.world.specs.Answered.{IsCarried, IsPassedOn};
 ghost use Rattle.world.specs.Facts.{Facts};
 ghost use Rattle.world.specs.WorldRun.{WorldStep};
 
@@ -10,7 +11,7 @@ use crate::event::Bytes;
 use crate::memory::Memory;
 use crate::numbers::{ArrivalNo, FlightNo};
 use crate::reply::{Reply, Took};
-use crate::request::Report;
+use crate::request::{Arrival, Report};
 use node_core::Order;
 
 impl State {
@@ -36,7 +37,10 @@ impl State {
         let Some(arrival) = forward.accepted else {
             return Took::Skipped;
         };
-        if forward.ended || !self.is_answered(arrival) {
+        if forward.ended {
+            return Took::Skipped;
+        }
+        if !self.is_answered(arrival) {
             return Took::Skipped;
         }
         self.forwards.set(found.place, forward.ending());
@@ -48,19 +52,40 @@ impl State {
         requires { Facts self.now }
         ensures { IsTrue result ↔ IsAnswered self.now.arrivals self.now.connections self.now.forwards arrival }
     {
-        let Some(came) = self.arrivals.get(arrival.0 as usize) else {
+        let Some(came) = self.arrival(arrival) else {
             return false;
         };
-        match came.order {
+        match &came.order {
             Order::Unwait(_) | Order::Refused(_) => true,
-            Order::Serve(_, _, _) => match self.connections.find(arrival) {
-                Some(found) => found.row.report == Some(Report::Clean),
-                None => false,
-            },
-            Order::Forward(_, _) => match self.forwards.of_arrival(arrival) {
-                Some(found) => found.row.report == Some(Report::Clean),
-                None => false,
-            },
+            Order::Serve(_, _, _) => self.is_carried(arrival),
+            Order::Forward(_, _) => self.is_passed_on(arrival),
+        }
+    }
+
+    // The arrival with this number.
+    fn arrival(&self, arrival: ArrivalNo) -> Option<Arrival>
+        ensures { result ≡ slice_get self.now.arrivals arrival }
+    {
+        self.arrivals.get(arrival.0 as usize).copied()
+    }
+
+    // Whether the cancel connection of an arrival was reported clean.
+    fn is_carried(&self, arrival: ArrivalNo) -> bool
+        ensures { IsTrue result ↔ IsCarried self.now.connections arrival }
+    {
+        match self.connections.find(arrival) {
+            Some(found) => found.row.is_clean(),
+            None => false,
+        }
+    }
+
+    // Whether the forward connection of an arrival was reported clean.
+    fn is_passed_on(&self, arrival: ArrivalNo) -> bool
+        ensures { IsTrue result ↔ IsPassedOn self.now.forwards arrival }
+    {
+        match self.forwards.of_arrival(arrival) {
+            Some(found) => found.row.is_clean(),
+            None => false,
         }
     }
 

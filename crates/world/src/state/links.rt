@@ -2,12 +2,14 @@
 ghost use Rattle.std.specs.Prelude.{◌≡◌, Some, IfOk, OnErr, slice_get};
 ghost use Rattle.world.specs.declared.event.Event.TheVariants as event;
 ghost use Rattle.world.specs.Facts.{Facts};
+ghost use Rattle.link_pool.specs.declared.place.{Place.Place as PlaceValue, Link.Link as LinkValue};
 ghost use Rattle.world.specs.World.{Backend};
 ghost use Rattle.world.specs.Changes.{with_session, holding};
 ghost use Rattle.world.specs.Leased.{HasProcess};
 ghost use Rattle.world.specs.LinkEvents.{IsLeased};
 ghost use Rattle.world.specs.WorldRun.{WorldStep};
 
+use super::replies::{closing, failing, releasing};
 use super::{Opening, State};
 use crate::memory::Memory;
 use crate::numbers::{BackendNo, Label};
@@ -16,7 +18,7 @@ use crate::servers::server_of;
 use crate::session::{Hand, Session};
 use link_pool::Place;
 use node_core::{
-    AcquireReply, CloseReply, LinkRecord, ReleaseReply, UpFailedReply, UpReply,
+    AcquireReply, LinkRecord, UpReply,
 };
 use pg_ids::ServerKey;
 
@@ -57,13 +59,13 @@ impl State {
         let Some(core) = self.nodes.get(lease.peer) else {
             unreachable!()
         };
-        let Some(Place::Link(link)) = core.links().place(lease.at) else {
+        let Some(key) = server_key(&core.links().place(lease.at)) else {
             unreachable!()
         };
         let Some(server) = server_of(&self.group, lease.peer, lease.at.database) else {
             unreachable!()
         };
-        let Some(at) = self.backends.find(server, link.key) else {
+        let Some(at) = self.backends.find(server, key) else {
             unreachable!()
         };
         at
@@ -94,30 +96,29 @@ impl State {
         let Some(server) = server_of(&self.group, session.node, session.database) else {
             return Ok(Took::Skipped);
         };
-        if self.backends.find(server, key).is_some() {
+        let None = self.backends.find(server, key) else {
             return Ok(Took::Skipped);
-        }
+        };
         self.backends.reserve()?;
         let at = BackendNo(self.backends.len() as u64);
-        let reply = match self.nodes.up(session.node, permit, key) {
+        match self.nodes.up(session.node, permit, key) {
             UpReply::Up(lease) => {
                 let lease = &lease;
                 self.backends.push(server, key, Some(*lease), Some(label));
                 self.put_in_hand(place, &session, Hand::Lease(*lease, at, 0));
-                Reply::Lease(at)
+                Ok(Took::Done(Reply::Lease(at)))
             }
             UpReply::Exhausted(_, ()) => {
                 self.backends.push(server, key, None, None);
-                Reply::Exhausted
+                Ok(Took::Done(Reply::Exhausted))
             }
             UpReply::Stale(()) => {
                 self.backends.push(server, key, None, None);
                 self.put_in_hand(place, &session, Hand::Empty);
-                Reply::Stale
+                Ok(Took::Done(Reply::Stale))
             }
             UpReply::AtEnd(()) => unreachable!(),
-        };
-        Ok(Took::Done(reply))
+        }
     }
 
     /// The link that a client may open can't be opened.
@@ -129,13 +130,9 @@ impl State {
             return Took::Skipped;
         };
         let session = &opening.session;
-        let reply = match self.nodes.up_failed(session.node, opening.permit) {
-            UpFailedReply::Freed => Reply::Freed,
-            UpFailedReply::Stale => Reply::Stale,
-            UpFailedReply::Exhausted => Reply::Exhausted,
-        };
+        let reply = self.nodes.up_failed(session.node, opening.permit);
         self.put_in_hand(opening.place, session, Hand::Empty);
-        Took::Done(reply)
+        Took::Done(failing(reply))
     }
 
     /// A client gives its link back.
@@ -150,15 +147,9 @@ impl State {
             return Took::Skipped;
         }
         let session = &held.session;
-        let reply = match self.nodes.release(session.node, held.hand.lease) {
-            ReleaseReply::Idle => Reply::Idle,
-            ReleaseReply::Quarantined => Reply::Quarantined,
-            ReleaseReply::Closed(()) => Reply::Closed,
-            ReleaseReply::Stale(()) => Reply::Stale,
-            ReleaseReply::Exhausted(()) => Reply::Exhausted,
-        };
+        let reply = self.nodes.release(session.node, held.hand.lease);
         self.put_in_hand(held.place, session, Hand::Empty);
-        Took::Done(reply)
+        Took::Done(releasing(reply))
     }
 
     /// A client closes its link.
@@ -170,12 +161,18 @@ impl State {
             return Took::Skipped;
         };
         let session = &held.session;
-        let reply = match self.nodes.close(session.node, held.hand.lease) {
-            CloseReply::Closed(()) => Reply::Closed,
-            CloseReply::Stale(()) => Reply::Stale,
-            CloseReply::Exhausted(()) => Reply::Exhausted,
-        };
+        let reply = self.nodes.close(session.node, held.hand.lease);
         self.put_in_hand(held.place, session, Hand::Empty);
-        Took::Done(reply)
+        Took::Done(closing(reply))
+    }
+}
+
+// The server key of the link at a place, if there is one.
+fn server_key(place: &Option<Place>) -> Option<ServerKey>
+    ensures { (link : LinkValue) → place.now ≡ Some (PlaceValue.Link link) → result ≡ Some link.key }
+{
+    match place {
+        Some(Place::Link(link)) => Some(link.key),
+        _ => None,
     }
 }

@@ -36,7 +36,10 @@ impl State {
         let Some(process) = self.backends.get(at) else {
             return Took::Skipped;
         };
-        if process.running.is_some() || !self.backends.take(at) {
+        let None = process.running else {
+            return Took::Skipped;
+        };
+        if !self.backends.take(at) {
             return Took::Skipped;
         }
         Took::Done(Reply::Done)
@@ -50,9 +53,9 @@ impl State {
         let Some(process) = self.backends.get(at) else {
             return Ok(Took::Skipped);
         };
-        if process.running.is_none() {
+        let Some(_) = process.running else {
             return Ok(Took::Skipped);
-        }
+        };
         self.backends.rest(at)?;
         Ok(Took::Done(Reply::Done))
     }

@@ -1,15 +1,16 @@
 //! What servers do with cancel connections, and how their ends are reported.
-ghost use Rattle.std.specs.Prelude.{◌≡◌, IfOk, OnErr};
+ghost use Rattle.std.specs.Prelude.{◌≡◌, ◌<◌, ◌++◌, ◌∷◌, [], IfOk, OnErr};
+ghost use Rattle.std.specs.Vec.{vec_len, vec_capacity};
 ghost use Rattle.world.specs.declared.event.Event.TheVariants as event;
 ghost use Rattle.world.specs.Facts.{Facts};
 ghost use Rattle.world.specs.WorldRun.{WorldStep};
 
 use super::State;
+use super::replies::{breaking, ending};
 use crate::memory::Memory;
 use crate::numbers::ConnectionNo;
 use crate::reply::{Reply, Took};
 use crate::request::{Interrupt, Report};
-use node_core::{EndedReply, FailedReply};
 
 impl State {
     /// A server does what a cancel connection asks.
@@ -27,24 +28,22 @@ impl State {
         let Some(process) = self.backends.get(connection.backend) else {
             unreachable!()
         };
-        let reply = match process.running {
-            None => Reply::Nothing,
-            Some(label) => {
-                self.interrupts.reserve(1)?;
-                self.backends.rest(connection.backend)?;
-                let interrupt = Interrupt {
-                    backend: connection.backend,
-                    label,
-                    arrival: connection.arrival,
-                };
-                let Ok(()) = self.interrupts.push(interrupt) else {
-                    unreachable!()
-                };
-                Reply::Struck(connection.backend, label)
-            }
+        let Some(label) = process.running else {
+            self.connections.set(place.0 as usize, connection.acting());
+            return Ok(Took::Done(Reply::Nothing));
         };
+        self.interrupts.reserve(1)?;
+        self.backends.rest(connection.backend)?;
+        note(
+            &mut self.interrupts,
+            Interrupt {
+                backend: connection.backend,
+                label,
+                arrival: connection.arrival,
+            },
+        );
         self.connections.set(place.0 as usize, connection.acting());
-        Ok(Took::Done(reply))
+        Ok(Took::Done(Reply::Struck(connection.backend, label)))
     }
 
     /// A server ends a cancel connection.
@@ -72,14 +71,9 @@ impl State {
         if connection.report.is_some() || !connection.ended {
             return Took::Skipped;
         }
-        let reply = match self.nodes.ended(connection.node(), connection.ticket()) {
-            EndedReply::Freed => Reply::Freed,
-            EndedReply::Counted => Reply::Counted,
-            EndedReply::Stale => Reply::Stale,
-            EndedReply::Exhausted => Reply::Exhausted,
-        };
+        let reply = self.nodes.ended(connection.node(), connection.ticket());
         self.connections.set(place.0 as usize, connection.reported(Report::Clean));
-        Took::Done(reply)
+        Took::Done(ending(reply))
     }
 
     /// A node learns that a cancel connection broke.
@@ -93,13 +87,18 @@ impl State {
         if connection.report.is_some() {
             return Took::Skipped;
         }
-        let reply = match self.nodes.failed(connection.node(), connection.ticket()) {
-            FailedReply::Condemned => Reply::Condemned,
-            FailedReply::Closed(()) => Reply::Closed,
-            FailedReply::Stale => Reply::Stale,
-            FailedReply::Exhausted => Reply::Exhausted,
-        };
+        let reply = self.nodes.failed(connection.node(), connection.ticket());
         self.connections.set(place.0 as usize, connection.reported(Report::Fault));
-        Took::Done(reply)
+        Took::Done(breaking(reply))
     }
+}
+
+// A server process was interrupted.
+fn note(interrupts: &mut Vec<Interrupt>, interrupt: Interrupt)
+    requires room { vec_len interrupts.old < vec_capacity interrupts.old }
+    ensures { interrupts.new.items ≡ interrupts.old.items ++ interrupt ∷ [] }
+{
+    let Ok(()) = interrupts.push(interrupt) else {
+        unreachable!()
+    };
 }

@@ -1,5 +1,5 @@
 use Rattle.std.proofs.Common.{subst}
-use Rattle.world.specs.Facts.{AreWhole}
+use Rattle.world.specs.Facts.{AreApart, AreWhole}
 use Rattle.world.proofs.Cores.{node_lent, node_there}
 use Rattle.world.proofs.nodes.Nodes.get.Goals as goal
 
@@ -18,3 +18,9 @@ returns-clause-none c =
 
 pub returns-clause-whole : goal.returns-clause-whole
 returns-clause-whole c = subst AreWhole c.self.view_is c.self.invariant.whole
+
+pub returns-in_err-place-clause-apart : goal.returns-in_err-place-clause-apart
+returns-in_err-place-clause-apart c = subst AreApart c.self.view_is c.self.invariant.apart
+
+pub returns-clause-apart : goal.returns-clause-apart
+returns-clause-apart c = subst AreApart c.self.view_is c.self.invariant.apart

@@ -25,6 +25,7 @@ pub returns-clause-only : goal.returns-clause-only
 returns-clause-only g c place row there is =
     let key = key_there g.R.Row.key_of _ _ _ c.self.invariant (ap (λ v. v.rows) c.self.view_is) place row c.args.key there is in
     let found : c.find.result ≡ Some place = c.find.ensures.only place key in
-    let at : slice_get c.args.self.now.rows c.in_ok-place.place ≡ Some c.in_ok-row.row = ◌∙◌ {a = slice_get c.args.self.now.rows c.in_ok-place.place} (sym c.get.ensures) c.in_ok-row.was in
+    let get : c.get.result ≡ slice_get c.args.self.now.rows c.in_ok-place.place = c.get.ensures in
+    let at : slice_get c.args.self.now.rows c.in_ok-place.place ≡ Some c.in_ok-row.row = sym get ∙ c.in_ok-row.was in
     let same : c.in_ok-place.place ≡ place = same_Some c.in_ok-place.place place (sym c.in_ok-place.was ∙ found) in
     same_found c.args.self.now.rows c.in_ok-place.place place c.in_ok-row.row row same at there
