@@ -2,8 +2,6 @@ pub mod Lists
 pub mod ProcessRows
 pub mod Tables
 pub mod Boots
-pub mod Tables
-pub mod Boots
 pub mod Firsts
 pub mod ServerNumbers
 pub mod Settling
@@ -32,15 +30,16 @@ pub mod LoggingIn
 pub mod Logins
 pub mod Restarting
 pub mod Starting
+pub mod FirstStarts
 pub mod Cores
 pub mod ServerOf
 pub mod EveryStep
 pub mod Finality
 pub mod Possible
 pub mod Orders
-pub mod EveryRun
 pub mod Asked
 pub mod Answering
 pub mod Striking
 pub mod Issuing
 pub mod Requesting
+pub mod Stepping

@@ -13,7 +13,7 @@ use Rattle.ini_config.specs.Group.{IsGroup, PeersDiffer}
 use Rattle.node_core.specs.View.{NodeView, IsFresh, pool_sizes}
 use Rattle.world.specs.World.{is_on_server, all_databases, Start, HadBoot, first_starts, nothing_yet}
 use Rattle.world.specs.WorldRun.{AreFresh}
-use Rattle.world.specs.Facts.{OneServer, Facts, AreApart}
+use Rattle.world.specs.Facts.{OneServer, Facts, AreApart, AreInRange}
 use Rattle.world.proofs.Lists.{before_end, read_map}
 use Rattle.world.proofs.Restarting.{nobody_there, made_places}
 

@@ -14,6 +14,7 @@ mod forwarding;
 mod links;
 mod replies;
 mod requests;
+mod starting;
 mod strikes;
 
 use crate::backends::Backends;
@@ -29,6 +30,7 @@ use crate::starts::Starts;
 use crate::table::{Found, Table};
 use ini_config::Group;
 use node_core::PermitRecord;
+use starting::{in_range, starts_of};
 use std::alloc::Global;
 use std::marker::Model;
 
@@ -100,7 +102,24 @@ impl State {
         ensures new { IfOk result (λ state. IsNew group state) }
         ensures facts { IfOk result (λ state. Facts state) }
     {
-        unreachable!()
+        in_range(group.nodes());
+        let nodes = Nodes::new(alloc, &group)?;
+        let starts = starts_of(alloc, &group)?;
+        Ok(State {
+            alloc,
+            group,
+            nodes,
+            starts,
+            issues: Table::new(alloc),
+            sessions: Table::new(alloc),
+            backends: Backends::new(alloc),
+            flights: Vec::new(alloc),
+            arrivals: Vec::new(alloc),
+            connections: Table::new(alloc),
+            forwards: Forwards::new(alloc),
+            interrupts: Vec::new(alloc),
+            taken: Vec::new(alloc),
+        })
     }
 
     /// How many nodes there are.
