@@ -1,16 +1,19 @@
 //! A world of events, which is safe by its type.
-ghost use Rattle.std.specs.Prelude.{◌≡◌, IfOk, OnErr};
+ghost use Rattle.std.specs.Prelude.{◌≡◌, ◌++◌, ◌∷◌, [], IfOk, OnOk, OnErr};
 ghost use Rattle.world.specs.World.{nothing_yet};
-ghost use Rattle.world.specs.WorldRun.{WorldStep, WorldRun, IsNew};
+ghost use Rattle.world.specs.WorldRun.{IsNew, Runs, WorldRun, WorldStep};
 ghost use Rattle.world.specs.SafeCancellation.{IsSafe};
 ghost use Rattle.world.specs.Settled.{SettledStays, NothingToCome, EndedIsSettled};
 
 use crate::event::Event;
 use crate::memory::Memory;
-use crate::reply::Took;
+use crate::reply::{Reply, Took};
 use crate::request::Interrupt;
 use crate::state::State;
+use cancel_router::RouteRefusal;
 use ini_config::Group;
+use node_core::{CancelRefusal, JoinRefusal};
+use pg_ids::{AnyKey, ClientKey, LongPart};
 use std::alloc::Global;
 use std::marker::Model;
 
@@ -74,6 +77,32 @@ impl World {
     }
 }
 
+impl World {
+    // Events one after another, with what each took.
+    fn steps(&mut self, alloc: Global, events: &[Event]) -> Result<Vec<Took>, Memory>
+        ensures { IfOk result (λ took. Runs self.old events.now took.items self.new) }
+    {
+        let mut took = Vec::with_capacity(alloc, events.len())?;
+        for event in events {
+            let did = self.step(event)?;
+            note(&mut took, did, None)?;
+        }
+        Ok(took)
+    }
+}
+
+// What one more event took. The last argument is there for its types alone: the checker has to see
+// each that a reply may hold.
+fn note(took: &mut Vec<Took>, did: Took, _: Option<ReplyTypes>) -> Result<(), Memory>
+    ensures { OnOk result (took.new.items ≡ took.old.items ++ did ∷ []) }
+{
+    took.push(did)?;
+    Ok(())
+}
+
+// The types that a reply may hold.
+type ReplyTypes = (Reply, AnyKey, ClientKey, LongPart, JoinRefusal, CancelRefusal, RouteRefusal);
+
 /// What a list of events brings about in a group in which nothing had happened: the world, and what
 /// each event took.
 pub fn run(alloc: Global, group: Group, events: &[Event]) -> Result<(World, Vec<Took>), Memory>
@@ -82,11 +111,8 @@ pub fn run(alloc: Global, group: Group, events: &[Event]) -> Result<(World, Vec<
     ensures nothing_to_come { IfOk result (λ ran. NothingToCome ran.0) }
 {
     let mut world = World::new(alloc, group)?;
-    let mut took = Vec::with_capacity(alloc, events.len())?;
-    for event in events {
-        let did = world.step(event)?;
-        took.push(did)?;
-    }
+    let took = world.steps(alloc, events)?;
+    // What is true of every world.
     world.interrupts();
     Ok((world, took))
 }
