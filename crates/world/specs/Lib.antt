@@ -1,0 +1,15 @@
+pub mod World
+pub mod Table
+pub mod Settled
+pub mod Admissible
+pub mod Changes
+pub mod LinkEvents
+pub mod CancelEvents
+pub mod WorldRun
+pub mod SafeCancellation
+pub mod Facts
+pub mod Starts
+pub mod Wire
+pub mod Held
+pub mod Leased
+pub mod Answered

@@ -1,0 +1,8 @@
+//! Tests of whole schedules by public calls alone: scripts are read, run and told. They have a crate of
+//! their own, since a crate with tests is proved twice: without them and with them.
+#![tactic(auto)]
+
+#[cfg(test)]
+mod databases;
+#[cfg(test)]
+mod schedules;
