@@ -1,5 +1,5 @@
-//! A node with two databases on two servers, whose links have one key: a cancel strikes a server process
-//! of its own client's server alone.
+//! A node with two databases on two servers, whose links have one key: a cancel strikes a server
+//! process of its own client's server alone.
 use ini_config::{Group, Settings, read_settings};
 use node_core::DatabaseNo;
 use pg_ids::{Kind, PeerNo, Secret, ServerKey};
@@ -31,7 +31,8 @@ fn group(alloc: Global) -> Result<Group, Fail> {
     }
 }
 
-// A cancel request with the key of the first client: slot 0, secret 1; and of the second: slot 1, secret 2.
+// Cancel requests with the key of the first client (slot 0, secret 1) and of the second (slot 1,
+// secret 2).
 const FIRST: [u8; 16] = [0, 0, 0, 16, 4, 210, 22, 46, 0, 8, 0, 0, 0, 0, 0, 7];
 
 const SECOND: [u8; 16] = [0, 0, 0, 16, 4, 210, 22, 46, 0, 8, 0, 4, 0, 0, 0, 11];
