@@ -428,17 +428,33 @@ kept_fault (Some left) bytes none = (
       (sym (drop_all left bytes (omega (arith, ap length none.1, none.0)))) has_none,
 )
 
+-- what was handed out stays so where it is forgotten
+so_far_forgot : (stream : List ℕ) (pieces : List OwnedPiece) (passage : Passage)
+    → SoFar stream pieces passage → SoFar stream pieces (record passage { passed = [] })
+so_far_forgot stream pieces passage so_far = record {
+  frames = so_far.frames;
+  whole = so_far.whole;
+  opened = so_far.opened;
+  begun = so_far.begun;
+  each = so_far.each;
+  are_whole = so_far.are_whole;
+  is_open = so_far.is_open;
+  stream_is = so_far.stream_is;
+  all = so_far.all;
+}
+
 -- the fault that was returned is the one that still stands
 pub drained_from : (stream : List ℕ) (pieces : List OwnedPiece) (passage : Passage)
     (fault : Option FrameError) → SoFar stream pieces passage → HasNoNext passage.left passage.bytes
-    → HasFault stream fault → Drained stream pieces passage fault
+    → HasFault stream fault → Drained stream pieces (record passage { passed = [] }) fault
 drained_from stream pieces passage fault so_far none has =
     let kept = kept_fault passage.left passage.bytes none in
     let same : kept.0 ≡ fault =
     fault_once stream kept.0 fault (so_far_fault stream pieces passage kept.0 so_far kept.1)
     has in
     record {
-      so_far = so_far;
+      so_far = so_far_forgot stream pieces passage so_far;
+      none_kept = refl;
       still = none;
       stands = subst
           (λ (x : Option FrameError). HasFault (after passage) x) same kept.1;
@@ -460,7 +476,12 @@ drained_start pieces passage none is =
       all = refl;
     } in
     let here : Drained [] [] start None =
-    record { so_far = so_far; still = no_head-short [] (omega arith); stands = has_none } in
+    record {
+      so_far = so_far;
+      none_kept = refl;
+      still = no_head-short [] (omega arith);
+      stands = has_none;
+    } in
     subst (λ (xs : List OwnedPiece). Drained [] xs passage None) (sym none)
     (subst (λ (p : Passage). Drained [] [] p None) (sym is) here)
 

@@ -1,7 +1,11 @@
 -- The bytes of a buffer.
-use Rattle.std.specs.Prelude.{ℕ, List, drop}
+use Rattle.std.specs.Prelude.{ℕ, List, ◌-◌, drop, take}
 use Rattle.pg_frames.specs.declared.buffer.Buffer.{Buffer}
 
 -- those that weren't taken
 abbrev pub unread : Buffer → List ℕ
 unread buffer = drop buffer.start buffer.bytes.items
+
+-- those that were taken and aren't forgotten
+abbrev pub kept : Buffer → List ℕ
+kept buffer = take (buffer.start - buffer.kept_from) (drop buffer.kept_from buffer.bytes.items)

@@ -69,9 +69,11 @@ pub record SoFar (stream : List ℕ) (pieces : List OwnedPiece) (passage : Passa
   pub stream_is : stream ≡ texts frames ++ (opened ++ passage.bytes)
   pub all : pieces ≡ whole ++ begun
 
--- and nothing more can be handed out, and this fault stands in the rest
+-- and nothing more can be handed out, this fault stands in the rest, and what was handed out is
+-- forgotten
 pub record Drained (stream : List ℕ) (pieces : List OwnedPiece) (passage : Passage)
     (fault : Option FrameError) : Type 0 where
   pub so_far : SoFar stream pieces passage
+  pub none_kept : passage.passed ≡ []
   pub still : HasNoNext passage.left passage.bytes
   pub stands : HasFault (after passage) fault

@@ -9,18 +9,25 @@ use Rattle.pg_frames.specs.declared.piece.Piece.TheVariants.{Head, Part, Tail}
 use Rattle.pg_frames.specs.FrameText.{is_type}
 
 -- What of a stream was fed and not handed out, and how many bytes more belong to the body whose
--- head was handed out, if the tail wasn't.
+-- head was handed out, if the tail wasn't; and what was handed out and isn't forgotten.
 pub record Passage : Type 0 where
+  pub passed : List ℕ
   pub left : Option ℕ
   pub bytes : List ℕ
 
 -- of a stream that is at its start
 abbrev pub start : Passage
-start = record { left = None; bytes = [] }
+start = record { passed = []; left = None; bytes = [] }
 
 -- with a piece of the stream more
 abbrev pub fed : Passage → List ℕ → Passage
-fed passage piece = record { left = passage.left; bytes = passage.bytes ++ piece }
+fed passage piece =
+    record { passed = passage.passed; left = passage.left; bytes = passage.bytes ++ piece }
+
+-- with some bytes forgotten that were handed out
+abbrev pub forgotten : Passage → ℕ → Passage
+forgotten passage count =
+    record { passed = drop count passage.passed; left = passage.left; bytes = passage.bytes }
 
 -- what follows the frame whose head was handed out
 abbrev pub after : Passage → List ℕ
@@ -56,13 +63,15 @@ pub record BeginsWith (bytes : List ℕ) (header : Header) : Type 0 where
   pub head : IsHead header.kind header.length
   pub whole : bytes ≡ head_text header.kind header.length ++ drop 5 bytes
 
--- what may be handed out next
+-- what may be handed out next, which then stands behind what was handed out before
 abbrev pub Hands : Passage → Option Piece → Passage → Type 0
 Hands old None new = (new ≡ old) × HasNoNext old.left old.bytes
 Hands old (Some (Head kind size)) new =
     (old.left ≡ None) × IsHead kind size × (old.bytes ≡ head_text kind size ++ new.bytes)
-    × (new.left ≡ Some (size - 4))
+    × (new.left ≡ Some (size - 4)) × (new.passed ≡ old.passed ++ head_text kind size)
 Hands old (Some (Part part)) new =
     (more : ℕ) × (0 < length part.now) × (old.left ≡ Some (length part.now + more))
     × (old.bytes ≡ part.now ++ new.bytes) × (new.left ≡ Some more)
+    × (new.passed ≡ old.passed ++ part.now)
 Hands old (Some Tail) new = (old.left ≡ Some 0) × (new.left ≡ None) × (new.bytes ≡ old.bytes)
+    × (new.passed ≡ old.passed)

@@ -1,4 +1,5 @@
-//! The bytes that a flow was fed and hasn't handed out, in memory that is taken once.
+//! The bytes that a flow was fed and hasn't handed out, and behind them those that it handed out
+//! last, in memory that is taken once.
 ghost use Rattle.std.specs.Prelude.{◌≡◌, ◌+◌, ◌-◌, ◌≤◌, ◌++◌, [], length, drop, take, slice_range, vec_len, vec_capacity, IfOk};
 
 use std::alloc::{AllocError, Global};
@@ -6,43 +7,61 @@ use std::alloc::{AllocError, Global};
 /// How many bytes a buffer holds at most.
 pub const CAPACITY: usize = 16_384;
 
-/// Bytes that are appended at the end and taken from the front.
+/// Bytes that are appended at the end and taken from the front. Those that were taken are kept in
+/// front of the others until they are forgotten.
 #[derive(Drop)]
 pub struct Buffer {
     bytes: Vec<u8>,
+    // What stands before it was forgotten.
+    kept_from: usize,
     // What stands before it was taken.
     start: usize,
+    ghost in_order: { kept_from ≤ start },
     ghost in_bounds: { start ≤ vec_len bytes },
-    ghost fits: { vec_len bytes ≤ start + 16384 },
+    ghost fits: { vec_len bytes ≤ kept_from + 16384 },
     ghost capacity: { 16384 ≤ vec_capacity bytes },
 }
 
 impl Buffer {
-    ghost use Rattle.pg_frames.specs.Buffer.{unread};
+    ghost use Rattle.pg_frames.specs.Buffer.{kept, unread};
 
     /// An empty buffer, which takes no more memory from then on.
     pub fn new(alloc: Global) -> Result<Buffer, AllocError>
-        ensures { IfOk result (λ buffer. unread buffer ≡ []) }
+        ensures unread { IfOk result (λ buffer. unread buffer ≡ []) }
+        ensures kept { IfOk result (λ buffer. kept buffer ≡ []) }
     {
         let bytes = Vec::with_capacity(alloc, CAPACITY)?;
-        Ok(Buffer { bytes, start: 0 })
+        Ok(Buffer {
+            bytes,
+            kept_from: 0,
+            start: 0,
+        })
     }
 
-    /// The bytes.
+    /// The bytes that weren't taken.
     pub fn as_slice(&self) -> &[u8]
         ensures value { result.now ≡ unread self.now }
-        ensures fits { length (unread self.now) ≤ 16384 }
+        ensures fits { length (kept self.now) + length (unread self.now) ≤ 16384 }
     {
         self.bytes.as_slice().split_at(self.start).1
     }
 
+    /// The bytes that were taken and aren't forgotten.
+    pub fn kept(&self) -> &[u8]
+        ensures { result.now ≡ kept self.now }
+    {
+        &self.bytes.as_slice()[self.kept_from..self.start]
+    }
+
     /// Appends some bytes.
     pub fn append(&mut self, piece: &[u8])
-        requires { length (unread self.old) + length piece.now ≤ 16384 }
-        ensures { unread self.new ≡ unread self.old ++ piece.now }
+        requires { length (kept self.old) + (length (unread self.old) + length piece.now) ≤ 16384 }
+        ensures unread { unread self.new ≡ unread self.old ++ piece.now }
+        ensures kept { kept self.new ≡ kept self.old }
     {
-        remove_front(&mut self.bytes, self.start);
-        self.start = 0;
+        remove_front(&mut self.bytes, self.kept_from);
+        self.start -= self.kept_from;
+        self.kept_from = 0;
         self.bytes.extend_from_slice(piece).unwrap();
     }
 
@@ -50,6 +69,7 @@ impl Buffer {
     pub fn advance(&mut self, count: usize)
         requires { count ≤ length (unread self.old) }
         ensures left { unread self.new ≡ drop count (unread self.old) }
+        ensures kept { kept self.new ≡ kept self.old ++ take count (unread self.old) }
         ensures taken { slice_range self.new.bytes.items (self.new.start - count) self.new.start
             ≡ take count (unread self.old) }
         ensures within { count ≤ self.new.start }
@@ -65,6 +85,15 @@ impl Buffer {
     {
         let end = self.start;
         &self.bytes.as_slice()[end - count..end]
+    }
+
+    /// Forgets some of the bytes that were taken, the oldest first.
+    pub fn forget(&mut self, count: usize)
+        requires { count ≤ length (kept self.old) }
+        ensures unread { unread self.new ≡ unread self.old }
+        ensures kept { kept self.new ≡ drop count (kept self.old) }
+    {
+        self.kept_from += count;
     }
 }
 

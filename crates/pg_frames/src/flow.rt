@@ -5,7 +5,7 @@ ghost use Rattle.std.specs.Io.BufRead.{Rests};
 ghost use Rattle.pg_frames.specs.contracts.flow.Flow.{the_row};
 ghost use Rattle.pg_frames.specs.declared.error.FrameError.{FrameError};
 ghost use Rattle.pg_frames.specs.FrameText.{HasFault};
-ghost use Rattle.pg_frames.specs.Passage.{start, fed, after, answer_of, BeginsNoHead, BeginsWith, HasNoNext, Hands};
+ghost use Rattle.pg_frames.specs.Passage.{start, fed, forgotten, after, answer_of, BeginsNoHead, BeginsWith, HasNoNext, Hands};
 
 use crate::buffer::{Buffer, CAPACITY};
 use crate::header::{FIELD_LEN, HEADER_LEN, Header, header_at};
@@ -14,8 +14,9 @@ use crate::{FrameError, Piece};
 use std::alloc::Global;
 use std::marker::Model;
 
-/// What was fed of a stream and isn't handed out yet. In contracts it is a `Passage`: these bytes,
-/// and how many more belong to the body whose head was handed out.
+/// What was fed of a stream and isn't handed out yet, and what was handed out and isn't forgotten
+/// yet. In contracts it is a `Passage`: these bytes, and how many more belong to the body whose head
+/// was handed out.
 #[derive(Drop)]
 pub struct Flow {
     buffer: Buffer,
@@ -27,9 +28,13 @@ impl Model for Flow {
 
     ghost Value = { Passage };
 
-    ghost use Rattle.pg_frames.specs.Buffer.{unread};
+    ghost use Rattle.pg_frames.specs.Buffer.{kept, unread};
 
-    ghost view = { λ flow. record { left = flow.left; bytes = unread flow.buffer } };
+    ghost view = { λ flow. record {
+      passed = kept flow.buffer;
+      left = flow.left;
+      bytes = unread flow.buffer;
+    } };
 }
 
 impl Flow {
@@ -47,19 +52,20 @@ impl Flow {
 
     /// How many bytes may be fed now.
     pub fn room(&self) -> usize
-        ensures room { result + length self.now.bytes ≡ 16384 }
-        // Where all was handed out and there is no fault, at most four bytes are kept.
+        ensures room { result + (length self.now.passed + length self.now.bytes) ≡ 16384 }
+        // Where all was handed out and there is no fault, at most four bytes are kept beside those
+        // that aren't forgotten.
         ensures drained { HasNoNext self.now.left self.now.bytes
-            → HasFault (after self.now) None → 16380 ≤ result }
+            → HasFault (after self.now) None → 16380 ≤ result + length self.now.passed }
     {
-        room_beside(self.buffer.as_slice())
+        room_beside(self.buffer.kept(), self.buffer.as_slice())
     }
 
     /// Takes the next piece of the stream, for which there has to be room. Frames before a fault
     /// are handed out all the same. Once a fault was returned, it is returned from then on, and
     /// nothing more is taken.
     pub fn feed(&mut self, piece: &[u8]) -> Result<(), FrameError>
-        requires { length self.old.bytes + length piece.now ≤ 16384 }
+        requires { length self.old.passed + (length self.old.bytes + length piece.now) ≤ 16384 }
         // The fault is the one at the front of the rest of what was fed.
         ensures judged { (fault : _) × HasFault (after (fed self.old piece.now)) fault
             × (result ≡ answer_of fault) }
@@ -78,8 +84,8 @@ impl Flow {
         }
     }
 
-    // The fault at the front of the rest.
-    fn fault(&self) -> Option<FrameError>
+    /// The fault at the front of the rest of what was fed.
+    pub fn fault(&self) -> Option<FrameError>
         ensures { HasFault (after self.now) result }
     {
         let bytes = self.buffer.as_slice();
@@ -112,15 +118,37 @@ impl Flow {
         self.left = Some(left - count);
         Some(Piece::Part(self.buffer.taken(count)))
     }
+
+    /// The bytes that were fed and aren't handed out.
+    pub fn pending(&self) -> &[u8]
+        ensures { result.now ≡ self.now.bytes }
+    {
+        self.buffer.as_slice()
+    }
+
+    /// The text of the pieces that were handed out, as far as it isn't forgotten.
+    pub fn passed(&self) -> &[u8]
+        ensures { result.now ≡ self.now.passed }
+    {
+        self.buffer.kept()
+    }
+
+    /// Forgets the first bytes of that text, which makes room.
+    pub fn forget(&mut self, count: usize)
+        requires { count ≤ length self.old.passed }
+        ensures { self.new ≡ forgotten self.old count }
+    {
+        self.buffer.forget(count);
+    }
 }
 
-// The room beside the bytes of a buffer.
-fn room_beside(bytes: &[u8]) -> usize
-    requires { length bytes.now ≤ 16384 }
-    ensures room { result + length bytes.now ≡ 16384 }
-    ensures bytes { (i : ℕ) → slice_index bytes.now i < 256 }
+// The room beside the two parts of a buffer.
+fn room_beside(kept: &[u8], unread: &[u8]) -> usize
+    requires { length kept.now + length unread.now ≤ 16384 }
+    ensures room { result + (length kept.now + length unread.now) ≡ 16384 }
+    ensures bytes { (i : ℕ) → slice_index unread.now i < 256 }
 {
-    CAPACITY - bytes.len()
+    CAPACITY - (kept.len() + unread.len())
 }
 
 // The head at the front of the bytes.

@@ -95,13 +95,14 @@ fn take_some(
     pieces: &mut Vec<OwnedPiece>,
     piece: &[u8],
 ) -> Result<Option<FrameError>, AllocError>
-    requires { length flow.old.bytes + length piece.now ≤ 16384 }
+    requires { length flow.old.passed + (length flow.old.bytes + length piece.now) ≤ 16384 }
     ensures { IfOk result (λ fault. (stream : List ℕ)
         → Drained stream pieces.old.items flow.old None
         → Drained (stream ++ piece.now) pieces.new.items flow.new fault) }
 {
     let answer = flow.feed(piece);
     hand_out(alloc, flow, pieces)?;
+    forget_all(flow);
     Ok(answer.err())
 }
 
@@ -117,6 +118,14 @@ fn hand_out(alloc: Global, flow: &mut Flow, pieces: &mut Vec<OwnedPiece>) -> Res
         let piece = to_owned(alloc, piece)?;
         pieces.push(piece)?;
     }
+}
+
+// Forgets what was handed out.
+fn forget_all(flow: &mut Flow)
+    ensures { flow.new ≡ record flow.old { passed = [] } }
+{
+    let count = flow.passed().len();
+    flow.forget(count);
 }
 
 // A copy of the piece.

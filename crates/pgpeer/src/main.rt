@@ -1,32 +1,7 @@
-//! The program `pgpeer`: what its arguments ask for, and the answer.
+//! The program `pgpeer`: its arguments are handed to `answer`, with the files and the writers.
 #![tactic(auto)]
 
-mod answer;
-mod arguments;
-mod check;
-mod coming;
-mod command_name;
-mod decide;
-mod decide_request;
-mod decide_texts;
-mod decision;
-mod fault;
-mod hand_back;
-mod held;
-mod list;
-mod live_client;
-mod opener;
-mod peers;
-mod request;
-mod steps;
-#[cfg(test)]
-mod tests;
-mod usage;
-mod wrong;
-
-use answer::{answer, write_fault};
-use fault::Fault;
-use opener::Disk;
+use answer::{Disk, Fault, answer, write_fault};
 use std::alloc::{AllocError, Global};
 use std::io::ErrorKind;
 use std::process::ExitCode;

@@ -64,16 +64,30 @@ fn assert_handed(rt: &impl Abort, flow: &mut Flow, text: &[u8], start: usize) ->
     at
 }
 
+// What was handed out is this part of the text, in one slice, and is forgotten then; what wasn't is
+// what follows it.
+fn assert_kept(rt: &impl Abort, flow: &mut Flow, passed: Option<&[u8]>, pending: Option<&[u8]>) {
+    assert!(rt; passed == Some(flow.passed()));
+    assert!(rt; pending == Some(flow.pending()));
+    let count = flow.passed().len();
+    flow.forget(count);
+    assert!(rt; flow.passed().is_empty());
+}
+
 // Passes on a text in pieces of this size.
 fn assert_passed(rt: &(impl Abort + AllocGlobal), text: &[u8], size: usize) -> Result<(), Fail> {
     let mut flow = Flow::new(rt.alloc())?;
     let mut at = 0;
+    let mut fed = 0usize;
     for piece in text.chunks(size.max(1)) {
         if piece.len() > flow.room() {
             return Err(Fail::from("no room"));
         }
         assert_eq!(rt; flow.feed(piece), Ok(()));
-        at = assert_handed(rt, &mut flow, text, at);
+        fed = fed.saturating_add(piece.len());
+        let start = at;
+        at = assert_handed(rt, &mut flow, text, start);
+        assert_kept(rt, &mut flow, text.get(start..at), text.get(at..fed));
     }
     assert_eq!(rt; at, text.len());
     Ok(())

@@ -1,4 +1,4 @@
-use Rattle.std.proofs.Common.{◌∙◌, ◌++◌, ◌<◌, Option, length, sym, subst, arith, rules}
+use Rattle.std.proofs.Common.{◌∙◌, ◌++◌, ◌<◌, Option, length, ap, sym, subst, arith, rules}
 use Rattle.pg_frames.specs.declared.error.FrameError.{FrameError}
 use Rattle.pg_frames.specs.Parts.{Drained}
 use Rattle.pg_frames.proofs.CutLemmas.{none_from}
@@ -24,7 +24,7 @@ loop-rest-smaller c =
     let room = c.room.ensures.drained so.2.still so.2.stands in
     let some = some_bytes c.loop-rest.rest.now (sym c.is_empty.ensures ∙ c.loop-rest-test.true) in
     let shorter : length c.split_at.result.1.now < length c.loop-rest.rest.now =
-    omega (arith, some, room, c.min.ensures, c.split_at.ensures.back_len) in
+    omega (arith, some, room, ap length so.2.none_kept, c.min.ensures, c.split_at.ensures.back_len) in
     shorter
 
 pub loop-rest-preserved : goal.loop-rest-preserved

@@ -22,6 +22,9 @@ returns c stream drained =
     let here =
     drained_from (stream ++ piece) c.hand_out.new.pieces.items c.hand_out.new.flow judged.0
     handed.0 handed.1 has in
+    let forgot =
+    subst (λ (p : Passage). Drained (stream ++ piece) c.hand_out.new.pieces.items p judged.0)
+    (sym c.forget_all.ensures) here in
     let told = c.err.ensures.value ∙ ap result_err judged.2 ∙ fault_of_answer judged.0 in
     subst (λ (fault : Option FrameError). Drained (stream ++ piece) c.hand_out.new.pieces.items
-    c.hand_out.new.flow fault) (sym told) here
+    c.forget_all.new.flow fault) (sym told) forgot

@@ -9,4 +9,5 @@ returns-clause-drained c none has =
     let small : IsBytes c.args.self.now.bytes =
     subst IsBytes same (λ i. c.room_beside.ensures.bytes i) in
     let few = few_kept c.args.self.now.left c.args.self.now.bytes small none has in
-    omega (arith, c.room_beside.ensures.room, few, ap length same)
+    let kept = c.kept.ensures ∙ ap (λ p. p.passed) c.self.view_is in
+    omega (arith, c.room_beside.ensures.room, few, ap length same, ap length kept)

@@ -1,0 +1,16 @@
+use Rattle.std.proofs.Common.{◌≡◌, ◌+◌, ◌≤◌, vec_len}
+use Rattle.answer.specs.Decision.{Goes}
+use Rattle.answer.proofs.hand_back.close_all.Given as goal
+
+-- the links so far were closed, each by a call
+abbrev pub invariant-loop-lease : goal.invariant-loop-lease
+invariant-loop-lease g l =
+    record {
+      lock : l.caller.lock ≡ l.shared;
+      goes : Goes l.fn.caller l.caller;
+      allowance : l.fn.caller.allowance + vec_len l.leases
+          ≤ l.caller.allowance + vec_len l.fn.leases;
+    }
+
+abbrev pub decreases-loop-lease : goal.decreases-loop-lease
+decreases-loop-lease g l = vec_len l.leases

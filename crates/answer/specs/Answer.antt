@@ -1,0 +1,159 @@
+-- What the program answers to its arguments (own).
+use Rattle.std.specs.Prelude.{ℕ, ◌≡◌, ◌⊎◌, ◌<◌, true, List, ◌++◌, Option, Some, None, length, max, ⊤}
+use Rattle.std.specs.Io.KnownBytes.{Appends, Keeps}
+use Rattle.pg_ids.specs.AnyKey.{IsAnyKey, any_key_bytes}
+use Rattle.pg_ids.specs.declared.any_key.AnyKey.{AnyKey}
+use Rattle.startup.specs.Kinds.{none_seen}
+use Rattle.startup.specs.CancelPacket.{cancel_packet, packet_bytes}
+use Rattle.startup.specs.Numbers.{number_of_refusal}
+use Rattle.startup.specs.FirstPacket.{Outcome, Startup, Cancel, Ssl, Gss, More, Refused, IsOutcome}
+use Rattle.startup.specs.declared.startup_error.StartupError.{StartupError}
+use Rattle.ini_config.specs.Plain.{plain_settings}
+use Rattle.ini_config.specs.Node.{NodeSettings}
+use Rattle.lease.specs.declared.ticket.TicketRecord.{TicketRecord}
+use Rattle.node_core.specs.declared.exchange.Order.{Order}
+use Rattle.answer.specs.declared.fault.Fault.{Fault}
+use Rattle.answer.specs.declared.fault.Fault.TheVariants.{Usage, Packet, NotACancel, Unexpected, Memory}
+use Rattle.command_line.specs.Arguments.{Text}
+use Rattle.command_line.specs.Request.{Asked, Decision, Key, Decide, Check, World, Help, Version, asked}
+use Rattle.answer.specs.Decision.{IsDecided, Gives}
+use Rattle.answer.specs.Files.{Folder, IsGroupLine, IsCheckFault}
+use Rattle.answer.specs.Scripts.{HasOutcome, IsWorldFault}
+use Rattle.answer.specs.Texts.{key_text, order_text, fault_text}
+use Rattle.answer.specs.Statuses.{status_of}
+
+-- ---- key
+
+-- the line names the parts of the key that has these bytes, 8 or 24
+pub record IsKeyLine (bytes line : List ℕ) : Type 0 where
+  pub key : AnyKey
+  pub is_key : IsAnyKey key
+  pub bytes_are : any_key_bytes key ≡ bytes
+  pub text : line ≡ key_text key
+
+-- ---- decide
+
+-- a slot and a place for a link for each client, and one at least
+abbrev pub settings_in : Decision → NodeSettings
+settings_in given = plain_settings given.me given.peers (max (length given.clients) 1)
+    (max (length given.clients) 1)
+
+-- the line names an order that the node may give for the request in the packet, which is the
+-- CancelRequest of a key of either kind and nothing else
+pub record IsOrderLine (given : Decision) (line : List ℕ) : Type 0 where
+  pub key : AnyKey
+  pub is_key : IsAnyKey key
+  pub packet : given.packet ≡ packet_bytes (cancel_packet key)
+  pub order : Order TicketRecord
+  pub decided : IsDecided (settings_in given) given.clients key order
+  pub text : line ≡ order_text order
+
+-- a first packet that asks for something else
+abbrev pub IsNoCancel : Outcome → Type 0
+IsNoCancel (Startup kind user database used) = ⊤
+IsNoCancel Ssl = ⊤
+IsNoCancel Gss = ⊤
+IsNoCancel (Cancel key) = ⊥
+IsNoCancel More = ⊥
+IsNoCancel (Refused error) = ⊥
+
+-- bytes stand behind a CancelRequest
+pub record HasMore (packet : List ℕ) : Type 0 where
+  pub key : AnyKey
+  pub is_key : IsAnyKey key
+  pub more : List ℕ
+  pub some : 0 < length more
+  pub packet_is : packet ≡ packet_bytes (cancel_packet key) ++ more
+
+-- the packet is refused by this number
+pub record IsRefused (packet : List ℕ) (number : ℕ) : Type 0 where
+  pub error : StartupError
+  pub outcome : IsOutcome none_seen packet true (Refused error)
+  pub number_is : number ≡ number_of_refusal error
+
+-- the packet is whole, and asks for something else
+pub record AsksElse (packet : List ℕ) : Type 0 where
+  pub outcome : Outcome
+  pub is : IsOutcome none_seen packet true outcome
+  pub else : IsNoCancel outcome
+
+-- why a packet is no CancelRequest: bytes stand behind it, it is refused, or it asks for something
+-- else; or memory ran out
+abbrev pub IsPacketFault : List ℕ → Fault → Type 0
+IsPacketFault packet (Usage text) = HasMore packet
+IsPacketFault packet (Packet number) = IsRefused packet number
+IsPacketFault packet NotACancel = AsksElse packet
+IsPacketFault packet Memory = ⊤
+IsPacketFault packet _ = ⊥
+
+-- why there is no order: by the packet, or the node gave an answer that isn't expected
+abbrev pub IsDecideFault : Decision → Fault → Type 0
+IsDecideFault given (Unexpected reply) = Gives (settings_in given) reply
+IsDecideFault given fault = IsPacketFault given.packet fault
+
+-- ---- all requests
+
+-- memory ran out
+abbrev pub IsMemoryFault : Fault → Type 0
+IsMemoryFault fault = fault ≡ Memory
+
+-- the text is the answer to what is asked; the texts of help and of the version are free
+abbrev pub IsOutput : Folder → Option Asked → Text → Type 0
+IsOutput folder None text = ⊥
+IsOutput folder (Some (Key bytes)) text = IsKeyLine bytes text
+IsOutput folder (Some (Decide given)) text = IsOrderLine given text
+IsOutput folder (Some (Check files)) text = IsGroupLine folder files text
+IsOutput folder (Some (World file)) text = HasOutcome (folder file) text
+IsOutput folder (Some (Help topic)) text = ⊤
+IsOutput folder (Some Version) text = ⊤
+
+-- the arguments ask for nothing, in a free text, or memory ran out
+abbrev pub IsUsage : Fault → Type 0
+IsUsage (Usage text) = ⊤
+IsUsage Memory = ⊤
+IsUsage _ = ⊥
+
+-- why there is no answer to what is asked
+abbrev pub IsFault : Folder → Option Asked → Fault → Type 0
+IsFault folder None fault = IsUsage fault
+IsFault folder (Some (Key bytes)) fault = IsMemoryFault fault
+IsFault folder (Some (Decide given)) fault = IsDecideFault given fault
+IsFault folder (Some (Check files)) fault = IsCheckFault folder files fault
+IsFault folder (Some (World file)) fault = IsWorldFault (folder file) file fault
+IsFault folder (Some (Help topic)) fault = IsMemoryFault fault
+IsFault folder (Some Version) fault = IsMemoryFault fault
+
+-- known bytes grow by a beginning of the text, or stay
+pub record AppendsPart (old new : Option (List ℕ)) (text : List ℕ) : Type 0 where
+  pub part : List ℕ
+  pub rest : List ℕ
+  pub text_is : text ≡ part ++ rest
+  pub appends : Appends old new part
+
+-- bytes that a writer holds before and after
+pub record Change : Type 0 where
+  pub old : Option (List ℕ)
+  pub new : Option (List ℕ)
+
+-- the text was written whole, with this status; or the writer failed, and a beginning was written,
+-- with status 1
+abbrev pub IsWritten : Change → Text → ℕ → ℕ → Type 0
+IsWritten writer text status result =
+    ((result ≡ status) × Appends writer.old writer.new text)
+    ⊎ ((result ≡ 1) × AppendsPart writer.old writer.new text)
+
+-- the fault was written, or where there was no memory for its text, that memory ran out
+abbrev pub WritesFault : Fault → Change → ℕ → Type 0
+WritesFault fault err result =
+    IsWritten err (fault_text fault) (status_of fault) result
+    ⊎ IsWritten err (fault_text Memory) (status_of Memory) result
+
+-- The answer to arguments, by what files hold: a text on standard output and nothing on standard
+-- error, with status 0; or a fault on standard error and nothing on standard output, with its
+-- status.
+abbrev pub IsAnswer : Folder → List Text → Change → Change → ℕ → Type 0
+IsAnswer folder arguments out err result =
+    ((text : Text) × IsOutput folder (asked arguments) text
+    × IsWritten out text 0 result × Keeps err.old err.new)
+    ⊎ ((fault : Fault) × IsFault folder (asked arguments) fault
+    × IsWritten err (fault_text fault) (status_of fault) result × Keeps out.old out.new)

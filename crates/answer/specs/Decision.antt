@@ -1,0 +1,179 @@
+-- What `pgpeer decide` asks of a node (own).
+use Rattle.std.specs.Prelude.{ℕ, ◌≡◌, ◌+◌, ◌<◌, List, [], ◌∷◌, ◌++◌, AllPairs, Option, Some, None, length, Ok, Err, ⊤}
+use Rattle.pg_ids.specs.declared.any_key.AnyKey.{AnyKey}
+use Rattle.pg_ids.specs.declared.any_key.Kind.TheVariants as kind
+use Rattle.ini_config.specs.Node.{NodeSettings}
+use Rattle.lease.specs.declared.pass.PassRecord.{PassRecord}
+use Rattle.lease.specs.declared.permit.PermitRecord.{PermitRecord}
+use Rattle.lease.specs.declared.link_record.LinkRecord.{LinkRecord}
+use Rattle.lease.specs.declared.ticket.TicketRecord.{TicketRecord}
+use Rattle.link_pool.specs.declared.replies.AcquireReply.TheVariants as acquire
+use Rattle.link_pool.specs.declared.replies.UpReply.TheVariants as up
+use Rattle.link_pool.specs.declared.replies.CloseReply.TheVariants as close
+use Rattle.link_pool.specs.declared.replies.FailedReply.TheVariants as failed
+use Rattle.node_core.specs.Refusals.{join_number, step_number}
+use Rattle.node_core.specs.View.{NodeView, IsFresh}
+use Rattle.node_core.specs.declared.exchange.LeaveReply.{LeaveReply}
+use Rattle.node_core.specs.declared.exchange.LeaveReply.TheVariants as leave
+use Rattle.node_core.specs.declared.exchange.Order.{Order}
+use Rattle.node_core.specs.declared.exchange.Exchange.{Exchange}
+use Rattle.node_core.specs.declared.exchange.Exchange.TheVariants.{Join, Leave, Acquire, Up, Close, Cancel, Failed}
+use Rattle.node_core.specs.declared.refusal.StepRefusal.TheVariants.{Stale, Exhausted, Holding}
+use Rattle.locked_node.specs.Replay.{Replay}
+use Rattle.locked_node.specs.Totals.{all_calls}
+use Rattle.locked_node.specs.Lock.{CallerView, CallerStep}
+use Rattle.answer.specs.declared.fault.Fault.{Fault}
+use Rattle.answer.specs.declared.fault.Fault.TheVariants.{Unexpected, Memory}
+use Rattle.answer.specs.declared.fault.Reply.{Reply}
+use Rattle.answer.specs.declared.fault.Reply.TheVariants as reply
+use Rattle.command_line.specs.declared.live_client.LiveClient.{LiveClient}
+
+-- ---- which calls are made
+
+-- the calls by which the client of a pass opens a link, whose server cancels by this key; without a
+-- key none
+abbrev pub AreOpening : PassRecord → Option (List ℕ) → List Exchange → Type 0
+AreOpening pass None calls = calls ≡ []
+AreOpening pass (Some key) calls =
+    (permit : PermitRecord) × (lease : LinkRecord)
+    × (calls ≡ Acquire pass (acquire.Open permit) ∷ Up permit key (up.Up lease) ∷ [])
+
+-- the calls by which a client comes: it joins the first database with its secret and gets a slot
+-- and a short key, and then it opens its link, if it has one
+pub record IsComing (client : LiveClient) (calls : List Exchange) : Type 0 where
+  pub pass : PassRecord
+  pub after : List Exchange
+  pub are : calls ≡ Join 0 client.secret kind.Short (Ok pass) ∷ after
+  pub opening : AreOpening pass client.server_key after
+
+-- the calls by which these clients come, one after the other
+abbrev pub AreLive : List LiveClient → List Exchange → Type 0
+AreLive [] calls = calls ≡ []
+AreLive (client ∷ clients) calls =
+    (first : List Exchange) × (rest : List Exchange)
+    × (calls ≡ first ++ rest) × IsComing client first × AreLive clients rest
+
+-- ---- replies
+
+-- the reply of a call that isn't expected, where that is none of those below
+abbrev pub reply_of : Exchange → Option Reply
+reply_of (Join database secret asked (Err refusal)) = Some (reply.Number (join_number refusal))
+reply_of (Acquire pass (acquire.Got lease)) = Some reply.Got
+reply_of (Acquire pass acquire.Waiting) = Some reply.Waiting
+reply_of (Acquire pass acquire.Cancelled) = Some reply.Cancelled
+reply_of (Acquire pass acquire.Holding) = Some (reply.Number (step_number Holding))
+reply_of (Acquire pass acquire.Exhausted) = Some (reply.Number (step_number Exhausted))
+reply_of (Acquire pass acquire.Stale) = Some (reply.Number (step_number Stale))
+reply_of (Up permit key (up.Exhausted again stream)) = Some (reply.Number (step_number Exhausted))
+reply_of (Up permit key (up.Stale stream)) = Some (reply.Number (step_number Stale))
+reply_of (Up permit key (up.AtEnd stream)) = Some (reply.Number (step_number Exhausted))
+reply_of (Failed ticket (failed.Closed stream)) = Some reply.Closed
+reply_of (Failed ticket failed.Stale) = Some (reply.Number (step_number Stale))
+reply_of (Failed ticket failed.Exhausted) = Some (reply.Number (step_number Exhausted))
+reply_of (Close lease (close.Stale stream)) = Some (reply.Number (step_number Stale))
+reply_of (Close lease (close.Exhausted stream)) = Some (reply.Number (step_number Exhausted))
+reply_of (Leave pass (leave.Holding again)) = Some (reply.Number (step_number Holding))
+reply_of (Leave pass leave.Stale) = Some (reply.Number (step_number Stale))
+reply_of (Leave pass leave.Exhausted) = Some (reply.Number (step_number Exhausted))
+reply_of _ = None
+
+-- leaving, where the pass is handed back or isn't
+abbrev pub leave_reply : Option PassRecord → LeaveReply PassRecord
+leave_reply None = leave.Left
+leave_reply (Some held) = leave.Holding held
+
+-- one of these calls has this reply, which isn't expected
+pub record SayIn (calls : List Exchange) (given : Reply) : Type 0 where
+  pub before : List Exchange
+  pub call : Exchange
+  pub after : List Exchange
+  pub are : calls ≡ before ++ call ∷ after
+  pub says : reply_of call ≡ Some given
+
+-- ---- what a caller makes
+
+-- a caller's calls are in the order of their places
+abbrev pub IsInOrder : CallerView → Type 0
+IsInOrder caller = AllPairs (λ one later. one < later) caller.places
+
+-- a caller made these calls besides, in this order
+pub record Makes (old : CallerView) (calls : List Exchange) (new : CallerView) : Type 0 where
+  pub lock : new.lock ≡ old.lock
+  pub start : new.start ≡ old.start
+  pub allowance : new.allowance + length calls ≡ old.allowance
+  pub made : new.made ≡ old.made ++ calls
+  pub count : all_calls new.tally ≡ all_calls old.tally + length calls
+  pub order : IsInOrder old → IsInOrder new
+
+-- a caller made one call, whose reply isn't expected
+pub record Trips (old : CallerView) (given : Reply) (new : CallerView) : Type 0 where
+  pub call : Exchange
+  pub step : CallerStep old call new
+  pub says : reply_of call ≡ Some given
+
+-- a caller made calls, one of which has this reply, which isn't expected
+pub record Stops (old : CallerView) (given : Reply) (new : CallerView) : Type 0 where
+  pub calls : List Exchange
+  pub makes : Makes old calls new
+  pub say : SayIn calls given
+
+-- a caller made the calls by which these clients come
+pub record Comes (old : CallerView) (clients : List LiveClient) (new : CallerView) : Type 0 where
+  pub calls : List Exchange
+  pub live : AreLive clients calls
+  pub makes : Makes old calls new
+
+-- a caller made some calls
+pub record Goes (old new : CallerView) : Type 0 where
+  pub calls : List Exchange
+  pub makes : Makes old calls new
+
+-- these clients came, and then a request with this key got this order; more calls may follow
+pub record Orders (old : CallerView) (clients : List LiveClient) (key : AnyKey)
+    (order : Order TicketRecord) (new : CallerView) : Type 0 where
+  pub calls : List Exchange
+  pub live : AreLive clients calls
+  pub more : List Exchange
+  pub makes : Makes old (calls ++ Cancel key order ∷ more) new
+
+-- ---- what a new node may do
+
+-- from this view these clients come, and then the node gives this order for a request with this key
+pub record MayOrder (first : NodeView) (clients : List LiveClient) (key : AnyKey)
+    (order : Order TicketRecord) : Type 0 where
+  pub calls : List Exchange
+  pub live : AreLive clients calls
+  pub last : NodeView
+  pub replay : Replay first (calls ++ Cancel key order ∷ []) last
+
+-- from this view some calls lead to one with this reply, which isn't expected
+pub record MayReply (first : NodeView) (given : Reply) : Type 0 where
+  pub calls : List Exchange
+  pub call : Exchange
+  pub says : reply_of call ≡ Some given
+  pub last : NodeView
+  pub replay : Replay first (calls ++ call ∷ []) last
+
+-- a new node of boot 0 to which these clients came may give this order for a request with this key
+pub record IsDecided (settings : NodeSettings) (clients : List LiveClient) (key : AnyKey)
+    (order : Order TicketRecord) : Type 0 where
+  pub fresh : NodeView
+  pub made : IsFresh settings 0 fresh
+  pub order_is : MayOrder fresh clients key order
+
+-- a new node of boot 0 may give this reply, which isn't expected, to a call behind others
+pub record Gives (settings : NodeSettings) (given : Reply) : Type 0 where
+  pub fresh : NodeView
+  pub made : IsFresh settings 0 fresh
+  pub reply_is : MayReply fresh given
+
+-- the node may give a reply that isn't expected, or memory ran out
+abbrev pub IsReplyFault : NodeView → Fault → Type 0
+IsReplyFault first (Unexpected given) = MayReply first given
+IsReplyFault first Memory = ⊤
+IsReplyFault first _ = ⊥
+
+abbrev pub IsNodeFault : NodeSettings → Fault → Type 0
+IsNodeFault settings (Unexpected given) = Gives settings given
+IsNodeFault settings Memory = ⊤
+IsNodeFault settings _ = ⊥

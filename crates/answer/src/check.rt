@@ -1,0 +1,98 @@
+//! `pgpeer check`: whether settings files make a group.
+ghost use Rattle.std.specs.Prelude.{◌≡◌, ◌⊎◌, IfErr, IfOk, MatchResult, String, map, string_bytes, IfSome};
+ghost use Rattle.answer.specs.Files.{IsCheckFault, IsFileFault, IsGroupLine, SayInOrder, Says};
+ghost use Rattle.answer.specs.Texts.{group_text};
+
+use crate::fault::Fault;
+use crate::file_text::{file_text, unread};
+use crate::opener::Opener;
+use ini_config::{Group, GroupError, IniCode, IniError, Settings, read_settings};
+use std::alloc::Global;
+use std::io::ErrorKind;
+
+/// The line that names how many nodes these files make a group of. The files are judged in order,
+/// then the group, and the first fault alone is returned.
+pub fn check_line<O: Opener>(alloc: Global, opener: &O, files: &[&str]) -> Result<String, Fault>
+    ensures group { IfOk result (λ line. IsGroupLine (O.text opener.now)
+        (map (λ file. file.now) files.now) (string_bytes line)) }
+    ensures refused { IfErr result (λ fault. IsCheckFault (O.text opener.now)
+        (map (λ file. file.now) files.now) fault) }
+{
+    match Group::check(settings_of(alloc, opener, files)?) {
+        Ok(group) => {
+            let count = group.nodes().len();
+            group_line(alloc, count)
+        }
+        Err(error) => Err(Fault::OfGroup(error)),
+    }
+}
+
+fn group_line(alloc: Global, count: usize) -> Result<String, Fault>
+    ensures { MatchResult result
+        (λ line. string_bytes line ≡ group_text count)
+        (λ fault. fault ≡ Fault.Memory) }
+{
+    format!(in alloc; "group of {count} nodes\n").map_err(|_| Fault::Memory)
+}
+
+// The settings that the files say, in order.
+fn settings_of<O: Opener>(alloc: Global, opener: &O, files: &[&str]) -> Result<Vec<Settings>, Fault>
+    ensures said { IfOk result (λ nodes. SayInOrder (O.text opener.now)
+        (map (λ file. file.now) files.now) nodes.items) }
+    ensures refused { IfErr result (λ fault. IsCheckFault (O.text opener.now)
+        (map (λ file. file.now) files.now) fault) }
+{
+    let mut nodes = Vec::new(alloc);
+    for file in files {
+        let node = node_of(alloc, opener, file)?;
+        let Ok(()) = nodes.push(node) else {
+            return Err(Fault::OfGroup(GroupError::Memory));
+        };
+    }
+    Ok(nodes)
+}
+
+// The settings that the file says.
+fn node_of<O: Opener>(alloc: Global, opener: &O, file: &str) -> Result<Settings, Fault>
+    ensures said { IfOk result (λ node. Says (O.text opener.now file.now) node) }
+    ensures refused { IfErr result
+        (λ fault. IsFileFault (O.text opener.now file.now) file.now fault) }
+{
+    let text = settings_text(alloc, opener, file)?;
+    match read_settings(alloc, text.as_str()) {
+        Ok(settings) => Ok(settings),
+        Err(error) => Err(in_file(alloc, file, error)),
+    }
+}
+
+// What the file holds.
+fn settings_text<O: Opener>(alloc: Global, opener: &O, file: &str) -> Result<String, Fault>
+    ensures held { IfOk result (λ text. IfSome (O.text opener.now file.now)
+        (λ bytes. string_bytes text ≡ bytes)) }
+    ensures refused { IfErr result
+        (λ fault. IsFileFault (O.text opener.now file.now) file.now fault) }
+{
+    match file_text(alloc, opener, file) {
+        Ok(text) => Ok(text),
+        Err(error) if error.kind() == ErrorKind::OutOfMemory => {
+            Err(in_file(alloc, file, OUT_OF_MEMORY))
+        }
+        Err(error) => Err(unread(alloc, file, &error)),
+    }
+}
+
+/// The fault of a file for which there was no memory.
+const OUT_OF_MEMORY: IniError = IniError {
+    line: 0,
+    code: IniCode::Memory,
+};
+
+fn in_file(alloc: Global, file: &str, error: IniError) -> Fault
+    ensures { (result ≡ Fault.Memory) ⊎ ((name : String Global) × (string_bytes name ≡ file.now)
+        × (result ≡ Fault.InFile name error)) }
+{
+    match String::from_str(alloc, file) {
+        Ok(file) => Fault::InFile { file, error },
+        Err(_) => Fault::Memory,
+    }
+}

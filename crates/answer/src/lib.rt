@@ -1,0 +1,19 @@
+//! The program's answer to its arguments.
+#![tactic(auto)]
+
+mod answers;
+mod check;
+mod coming;
+mod decide;
+mod decision;
+mod fault;
+mod file_text;
+mod hand_back;
+mod held;
+mod opener;
+mod outcome;
+mod steps;
+
+pub use answers::{answer, write_fault};
+pub use fault::{Fault, Reply};
+pub use opener::{Disk, Opener};

@@ -1,0 +1,158 @@
+//! The texts of help and of the version, whole.
+use super::{expect_answer, expect_lines};
+use std::test::Fail;
+
+const PROGRAM: &str = "\
+A peered group of PostgreSQL connection poolers
+
+Usage: pgpeer <COMMAND>
+
+Commands:
+  key     Print the parts of a cancel key
+  decide  Print what a pooler does with a cancel request
+  check   Check that settings files make a group
+  world   Print what the events of a script bring about
+  help    Print this message or the help of the given subcommand(s)
+
+Options:
+  -h, --help     Print help
+  -V, --version  Print version
+
+Exit status:
+  0  the answer is on standard output
+  1  a file can't be read, the packet is no cancel request, memory ran out, or writing failed
+  2  the arguments, a settings file, a script or the group are refused
+
+Examples:
+  pgpeer key 0008000000000007
+  pgpeer decide --me 1 --peers 2 0000001004d2162e0008000000000007
+  pgpeer check node1.ini node2.ini
+  pgpeer world the_race.script
+";
+
+const KEY: &str = "\
+Print the parts of a cancel key
+
+Usage: pgpeer key <HEX16|HEX48>
+
+Arguments:
+  <HEX16|HEX48>  The key's eight bytes in 16 hexadecimal digits, or a long key's 24 in 48
+
+Options:
+  -h, --help  Print help
+
+Examples:
+  $ pgpeer key 0008000000000007
+  peer 2 slot 0 secret 1 hops 3
+
+  $ pgpeer key 000800000000000700000000000000010000000000000004
+  peer 2 slot 0 secret 1 hops 3 boot 1 serial 4
+";
+
+const DECIDE: &str = "\
+Print what a pooler does with a cancel request
+
+Usage: pgpeer decide --me <N> [--peers <P,P..>] [--live <C,C..>] <HEX>
+
+Arguments:
+  <HEX>  A connection's first packet, in hexadecimal digits; a cancel request has 16 or 32 bytes
+
+Options:
+      --me <N>         The pooler's own number, 0 to 16383
+      --peers <P,P..>  The numbers of its peers, at most 64, each 1 to 16383 and none twice
+      --live <C,C..>   Its clients in the order of their logins, at most 65535, each by its secret,
+                       0 to 4294967295, or as SECRET:KEYHEX if it has a server connection, with that
+                       connection's cancel key in 16 hexadecimal digits
+  -h, --help           Print help
+
+Output, one of:
+  serve KEYHEX     the client's server is asked to cancel, by this key
+  forward P HEX    the request goes on to peer P, as these 16 or 32 bytes
+  refused 60       the request may pass through no more poolers
+  refused 61       no client has the key's slot and secret
+  refused 62       the key's pooler is no peer
+  refused 63       the client has no server connection
+
+Examples:
+  $ pgpeer decide --me 1 --peers 2 0000001004d2162e0008000000000007
+  forward 2 0000001004d2162e0008000000000006
+
+  $ pgpeer decide --me 2 --live 1:1112131415161718 0000001004d2162e0008000000000007
+  serve 1112131415161718
+";
+
+const CHECK: &str = "\
+Check that settings files make a group
+
+Usage: pgpeer check <FILE>...
+
+Arguments:
+  <FILE>...  Settings files, one for each pooler of the group
+
+Options:
+  -h, --help  Print help
+
+Example:
+  $ pgpeer check node1.ini node2.ini
+  group of 2 nodes
+";
+
+const WORLD: &str = "\
+Print what the events of a script bring about
+
+Usage: pgpeer world <FILE>
+
+Arguments:
+  <FILE>  A script: the poolers of a group, and the events, in order
+
+Options:
+  -h, --help  Print help
+
+Output:
+  NUMBER REPLY                      each event, from 1; one that may not take place is skipped
+  interrupt B L A                   each query that was cancelled: the server process, the client
+                                    and the cancel request
+  events E skipped S interrupts I   how many of each
+
+Example, where login.script has the lines 'node 2 1 1' and 'login 2 10 1':
+  $ pgpeer world login.script
+  1 key 0008000000000007
+  events 1 skipped 0 interrupts 0
+";
+
+const VERSION: &str = "pgpeer 0.1.0\n";
+
+// The arguments, and the text. A help option is one wherever it is, also where a value is due.
+const TEXTS: [(&str, &str); 20] = [
+    ("--help", PROGRAM),
+    ("-h", PROGRAM),
+    ("help", PROGRAM),
+    ("key --help", KEY),
+    ("key -h", KEY),
+    ("help key", KEY),
+    ("decide --help", DECIDE),
+    ("decide -h", DECIDE),
+    ("decide --me -h", DECIDE),
+    ("help decide", DECIDE),
+    ("check --help", CHECK),
+    ("check -h", CHECK),
+    ("check small -h", CHECK),
+    ("help check", CHECK),
+    ("world --help", WORLD),
+    ("world -h", WORLD),
+    ("world small -h", WORLD),
+    ("help world", WORLD),
+    ("--version", VERSION),
+    ("-V", VERSION),
+];
+
+#[test]
+fn help(rt: HostRuntime) -> Result<(), Fail> {
+    expect_lines(&rt, &TEXTS)
+}
+
+// Without arguments help is a fault.
+#[test]
+fn no_arguments(rt: HostRuntime) {
+    expect_answer(&rt, &[], 2, "", PROGRAM);
+}

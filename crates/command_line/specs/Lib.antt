@@ -1,0 +1,5 @@
+pub mod Arguments
+pub mod Finds
+pub mod Numbers
+pub mod Clients
+pub mod Request

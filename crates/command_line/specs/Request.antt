@@ -1,0 +1,156 @@
+-- What each list of arguments asks the program for (own).
+use Rattle.std.specs.Prelude.{ℕ, Bool, true, false, ◌&&◌, if◌then◌else◌, List, [], ◌∷◌, map, Option, Some, None, codes}
+use Rattle.std.specs.Map.{lookup}
+use Rattle.std.specs.Option.{option_map, option_or}
+use Rattle.std.specs.Result.{result_ok}
+use Rattle.std.specs.Str.{bytes_eq}
+use Rattle.hex.specs.Hex.{decode_of, decode_sized}
+use Rattle.pg_ids.specs.AnyKey.{any_key_bytes}
+use Rattle.command_line.specs.Arguments.{Text, Given, given_by_all, asks_help}
+use Rattle.command_line.specs.Numbers.{◌>>=◌, only_one, at_most_one, number_from, peers_of}
+use Rattle.command_line.specs.Clients.{eight_bytes, clients_of}
+use Rattle.command_line.specs.declared.live_client.LiveClient.{LiveClient}
+use Rattle.command_line.specs.declared.command_name.CommandName.{CommandName}
+use Rattle.command_line.specs.declared.command_name.CommandName.TheVariants as command
+use Rattle.command_line.specs.declared.command_name.FirstArgument.{FirstArgument}
+use Rattle.command_line.specs.declared.command_name.FirstArgument.TheVariants as first
+use Rattle.command_line.specs.declared.request.Request.{Request as RequestGiven}
+use Rattle.command_line.specs.declared.request.Request.TheVariants as request
+use Rattle.command_line.specs.declared.decide_request.DecideRequest.{DecideRequest}
+
+-- a node's own number, its peers in order, its clients in order, and the bytes of a first packet
+pub record Decision : Type 0 where
+  pub me : ℕ
+  pub peers : List ℕ
+  pub clients : List LiveClient
+  pub packet : List ℕ
+
+-- a key's parts, by its bytes; a decision; whether files make a group; what the events of a file's
+-- script bring about; help on a command or on the program; the program's version
+pub data Asked : Type 0 where
+  Key : (bytes : List ℕ) → Asked
+  Decide : Decision → Asked
+  Check : (files : List Text) → Asked
+  World : (file : Text) → Asked
+  Help : Option CommandName → Asked
+  Version : Asked
+
+-- the commands, by their names
+abbrev pub commands : List (Text × CommandName)
+commands = (codes "key", command.Key) ∷ (codes "decide", command.Decide)
+    ∷ (codes "check", command.Check) ∷ (codes "world", command.World) ∷ []
+
+-- what may stand first besides a command
+abbrev pub first_words : List (Text × FirstArgument)
+first_words =
+    (codes "-h", first.Help) ∷ (codes "--help", first.Help)
+    ∷ (codes "-V", first.Version) ∷ (codes "--version", first.Version)
+    ∷ (codes "help", first.HelpOn) ∷ []
+
+-- the command of this name
+unfoldable pub command_named : Text → Option CommandName
+command_named name = lookup (bytes_eq name) commands
+
+-- what the first argument says: help or the version whatever follows, help on what follows, or a
+-- command
+unfoldable pub first_of : Text → Option FirstArgument
+first_of argument = option_or (lookup (bytes_eq argument) first_words)
+    (option_map first.Command (command_named argument))
+
+-- whether no option is given
+abbrev pub is_none : List Text → Bool
+is_none [] = true
+is_none (text ∷ rest) = false
+
+abbrev pub no_option : Given → Bool
+no_option given = is_none given.me && (is_none given.peers && is_none given.live)
+
+-- the bytes of a key: the eight of a short one in 16 hexadecimal digits, or the 24 of a long one in
+-- 48
+abbrev pub key_bytes_of : Text → Option (List ℕ)
+key_bytes_of digits = option_or (eight_bytes digits) (result_ok (decode_sized digits 24))
+
+-- `key` wants a key in hexadecimal digits and nothing else
+abbrev pub key_of : List Text → Option Asked
+key_of texts = do
+  digits ← only_one texts
+  bytes ← key_bytes_of digits
+  Some (Key bytes)
+
+abbrev pub key_asked : Given → Option Asked
+key_asked given = if no_option given then key_of given.plain else None
+
+-- `check` wants files, one or more, and nothing else
+abbrev pub files_of : List Text → Option Asked
+files_of [] = None
+files_of (file ∷ files) = Some (Check (file ∷ files))
+
+abbrev pub check_asked : Given → Option Asked
+check_asked given = if no_option given then files_of given.plain else None
+
+-- `world` wants one file and nothing else
+abbrev pub world_of : List Text → Option Asked
+world_of texts = option_map World (only_one texts)
+
+abbrev pub world_asked : Given → Option Asked
+world_asked given = if no_option given then world_of given.plain else None
+
+-- the node's number, its peers, its clients and the packet, by their texts
+abbrev pub decision_of : Text → Option Text → Option Text → Text → Option Decision
+decision_of me_text peers_text live_text packet_text = do
+  me ← number_from 0 16383 me_text
+  peers ← peers_of peers_text
+  clients ← clients_of live_text
+  packet ← result_ok (decode_of packet_text)
+  Some (record { me = me; peers = peers; clients = clients; packet = packet })
+
+-- `decide` wants the node's number once, its peers and its clients at most once, and a packet in
+-- hexadecimal digits
+abbrev pub decide_asked : Given → Option Asked
+decide_asked given = do
+  me ← only_one given.me
+  peers ← at_most_one given.peers
+  live ← at_most_one given.live
+  packet ← only_one given.plain
+  option_map Decide (decision_of me peers live packet)
+
+abbrev pub asked_of : CommandName → Given → Option Asked
+asked_of command.Key given = key_asked given
+asked_of command.Decide given = decide_asked given
+asked_of command.Check given = check_asked given
+asked_of command.World given = world_asked given
+
+-- help on one command, or on the program
+abbrev pub topic_of : List Text → Option Asked
+topic_of [] = Some (Help None)
+topic_of (name ∷ []) = option_map (λ found. Help (Some found)) (command_named name)
+topic_of (name ∷ another ∷ rest) = None
+
+abbrev pub asked_behind : FirstArgument → List Text → Option Asked
+asked_behind first.Help rest = Some (Help None)
+asked_behind first.Version rest = Some Version
+asked_behind first.HelpOn rest = topic_of rest
+asked_behind (first.Command name) rest =
+    if asks_help rest then Some (Help (Some name)) else (given_by_all rest >>= asked_of name)
+
+-- what arguments ask for, and none where they ask for nothing that there is
+abbrev pub asked : List Text → Option Asked
+asked [] = None
+asked (argument ∷ rest) = first_of argument >>= (λ found. asked_behind found rest)
+
+-- what a request asks for
+abbrev pub decision_in : DecideRequest → Decision
+decision_in given = record {
+  me = given.me;
+  peers = given.peers.items;
+  clients = given.clients.items;
+  packet = given.packet.items;
+}
+
+abbrev pub asked_in : RequestGiven → Asked
+asked_in (request.Key key) = Key (any_key_bytes key)
+asked_in (request.Decide given) = Decide (decision_in given)
+asked_in (request.Check files) = Check (map (λ file. file.now) files.items)
+asked_in (request.World file) = World file.now
+asked_in (request.Help topic) = Help topic
+asked_in request.Version = Version

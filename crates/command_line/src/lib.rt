@@ -1,0 +1,20 @@
+//! What the program's arguments ask for, and the texts of help and of faults in them.
+#![tactic(auto)]
+
+mod arguments;
+mod command_name;
+mod decide_request;
+mod decide_texts;
+mod list;
+mod live_client;
+mod peers;
+mod request;
+mod texts;
+mod wrong;
+
+pub use command_name::CommandName;
+pub use decide_request::DecideRequest;
+pub use live_client::LiveClient;
+pub use request::Request;
+pub use texts::{help, longer_packet, usage, version};
+pub use wrong::{Place, Wrong};

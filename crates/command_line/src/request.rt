@@ -1,0 +1,139 @@
+//! What arguments ask for.
+ghost use Rattle.std.specs.Prelude.{◌≡◌, Some, map};
+ghost use Rattle.pg_ids.specs.AnyKey.{any_key_bytes};
+ghost use Rattle.command_line.specs.Arguments.{given_in};
+ghost use Rattle.command_line.specs.Finds.{Finds, Reads};
+ghost use Rattle.command_line.specs.Request.{asked, asked_behind, asked_in, check_asked, decide_asked, key_asked, key_bytes_of, topic_of, world_asked};
+ghost use Rattle.command_line.specs.declared.command_name.FirstArgument.TheVariants.{Command};
+
+use crate::arguments::{Given, ask_help};
+use crate::command_name::{CommandName, FirstArgument};
+use crate::decide_request::DecideRequest;
+use crate::decide_texts::read_decide;
+use crate::list::{at_most_one, only_one};
+use crate::wrong::{Place, Wrong};
+use hex::FromHex;
+use pg_ids::AnyKey;
+use std::alloc::Global;
+
+/// What the program is asked for.
+#[derive(Drop)]
+pub enum Request<'a> {
+    /// A key's parts.
+    Key(AnyKey),
+    /// What a node does with a cancel request.
+    Decide(DecideRequest),
+    /// Whether these files make a group.
+    Check(Vec<&'a str>),
+    /// What the events of this file's script bring about.
+    World(&'a str),
+    /// Help on a command, or on the program.
+    Help(Option<CommandName>),
+    /// The program's version.
+    Version,
+}
+
+impl<'a> Request<'a> {
+    /// What these arguments ask for.
+    pub fn read(alloc: Global, arguments: &[&'a str]) -> Result<Request<'a>, Wrong<'a>>
+        ensures { Finds asked_in result (asked (map (λ argument. argument.now) arguments.now)) }
+    {
+        let Some((first, rest)) = arguments.split_first() else {
+            return Err(Wrong::Form);
+        };
+        match FirstArgument::read(first) {
+            None => Err(Wrong::Form),
+            Some(FirstArgument::Help) => Ok(Request::Help(None)),
+            Some(FirstArgument::Version) => Ok(Request::Version),
+            Some(FirstArgument::HelpOn) => Request::topic(rest),
+            Some(FirstArgument::Command(name)) => Request::of_command(alloc, name, rest),
+        }
+    }
+
+    // Help on what these arguments name.
+    fn topic(arguments: &[&'a str]) -> Result<Request<'a>, Wrong<'a>>
+        ensures { Reads asked_in result (topic_of (map (λ argument. argument.now) arguments.now)) }
+    {
+        let Some(name) = at_most_one(arguments)? else {
+            return Ok(Request::Help(None));
+        };
+        match CommandName::read(name) {
+            Some(name) => Ok(Request::Help(Some(name))),
+            None => Err(Wrong::Form),
+        }
+    }
+
+    // What these arguments ask a command for.
+    fn of_command(
+        alloc: Global,
+        name: CommandName,
+        arguments: &[&'a str],
+    ) -> Result<Request<'a>, Wrong<'a>>
+        ensures { Finds asked_in result (asked_behind (Command name)
+            (map (λ argument. argument.now) arguments.now)) }
+    {
+        if ask_help(arguments) {
+            return Ok(Request::Help(Some(name)));
+        }
+        let given = Given::read(alloc, arguments)?;
+        match name {
+            CommandName::Key => Request::key(&given),
+            CommandName::Decide => Request::decide(alloc, &given),
+            CommandName::Check => Request::check(given),
+            CommandName::World => Request::world(&given),
+        }
+    }
+
+    fn key(given: &Given<'a>) -> Result<Request<'a>, Wrong<'a>>
+        ensures { Reads asked_in result (key_asked (given_in given.now)) }
+    {
+        if !given.has_no_option() {
+            return Err(Wrong::Form);
+        }
+        let digits = only_one(&given.plain)?;
+        Ok(Request::Key(key_of(digits)?))
+    }
+
+    fn check(given: Given<'a>) -> Result<Request<'a>, Wrong<'a>>
+        ensures { Reads asked_in result (check_asked (given_in given.entry)) }
+    {
+        if !given.has_no_option() || given.plain.is_empty() {
+            return Err(Wrong::Form);
+        }
+        Ok(Request::Check(given.plain))
+    }
+
+    fn world(given: &Given<'a>) -> Result<Request<'a>, Wrong<'a>>
+        ensures { Reads asked_in result (world_asked (given_in given.now)) }
+    {
+        if !given.has_no_option() {
+            return Err(Wrong::Form);
+        }
+        let file = only_one(&given.plain)?;
+        Ok(Request::World(file))
+    }
+
+    fn decide(alloc: Global, given: &Given<'a>) -> Result<Request<'a>, Wrong<'a>>
+        ensures { Finds asked_in result (decide_asked (given_in given.now)) }
+    {
+        let me = only_one(&given.me)?;
+        let peers = at_most_one(&given.peers)?;
+        let live = at_most_one(&given.live)?;
+        let packet = only_one(&given.plain)?;
+        let request = read_decide(alloc, me, peers, live, packet)?;
+        Ok(Request::Decide(request))
+    }
+}
+
+// The key in these digits: 16 of a short one, or 48 of a long one.
+fn key_of<'a>(digits: &'a str) -> Result<AnyKey, Wrong<'a>>
+    ensures { Reads any_key_bytes result (key_bytes_of digits.now) }
+{
+    if let Ok(bytes) = <[u8; 8] as FromHex>::from_hex(digits) {
+        return Ok(AnyKey::from_short_bytes(bytes));
+    }
+    match <[u8; 24] as FromHex>::from_hex(digits) {
+        Ok(bytes) => Ok(AnyKey::from_long_bytes(bytes)),
+        Err(_) => Err(Wrong::Value(Place::Key, digits)),
+    }
+}

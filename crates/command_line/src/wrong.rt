@@ -1,0 +1,55 @@
+//! Why arguments ask for nothing.
+ghost use Rattle.std.specs.Prelude.{◌≡◌};
+ghost use Rattle.command_line.specs.declared.wrong.Wrong.TheVariants.{Memory};
+
+use std::alloc::{AllocError, AllocFailed};
+
+/// What a value is of.
+#[derive(Clone, Copy, Debug, PartialEq, Eq)]
+pub enum Place {
+    /// The key of `key`.
+    Key,
+    /// The node's own number.
+    Me,
+    /// The number of a peer.
+    Peer,
+    /// The number of a peer that was given before.
+    PeerAgain,
+    /// One peer more than there may be.
+    PeerTooMany,
+    /// The secret of a client.
+    Secret,
+    /// The server's key of a client.
+    ServerKey,
+    /// One client more than there may be.
+    ClientTooMany,
+    /// The packet of `decide`.
+    Packet,
+}
+
+/// Why arguments ask for nothing that there is, or that memory ran out.
+#[derive(Clone, Copy, Debug)]
+pub enum Wrong<'a> {
+    /// They aren't arguments of a command, as the parser of arguments says.
+    Form,
+    /// This value isn't one that there may be.
+    Value(Place, &'a str),
+    /// Memory ran out.
+    Memory,
+}
+
+impl From<AllocError> for Wrong<'_> {
+    ghost from_gives = { λ _ w. w ≡ Memory };
+
+    fn from(_: AllocError) -> Self {
+        Wrong::Memory
+    }
+}
+
+impl<T: Drop> From<AllocFailed<T>> for Wrong<'_> {
+    ghost from_gives = { λ _ w. w ≡ Memory };
+
+    fn from(_: AllocFailed<T>) -> Self {
+        Wrong::Memory
+    }
+}

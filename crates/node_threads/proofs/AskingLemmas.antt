@@ -1,0 +1,307 @@
+-- The next request of a client, or how it leaves.
+use Rattle.std.proofs.Common.{◌≡◌, ◌≢◌, inl, inr, ℕ, List, [], ◌∷◌, ◌++◌, length, Option, Some, None, Result, Ok, Err, refl, sym, ap, ◌∙◌, subst, append_assoc, append-nil}
+use Rattle.std.proofs.lemmas.List.Concat.{flat_map-append}
+use Rattle.peer_forward.specs.Calls.{Call, Effect, Makes}
+use Rattle.pg_frames.specs.declared.frame.Frame.{Frame}
+use Rattle.pg_frames.specs.declared.error.FrameError.{FrameError}
+use Rattle.pg_frames.specs.declared.error.FrameError.TheVariants.{BadLength, TooLong, BadType, Memory}
+use Rattle.pg_frames.specs.FrameText.{text, texts, BeginsNoFrame, fault_at, HasFault, Tells, IsJudged}
+use Rattle.startup.specs.declared.error_code.ErrorCode.TheVariants.{ProtocolViolation}
+use Rattle.client_state.specs.Session.{Session}
+use Rattle.client_state.specs.ClientMessage.{client_message}
+use Rattle.client_state.specs.declared.client_message.ClientMessage.{ClientMessage}
+use Rattle.client_state.specs.declared.client_message.ClientMessage.TheVariants as message
+use Rattle.node_threads.specs.declared.asking.Found.{Found}
+use Rattle.node_threads.specs.declared.asking.Found.TheVariants.{More, Request, End}
+use Rattle.node_threads.specs.StreamCalls.{SomeCalls, Read, ReadToEnd}
+use Rattle.node_threads.specs.Asking.{IsError, AreGathered, Asks, request_of, Says, Faulty, Silent, NoMemory}
+use Rattle.node_threads.specs.Progress.{asking}
+use Rattle.node_threads.specs.Finding.{gathering, Comes, Finds, Quits, IsRefusal, AsksNext}
+use Rattle.node_threads.proofs.CallLists.{Makes-append, Read-append, Read-nothing, ReadToEnd-append}
+use Rattle.node_threads.proofs.ReadingLemmas.{fault_here}
+
+-- the fault that was returned is the one that stands
+told_fault : (error : FrameError) (fault : Option FrameError) → error ≢ Memory
+    → Tells (Err error) fault → fault ≡ Some error
+told_fault BadLength fault not tells = tells
+told_fault TooLong fault not tells = tells
+told_fault BadType fault not tells = tells
+told_fault Memory fault not tells = absurd (not refl)
+
+-- a fault that was found without a byte more
+pub fault_found : (kept left piece : List ℕ) (error : FrameError)
+    (answer : Result (Unit {0}) FrameError) → piece ≡ [] → answer ≡ Err error → error ≢ Memory
+    → BeginsNoFrame kept → IsJudged (kept ++ piece) answer
+    → ((fault : FrameError) → HasFault kept (Some fault) → (answer ≡ Err fault) × (left ≡ kept))
+    → (fault_at kept ≡ Some error) × (left ≡ kept)
+fault_found kept left piece error answer nothing is not none judged ever =
+    let tells = subst (λ a. Tells a judged.0) is judged.2 in
+    let fault_is = told_fault error judged.0 not tells in
+    let has : HasFault kept (Some error) =
+    subst (λ xs. HasFault xs (Some error)) (ap (λ xs. kept ++ xs) nothing ∙ append-nil kept)
+    (subst (λ f. HasFault (kept ++ piece) f) fault_is judged.1) in
+    (fault_here kept (Some error) none has, (ever error has).1)
+
+-- what could not be taken ends the session
+refused : (kept left piece : List ℕ) (error : FrameError) (answer : Result (Unit {0}) FrameError)
+    (reply : List ℕ) → error ≢ Memory → piece ≡ [] → answer ≡ Err error → BeginsNoFrame kept
+    → IsJudged (kept ++ piece) answer
+    → ((fault : FrameError) → HasFault kept (Some fault) → (answer ≡ Err fault) × (left ≡ kept))
+    → IsError ProtocolViolation reply → Quits kept [] reply left
+refused kept left piece error answer reply not nothing is none judged ever wrong =
+    let found = fault_found kept left piece error answer nothing is not none judged ever in
+    inl (error, refl, found.0, found.1, wrong)
+
+pub quits_refused : (kept left piece : List ℕ) (error : FrameError)
+    (answer : Result (Unit {0}) FrameError) (reply : List ℕ) → piece ≡ [] → answer ≡ Err error
+    → BeginsNoFrame kept → IsJudged (kept ++ piece) answer
+    → ((fault : FrameError) → HasFault kept (Some fault) → (answer ≡ Err fault) × (left ≡ kept))
+    → IsRefusal error reply → Quits kept [] reply left
+quits_refused kept left piece BadLength answer reply nothing is none judged ever wrong =
+    refused kept left piece BadLength answer reply (λ e. cc) nothing is none judged ever wrong
+quits_refused kept left piece TooLong answer reply nothing is none judged ever wrong =
+    refused kept left piece TooLong answer reply (λ e. cc) nothing is none judged ever wrong
+quits_refused kept left piece BadType answer reply nothing is none judged ever wrong =
+    refused kept left piece BadType answer reply (λ e. cc) nothing is none judged ever wrong
+quits_refused kept left piece Memory answer reply nothing is none judged ever wrong =
+    inr (inr ([], Read-nothing, wrong))
+
+-- no fault was found
+pub none_found : (kept piece : List ℕ) (answer : Result (Unit {0}) FrameError) → piece ≡ []
+    → answer ≡ Ok tt → IsJudged (kept ++ piece) answer → HasFault kept None
+none_found kept piece answer nothing is judged =
+    let tells = subst (λ a. Tells a judged.0) is judged.2 in
+    subst (λ xs. HasFault xs None) (ap (λ xs. kept ++ xs) nothing ∙ append-nil kept)
+    (subst (λ f. HasFault (kept ++ piece) f) tells judged.1)
+
+-- gathered messages, and more
+gathered-append : (before : List ℕ) (xs ys : List Frame) → AreGathered before xs
+    → AreGathered (before ++ texts xs) ys → AreGathered before (xs ++ ys)
+gathered-append before [] ys first more =
+    subst (λ b. AreGathered b ys) (append-nil before) more
+gathered-append before (x ∷ xs) ys first more = (
+  first.0,
+  first.1,
+  gathered-append (before ++ text x) xs ys first.2
+      (subst (λ b. AreGathered b ys) (sym (append_assoc before (text x) (texts xs))) more),
+)
+
+texts-append : (xs ys : List Frame) → texts (xs ++ ys) ≡ texts xs ++ texts ys
+texts-append xs ys = flat_map-append text xs ys
+
+-- so far this was read of the client, and these messages gathered
+pub record Awaiting {T : Type 0} (wrote gave : Effect T) (old : T) (database : ℕ) (kept : List ℕ)
+    (session : Session) (rest : List ℕ) (new : T) : Type 0 where
+  pub calls : List Call
+  pub made : Makes wrote gave old calls new
+  pub bytes : List ℕ
+  pub read : Read bytes calls
+  pub parts : List Frame
+  pub gathered : AreGathered [] parts
+  pub whole : kept ++ bytes ≡ texts parts ++ rest
+  pub session_is : session ≡ gathering database (texts parts)
+
+pub awaiting_start : {T : Type 0} (wrote gave : Effect T) (old : T) (database : ℕ)
+    (kept : List ℕ) (session : Session) → session ≡ gathering database []
+    → Awaiting wrote gave old database kept session kept old
+awaiting_start wrote gave old database kept session is = record {
+  calls = [];
+  made = refl;
+  bytes = [];
+  read = Read-nothing;
+  parts = [];
+  gathered = tt;
+  whole = append-nil kept;
+  session_is = is;
+}
+
+-- what was found, as found from the session that is known
+finds_at : {T : Type 0} (wrote gave : Effect T) (old new : T) (database : ℕ) (kept : List ℕ)
+    (session : Session) (rest : List ℕ) (found : Found) (session' : Session) (left : List ℕ)
+    (so_far : Awaiting wrote gave old database kept session rest new)
+    → Finds session rest found session' left
+    → Finds (gathering database (texts so_far.parts)) rest found session' left
+finds_at wrote gave old new database kept session rest found session' left so_far finds =
+    subst (λ (s : Session). Finds s rest found session' left) so_far.session_is finds
+
+-- messages more were gathered, but none made a request whole
+pub awaiting_more : {T : Type 0} (wrote gave : Effect T) (old new : T) (database : ℕ)
+    (kept : List ℕ) (session session' : Session) (rest left : List ℕ)
+    → Awaiting wrote gave old database kept session rest new
+    → Finds session rest More session' left
+    → Awaiting wrote gave old database kept session' left new × BeginsNoFrame left
+awaiting_more wrote gave old new database kept session session' rest left so_far finds =
+    let more = finds_at wrote gave old new database kept session rest More session' left so_far
+    finds in
+    let joined = texts-append so_far.parts more.0 in (
+      record {
+        calls = so_far.calls;
+        made = so_far.made;
+        bytes = so_far.bytes;
+        read = so_far.read;
+        parts = so_far.parts ++ more.0;
+        gathered = gathered-append [] so_far.parts more.0 so_far.gathered more.2;
+        whole = so_far.whole ∙ ap (λ xs. texts so_far.parts ++ xs) more.1
+            ∙ sym (append_assoc (texts so_far.parts) (texts more.0) left)
+            ∙ ap (λ xs. xs ++ left) (sym joined);
+        session_is = more.4 ∙ ap (λ xs. gathering database xs) (sym joined);
+      },
+      more.3,
+    )
+
+-- more was read
+pub awaiting_read : {T : Type 0} (wrote gave : Effect T) (old new new' : T) (database : ℕ)
+    (kept : List ℕ) (session session' : Session) (rest rest' : List ℕ)
+    → Awaiting wrote gave old database kept session rest new
+    → SomeCalls wrote gave new new'
+    (λ calls. (bytes : List ℕ) × Read bytes calls × (rest' ≡ rest ++ bytes))
+    → session' ≡ session → Awaiting wrote gave old database kept session' rest' new'
+awaiting_read wrote gave old new new' database kept session session' rest rest' so_far more is =
+    let bytes = more.2.0 in
+    record {
+      calls = so_far.calls ++ more.0;
+      made = Makes-append wrote gave old new new' so_far.calls more.0 so_far.made more.1;
+      bytes = so_far.bytes ++ bytes;
+      read = Read-append so_far.bytes bytes so_far.calls more.0 so_far.read more.2.1;
+      parts = so_far.parts;
+      gathered = so_far.gathered;
+      whole = sym (append_assoc kept so_far.bytes bytes) ∙ ap (λ xs. xs ++ bytes) so_far.whole
+          ∙ append_assoc (texts so_far.parts) rest bytes
+          ∙ ap (λ xs. texts so_far.parts ++ xs) (sym more.2.2);
+      session_is = is ∙ so_far.session_is;
+    }
+
+-- the messages up to the one that came
+came : (kept bytes rest left : List ℕ) (database : ℕ) (parts more : List Frame) (last : Frame)
+    (says : ClientMessage) → AreGathered [] parts → kept ++ bytes ≡ texts parts ++ rest
+    → Comes (gathering database (texts parts)) rest more last says left
+    → Asks (parts ++ more) last says
+    × (kept ++ bytes ≡ request_of (parts ++ more) last ++ left)
+came kept bytes rest left database parts more last says gathered whole comes =
+    let joined = texts-append parts more in (
+      record {
+        gathered = gathered-append [] parts more gathered comes.gathered;
+        is_frame = comes.is_frame;
+        means = ap (λ xs. client_message (length xs) last) joined ∙ comes.means;
+      },
+      whole ∙ ap (λ xs. texts parts ++ xs) comes.whole
+          ∙ sym (append_assoc (texts parts) (texts more) (text last ++ left))
+          ∙ ap (λ xs. xs ++ (text last ++ left)) (sym joined)
+          ∙ sym (append_assoc (texts (parts ++ more)) (text last) left),
+    )
+
+-- a request was found
+pub asks_request : {T : Type 0} (wrote gave : Effect T) (old new : T) (database : ℕ)
+    (kept : List ℕ) (session session' : Session) (rest left request : List ℕ)
+    → Awaiting wrote gave old database kept session rest new
+    → Finds session rest (Request request) session' left
+    → SomeCalls wrote gave old new (λ calls. AsksNext kept calls (Ok request) left)
+    × (session' ≡ asking database)
+asks_request wrote gave old new database kept session session' rest left request so_far finds =
+    let found = finds_at wrote gave old new database kept session rest (Request request) session'
+    left so_far finds in
+    let is = came kept so_far.bytes rest left database so_far.parts found.0 found.1
+    message.Request so_far.gathered so_far.whole found.2 in (
+      (
+        so_far.calls,
+        so_far.made,
+        (
+          so_far.bytes,
+          so_far.parts ++ found.0,
+          found.1,
+          so_far.read,
+          is.1,
+          is.0,
+          found.3 ∙ ap (λ xs. xs ++ text found.1) (sym (texts-append so_far.parts found.0)),
+        ),
+      ),
+      found.4,
+    )
+
+-- the client leaves with a message, or memory was refused
+pub asks_end : {T : Type 0} (wrote gave : Effect T) (old new : T) (database : ℕ)
+    (kept : List ℕ) (session session' : Session) (rest left reply : List ℕ)
+    → Awaiting wrote gave old database kept session rest new
+    → Finds session rest (End reply) session' left
+    → SomeCalls wrote gave old new (λ calls. AsksNext kept calls (Err reply) left)
+asks_end wrote gave old new database kept session session' rest left reply so_far finds = (
+  so_far.calls,
+  so_far.made,
+  elim (finds_at wrote gave old new database kept session rest (End reply) session' left so_far
+      finds) [
+        | inl says ↦
+            let is = came kept so_far.bytes rest left database so_far.parts says.0 says.1 says.2
+            so_far.gathered so_far.whole says.3 in (
+              Says (so_far.parts ++ says.0) says.1,
+              (so_far.bytes, says.2, so_far.read, is.1, is.0, says.4),
+            )
+        | inr memory ↦ (
+          NoMemory (so_far.parts ++ memory.0) memory.1,
+          (
+            so_far.bytes,
+            so_far.read,
+            so_far.whole ∙ ap (λ xs. texts so_far.parts ++ xs) memory.2
+                ∙ sym (append_assoc (texts so_far.parts) (texts memory.0) memory.1)
+                ∙ ap (λ xs. xs ++ memory.1) (sym (texts-append so_far.parts memory.0)),
+            gathered-append [] so_far.parts memory.0 so_far.gathered memory.3,
+            memory.4,
+          ),
+        )
+      ],
+)
+
+-- the client leaves without a whole message
+pub asks_quit : {T : Type 0} (wrote gave : Effect T) (old new new' : T) (database : ℕ)
+    (kept : List ℕ) (session : Session) (rest left reply : List ℕ)
+    → Awaiting wrote gave old database kept session rest new → BeginsNoFrame rest
+    → SomeCalls wrote gave new new' (λ calls. Quits rest calls reply left)
+    → SomeCalls wrote gave old new' (λ calls. AsksNext kept calls (Err reply) left)
+asks_quit wrote gave old new new' database kept session rest left reply so_far none quits = (
+  so_far.calls ++ quits.0,
+  Makes-append wrote gave old new new' so_far.calls quits.0 so_far.made quits.1,
+  elim quits.2 [
+    | inl faulty ↦ (
+      Faulty so_far.parts faulty.0,
+      (
+        so_far.bytes,
+        subst (λ calls. Read so_far.bytes calls)
+            (sym (ap (λ xs. so_far.calls ++ xs) faulty.1 ∙ append-nil so_far.calls))
+            so_far.read,
+        so_far.whole ∙ ap (λ xs. texts so_far.parts ++ xs) (sym faulty.3),
+        so_far.gathered,
+        subst BeginsNoFrame (sym faulty.3) none,
+        ap fault_at faulty.3 ∙ faulty.2,
+        faulty.4,
+      ),
+    )
+    | inr other ↦ elim other [
+      | inl silent ↦ (
+        Silent so_far.parts,
+        (
+          so_far.bytes,
+          subst (λ xs. ReadToEnd xs (so_far.calls ++ quits.0))
+              (append-nil so_far.bytes)
+              (ReadToEnd-append so_far.bytes [] so_far.calls quits.0 so_far.read
+              silent.0),
+          so_far.whole ∙ ap (λ xs. texts so_far.parts ++ xs) (sym silent.2),
+          so_far.gathered,
+          subst BeginsNoFrame (sym silent.2) none,
+          ap fault_at silent.2 ∙ silent.1,
+          silent.3,
+        ),
+      )
+      | inr memory ↦ (
+        NoMemory so_far.parts (rest ++ memory.0),
+        (
+          so_far.bytes ++ memory.0,
+          Read-append so_far.bytes memory.0 so_far.calls quits.0 so_far.read memory.1,
+          sym (append_assoc kept so_far.bytes memory.0)
+              ∙ ap (λ xs. xs ++ memory.0) so_far.whole
+              ∙ append_assoc (texts so_far.parts) rest memory.0,
+          so_far.gathered,
+          memory.2,
+        ),
+      )
+    ]
+  ],
+)

@@ -1,0 +1,11 @@
+pub mod Told
+pub mod Balancing
+pub mod CallLists
+pub mod HandingLemmas
+pub mod EndLemmas
+pub mod ReadingLemmas
+pub mod PassingLemmas
+pub mod FindingLemmas
+pub mod AskingLemmas
+pub mod Totals
+pub mod StayLemmas

@@ -1,0 +1,262 @@
+-- A reply is passed on as far as it was handed out, and more of it is read, or it ends.
+use Rattle.std.proofs.Common.{◌≡◌, ◌≢◌, ◌⊎◌, inl, inr, true, is_some, ℕ, ◌+◌, ◌-◌, ◌<◌, List, [], ◌∷◌, ◌++◌, length, take, drop, Option, Some, None, refl, sym, ap, ◌∙◌, subst, arith, append_assoc, append-nil, unwrap_or}
+use Rattle.std.proofs.lemmas.Bool.{false≢true}
+use Rattle.std.proofs.lemmas.List.{drop_all}
+use Rattle.std.specs.List.{AllByRecursion}
+use Rattle.peer_forward.specs.Calls.{Call}
+use Rattle.pg_frames.specs.declared.frame.Frame.{Frame}
+use Rattle.pg_frames.specs.declared.error.FrameError.{FrameError}
+use Rattle.pg_frames.specs.FrameText.{text, texts, IsFrame, BeginsNoFrame, fault_at, HasFault}
+use Rattle.pg_frames.specs.Passage.{Passage, head_text, after, fed, forgotten, HasNoNext, BeginsNoHead}
+use Rattle.startup.specs.declared.error_code.ErrorCode.TheVariants.{ConnectionFailure}
+use Rattle.node_threads.specs.declared.place.Place.{Place}
+use Rattle.node_threads.specs.declared.place.Place.TheVariants.{Between, Inside, AtReady, Status}
+use Rattle.node_threads.specs.declared.stayed.Stayed.{Stayed}
+use Rattle.node_threads.specs.declared.stayed.Stayed.TheVariants.{End}
+use Rattle.node_threads.specs.StreamCalls.{Wrote, WroteSome, IsFailedRead}
+use Rattle.node_threads.specs.Asking.{IsError}
+use Rattle.node_threads.specs.Replying.{Faulty, Lost, Cut, Untold, IsForClient}
+use Rattle.node_threads.specs.Progress.{withheld, IsShown, HandedOut, EndsHere}
+use Rattle.node_threads.proofs.CallLists.{Read-nothing, ReadToEnd-failed}
+use Rattle.node_threads.proofs.HandingLemmas.{text_is}
+use Rattle.node_threads.proofs.EndLemmas.{front_is, last_is, ends_with}
+
+-- where no head stands, no frame does
+no_frame : (bytes : List ℕ) → BeginsNoHead bytes → BeginsNoFrame bytes
+no_frame bytes none frame more is e =
+    none frame.kind (4 + length frame.body) (frame.body ++ more)
+    (record { type_byte = is.type_byte; low = omega arith; high = is.size })
+    (e ∙ ap (λ xs. xs ++ more) (text_is frame.kind frame.body)
+    ∙ append_assoc (head_text frame.kind (4 + length frame.body)) frame.body more)
+
+-- the fault of a stream that begins with no frame
+pub fault_here : (stream : List ℕ) (fault : Option FrameError) → BeginsNoFrame stream
+    → HasFault stream fault → fault_at stream ≡ fault
+fault_here stream fault none has =
+    go has.frames has.cuts.each has.cuts.whole
+  where
+    go : (frames : List Frame) → AllByRecursion IsFrame frames
+        → stream ≡ texts frames ++ has.rest → fault_at stream ≡ fault
+    go [] each whole = ap fault_at whole ∙ has.stands
+    go (frame ∷ frames) each whole = absurd (none frame (texts frames ++ has.rest) each.0
+        (whole ∙ append_assoc (text frame) (texts frames) has.rest))
+
+-- no frame begins no bytes, and no fault stands there
+no_frame-nothing : BeginsNoFrame []
+unfolding text
+no_frame-nothing frame more is e = cc
+
+fault_at-nothing : fault_at [] ≡ None
+unfolding fault_at
+fault_at-nothing = refl
+
+none_some : (fault : FrameError) → None ≡ Some fault → ⊥
+none_some fault e = cc
+
+-- inside a frame of which nothing more is there, no fault stands
+no_fault_inside : (left : ℕ) (bytes : List ℕ) (fault : FrameError) → HasNoNext (Some left) bytes
+    → HasFault (drop left bytes) (Some fault) → ⊥
+no_fault_inside left bytes fault dry has =
+    let nothing : drop left bytes ≡ [] =
+    drop_all left bytes (omega (arith, ap length dry.1)) in
+    none_some fault (sym fault_at-nothing ∙ fault_here [] (Some fault) no_frame-nothing
+    (subst (λ xs. HasFault xs (Some fault)) nothing has))
+
+-- what of the frame at a place is for the client
+for_client : (place : Place) (left : Option ℕ) (bytes shown : List ℕ) → IsShown place left shown
+    → HasNoNext left bytes → IsForClient shown
+for_client Between left bytes shown is dry = inl is.1
+for_client Inside left bytes shown is dry =
+    let some : 0 < is.3 = (subst (λ l. HasNoNext l bytes) is.7 dry).0 in
+    inr (inl (
+      is.0,
+      is.1,
+      is.2,
+      record { head = is.4; means = is.5; more = omega (arith, some, is.8) },
+      is.6,
+    ))
+for_client AtReady left bytes shown is dry = inl is.1
+for_client (Status status) left bytes shown is dry = inl is.1
+
+-- the client doesn't take what was handed out
+pub untold_ends : (stream written : List ℕ) (place : Place) (passage : Passage) (count : ℕ)
+    (tells : List Call) (stayed : Stayed) → count ≡ length (withheld place)
+    → HasNoNext passage.left passage.bytes
+    → WroteSome (take (length passage.passed - count) passage.passed) tells → stayed ≡ End []
+    → HandedOut stream written place passage → EndsHere stream written [] tells stayed
+untold_ends stream written place passage count tells stayed count_is dry told is out = (
+  Untold out.shown (withheld place ++ passage.bytes),
+  ends_with stream written out.frames (Untold out.shown (withheld place ++ passage.bytes))
+      out.front [] tells out.each out.stream_is Read-nothing out.written_is
+      (subst (λ xs. WroteSome xs tells)
+      (front_is passage.passed out.front (withheld place) count out.passed_is count_is) told),
+  (for_client place passage.left passage.bytes out.shown out.is_shown dry, is),
+)
+
+-- a fault stands behind what was handed out
+faulty_between : (stream written : List ℕ) (passage : Passage) (fault : FrameError)
+    (tells : List Call) (reply : List ℕ) (stayed : Stayed)
+    → HandedOut stream written Between passage → HasNoNext passage.left passage.bytes
+    → HasFault (after passage) (Some fault)
+    → Wrote (take (length passage.passed - 0) passage.passed) tells
+    → IsError ConnectionFailure reply → stayed ≡ End reply
+    → EndsHere stream written [] tells stayed
+faulty_between stream written passage fault tells reply stayed out dry has told error is =
+    let none : BeginsNoHead passage.bytes =
+    subst (λ l. HasNoNext l passage.bytes) out.is_shown.0 dry in
+    let here : HasFault passage.bytes (Some fault) =
+    subst (λ l. HasFault (drop (unwrap_or l 0) passage.bytes) (Some fault)) out.is_shown.0 has in (
+      Faulty passage.bytes fault,
+      ends_with stream written out.frames (Faulty passage.bytes fault) out.front [] tells out.each
+          (out.stream_is ∙ ap (λ xs. texts out.frames ++ (xs ++ passage.bytes)) out.is_shown.1)
+          Read-nothing
+          (out.written_is ∙ ap (λ xs. texts out.frames ++ xs) out.is_shown.1
+          ∙ append-nil (texts out.frames))
+          (subst (λ xs. Wrote xs tells)
+          (front_is passage.passed out.front [] 0 out.passed_is refl) told),
+      (
+        fault_here passage.bytes (Some fault) (no_frame passage.bytes none) here,
+        (reply, error, is),
+      ),
+    )
+
+fault_ends : (stream written : List ℕ) (place : Place) (passage : Passage) (fault : FrameError)
+    (tells : List Call) (reply : List ℕ) (stayed : Stayed)
+    → HandedOut stream written place passage → HasNoNext passage.left passage.bytes
+    → HasFault (after passage) (Some fault)
+    → Wrote (take (length passage.passed - length (withheld place)) passage.passed) tells
+    → IsError ConnectionFailure reply → stayed ≡ End reply
+    → EndsHere stream written [] tells stayed
+fault_ends stream written Between passage fault tells reply stayed out dry has told error is =
+    faulty_between stream written passage fault tells reply stayed out dry has told error is
+fault_ends stream written Inside passage fault tells reply stayed out dry has told error is =
+    let left_is = out.is_shown.7 in absurd (no_fault_inside out.is_shown.3 passage.bytes fault
+    (subst (λ l. HasNoNext l passage.bytes) left_is dry)
+    (subst (λ l. HasFault (drop (unwrap_or l 0) passage.bytes) (Some fault)) left_is has))
+fault_ends stream written AtReady passage fault tells reply stayed out dry has told error is =
+    let left_is = out.is_shown.0 in absurd (no_fault_inside 1 passage.bytes fault
+    (subst (λ l. HasNoNext l passage.bytes) left_is dry)
+    (subst (λ l. HasFault (drop (unwrap_or l 0) passage.bytes) (Some fault)) left_is has))
+fault_ends stream written (Status status) passage fault tells reply stayed out dry has told error
+    is =
+    let left_is = out.is_shown.0 in absurd (no_fault_inside 0 passage.bytes fault
+    (subst (λ l. HasNoNext l passage.bytes) left_is dry)
+    (subst (λ l. HasFault (drop (unwrap_or l 0) passage.bytes) (Some fault)) left_is has))
+
+pub faulty_ends : (stream written : List ℕ) (place : Place) (passage : Passage)
+    (found : Option FrameError) (count : ℕ) (tells : List Call) (reply : List ℕ) (stayed : Stayed)
+    → count ≡ length (withheld place) → is_some found ≡ true
+    → HasNoNext passage.left passage.bytes → HasFault (after passage) found
+    → Wrote (take (length passage.passed - count) passage.passed) tells
+    → IsError ConnectionFailure reply → stayed ≡ End reply
+    → HandedOut stream written place passage → EndsHere stream written [] tells stayed
+faulty_ends stream written place passage None count tells reply stayed count_is some dry has told
+    error is out = absurd (false≢true some)
+faulty_ends stream written place passage (Some fault) count tells reply stayed count_is some dry
+    has told error is out =
+    fault_ends stream written place passage fault tells reply stayed out dry has
+    (subst (λ n. Wrote (take (length passage.passed - n) passage.passed) tells) count_is told)
+    error is
+
+-- the link is lost inside a frame that is passed on
+pub cut_ends : (stream written : List ℕ) (place : Place) (passage : Passage) (count : ℕ)
+    (call : Call) (tells : List Call) (stayed : Stayed) → place ≡ Inside
+    → count ≡ length (withheld place) → HasNoNext passage.left passage.bytes
+    → Wrote (take (length passage.passed - count) passage.passed) tells → IsFailedRead call
+    → stayed ≡ End [] → HandedOut stream written place passage
+    → EndsHere stream written (call ∷ []) tells stayed
+cut_ends stream written place passage count call tells stayed inside count_is dry told failed is
+    out =
+    let here : HandedOut stream written Inside passage =
+    subst (λ (p : Place). HandedOut stream written p passage) inside out in
+    let zero_is : count ≡ 0 = count_is ∙ ap (λ p. length (withheld p)) inside in
+    let was = here.is_shown in
+    let now = subst (λ l. HasNoNext l passage.bytes) was.7 dry in
+    let some : 0 < was.3 = now.0 in
+    let nothing : passage.bytes ≡ [] = now.1 in (
+      Cut was.0 was.1 was.2,
+      ends_with stream written here.frames (Cut was.0 was.1 was.2) here.front (call ∷ []) tells
+          here.each
+          (here.stream_is ∙ ap (λ xs. texts here.frames ++ (here.shown ++ xs)) nothing
+          ∙ ap (λ xs. texts here.frames ++ xs) (append-nil here.shown ∙ was.6))
+          (ReadToEnd-failed call failed)
+          (here.written_is ∙ ap (λ xs. texts here.frames ++ xs) was.6)
+          (subst (λ xs. Wrote xs tells)
+          (front_is passage.passed here.front [] count here.passed_is zero_is) told),
+      (record { head = was.4; means = was.5; more = omega (arith, some, was.8) }, is),
+    )
+
+-- the link is lost elsewhere
+lost_at : (stream written : List ℕ) (place : Place) (passage : Passage) (rest : List ℕ)
+    (call : Call) (tells : List Call) (reply : List ℕ) (stayed : Stayed)
+    (out : HandedOut stream written place passage) → out.shown ≡ []
+    → withheld place ++ passage.bytes ≡ rest → BeginsNoHead rest ⊎ (rest ≡ head_text 90 5)
+    → Wrote (take (length passage.passed - length (withheld place)) passage.passed) tells
+    → IsFailedRead call → IsError ConnectionFailure reply → stayed ≡ End reply
+    → EndsHere stream written (call ∷ []) tells stayed
+lost_at stream written place passage rest call tells reply stayed out shown_is rest_is unbegun told
+    failed error is = (
+      Lost rest,
+      ends_with stream written out.frames (Lost rest) out.front (call ∷ []) tells out.each
+          (out.stream_is ∙ ap (λ xs. texts out.frames ++ (xs ++ (withheld place ++ passage.bytes)))
+          shown_is ∙ ap (λ xs. texts out.frames ++ xs) rest_is)
+          (ReadToEnd-failed call failed)
+          (out.written_is ∙ ap (λ xs. texts out.frames ++ xs) shown_is
+          ∙ append-nil (texts out.frames))
+          (subst (λ xs. Wrote xs tells) (front_is passage.passed out.front (withheld place)
+          (length (withheld place)) out.passed_is refl) told),
+      (unbegun, (reply, error, is)),
+    )
+
+pub lost_ends : (stream written : List ℕ) (place : Place) (passage : Passage) (count : ℕ)
+    (call : Call) (tells : List Call) (reply : List ℕ) (stayed : Stayed) → place ≢ Inside
+    → count ≡ length (withheld place) → HasNoNext passage.left passage.bytes
+    → Wrote (take (length passage.passed - count) passage.passed) tells → IsFailedRead call
+    → IsError ConnectionFailure reply → stayed ≡ End reply
+    → HandedOut stream written place passage → EndsHere stream written (call ∷ []) tells stayed
+lost_ends stream written Between passage count call tells reply stayed outside count_is dry told
+    failed error is out =
+    lost_at stream written Between passage passage.bytes call tells reply stayed out out.is_shown.1
+    refl (inl (subst (λ l. HasNoNext l passage.bytes) out.is_shown.0 dry))
+    (subst (λ n. Wrote (take (length passage.passed - n) passage.passed) tells) count_is told)
+    failed error is
+lost_ends stream written Inside passage count call tells reply stayed outside count_is dry told
+    failed error is out = absurd (outside refl)
+lost_ends stream written AtReady passage count call tells reply stayed outside count_is dry told
+    failed error is out =
+    let now = subst (λ l. HasNoNext l passage.bytes) out.is_shown.0 dry in
+    lost_at stream written AtReady passage (head_text 90 5) call tells reply stayed out
+    out.is_shown.1 (ap (λ xs. head_text 90 5 ++ xs) now.1) (inr refl)
+    (subst (λ n. Wrote (take (length passage.passed - n) passage.passed) tells) count_is told)
+    failed error is
+lost_ends stream written (Status status) passage count call tells reply stayed outside count_is dry
+    told failed error is out =
+    let now = subst (λ l. HasNoNext l passage.bytes) out.is_shown.0 dry in
+    absurd (omega (arith, now.0))
+
+-- more of the reply was read
+pub more_read : (stream written : List ℕ) (place : Place) (old new : Passage) (count : ℕ)
+    (bytes : List ℕ) → count ≡ length (withheld place)
+    → new ≡ fed (forgotten old (length old.passed - count)) bytes
+    → HandedOut stream written place old
+    → HandedOut (stream ++ bytes) (written ++ take (length old.passed - count) old.passed) place new
+more_read stream written place old new count bytes count_is new_is out =
+    let front = front_is old.passed out.front (withheld place) count out.passed_is count_is in
+    let here : HandedOut (stream ++ bytes) (written ++ take (length old.passed - count) old.passed)
+    place (fed (forgotten old (length old.passed - count)) bytes) = record {
+      frames = out.frames;
+      each = out.each;
+      shown = out.shown;
+      is_shown = out.is_shown;
+      stream_is = ap (λ xs. xs ++ bytes) out.stream_is
+          ∙ append_assoc (texts out.frames) (out.shown ++ (withheld place ++ old.bytes)) bytes
+          ∙ ap (λ xs. texts out.frames ++ xs)
+          (append_assoc out.shown (withheld place ++ old.bytes) bytes
+          ∙ ap (λ xs. out.shown ++ xs) (append_assoc (withheld place) old.bytes bytes));
+      front = [];
+      passed_is = last_is old.passed out.front (withheld place) count out.passed_is count_is;
+      written_is = append-nil (written ++ take (length old.passed - count) old.passed)
+          ∙ ap (λ xs. written ++ xs) front ∙ out.written_is;
+    } in
+    subst (λ (p : Passage). HandedOut (stream ++ bytes)
+    (written ++ take (length old.passed - count) old.passed) place p) (sym new_is) here

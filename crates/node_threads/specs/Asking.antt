@@ -1,0 +1,69 @@
+-- What a client asks for in an open transaction (own, after PgBouncer's transaction pooling; the
+-- messages are those of PostgreSQL manual, "Message Flow").
+use Rattle.std.specs.Prelude.{◌≡◌, ◌⊎◌, ℕ, List, [], ◌∷◌, ◌++◌, length, Some, None}
+use Rattle.peer_forward.specs.Calls.{Call}
+use Rattle.pg_frames.specs.declared.frame.Frame.{Frame}
+use Rattle.pg_frames.specs.declared.error.FrameError.{FrameError}
+use Rattle.pg_frames.specs.FrameText.{text, texts, IsFrame, BeginsNoFrame, fault_at}
+use Rattle.startup.specs.declared.error_code.ErrorCode.{ErrorCode}
+use Rattle.startup.specs.declared.error_code.ErrorCode.TheVariants.{ProtocolViolation}
+use Rattle.client_state.specs.Acts.{fatal}
+use Rattle.client_state.specs.ClientMessage.{client_message}
+use Rattle.client_state.specs.declared.client_message.ClientMessage.{ClientMessage}
+use Rattle.client_state.specs.declared.client_message.ClientMessage.TheVariants.{Request, Gathered, Terminate, Refused}
+use Rattle.node_threads.specs.StreamCalls.{Read, ReadToEnd}
+
+-- the session ends with this error, or without it where memory for it was refused
+abbrev pub IsError : ErrorCode → List ℕ → Type 0
+IsError code reply = (reply ≡ fatal code) ⊎ (reply ≡ [])
+
+-- messages of an extended query that are gathered, after some with this text
+abbrev pub AreGathered : List ℕ → List Frame → Type 0
+AreGathered before [] = Unit {0}
+AreGathered before (frame ∷ frames) = IsFrame frame
+    × (client_message (length before) frame ≡ Gathered) × AreGathered (before ++ text frame) frames
+
+-- a client's message, after others that are gathered
+pub record Asks (parts : List Frame) (last : Frame) (message : ClientMessage) : Type 0 where
+  pub gathered : AreGathered [] parts
+  pub is_frame : IsFrame last
+  pub means : client_message (length (texts parts)) last ≡ message
+
+-- the text of the request that is whole with the last message
+abbrev pub request_of : List Frame → Frame → List ℕ
+request_of parts last = texts parts ++ text last
+
+-- how a client leaves that was to ask again, after messages that were gathered
+pub data Leaving : Type 0 where
+  -- with a message that isn't taken, or that asks for the end
+  Says : List Frame → Frame → Leaving
+  -- with bytes that are no frame
+  Faulty : List Frame → FrameError → Leaving
+  -- without another whole message: its input ended, or a read of it failed
+  Silent : List Frame → Leaving
+  -- memory for its next message was refused, and this of its input isn't taken
+  NoMemory : List Frame → List ℕ → Leaving
+
+-- what is written to the client because of its message
+abbrev pub IsSaid : ClientMessage → List ℕ → Type 0
+IsSaid Terminate reply = reply ≡ []
+IsSaid (Refused code) reply = IsError code reply
+IsSaid Request reply = ⊥
+IsSaid Gathered reply = ⊥
+
+-- The client leaves so: `kept` is what was read of it before, the calls are those that read more,
+-- the reply is what is written to it then, and `left` is what follows the last frame that was
+-- taken.
+abbrev pub Leaves : Leaving → List ℕ → List Call → List ℕ → List ℕ → Type 0
+Leaves (Says parts last) kept calls reply left = (bytes : List ℕ) × (message : ClientMessage)
+    × Read bytes calls × (kept ++ bytes ≡ request_of parts last ++ left)
+    × Asks parts last message × IsSaid message reply
+Leaves (Faulty parts fault) kept calls reply left = (bytes : List ℕ)
+    × Read bytes calls × (kept ++ bytes ≡ texts parts ++ left) × AreGathered [] parts
+    × BeginsNoFrame left × (fault_at left ≡ Some fault) × IsError ProtocolViolation reply
+Leaves (Silent parts) kept calls reply left = (bytes : List ℕ)
+    × ReadToEnd bytes calls × (kept ++ bytes ≡ texts parts ++ left) × AreGathered [] parts
+    × BeginsNoFrame left × (fault_at left ≡ None) × (reply ≡ [])
+Leaves (NoMemory parts rest) kept calls reply left = (bytes : List ℕ)
+    × Read bytes calls × (kept ++ bytes ≡ texts parts ++ rest) × AreGathered [] parts
+    × (reply ≡ [])

@@ -1,0 +1,73 @@
+-- What a caller's steps made and spent, by its counts (own).
+use Rattle.std.specs.Prelude.{ℕ, ◌≡◌, ◌+◌, ◌<◌, ◌≤◌, List, [], ◌∷◌}
+use Rattle.locked_node.specs.declared.call_answer.CallAnswer.{CallAnswer}
+use Rattle.locked_node.specs.declared.call_answer.CallAnswer.TheVariants as answer
+use Rattle.locked_node.specs.declared.tally.Tally.{Tally}
+use Rattle.locked_node.specs.Journal.{answers_in}
+use Rattle.locked_node.specs.Totals.{calls_at, all_calls}
+use Rattle.locked_node.specs.Lock.{CallerView}
+
+-- how many calls of a tally have one of these answers, with keys of both kinds
+abbrev pub answered : Tally → List CallAnswer → ℕ
+answered tally [] = 0
+answered tally (answer ∷ more) = answers_in (calls_at tally) answer + answered tally more
+
+-- the answers that make a pass, and those that spend one
+abbrev pub passes_made : List CallAnswer
+passes_made = answer.Joined ∷ []
+
+abbrev pub passes_spent : List CallAnswer
+passes_spent = answer.Left ∷ answer.LeaveStale ∷ answer.LeaveExhausted ∷ []
+
+-- the same of permits
+abbrev pub permits_made : List CallAnswer
+permits_made = answer.AcquireOpen ∷ []
+
+abbrev pub permits_spent : List CallAnswer
+permits_spent = answer.WentUp ∷ answer.UpStale ∷ answer.UpAtEnd ∷ answer.UpFailedFreed
+    ∷ answer.UpFailedStale ∷ answer.UpFailedExhausted ∷ []
+
+-- of leases
+abbrev pub leases_made : List CallAnswer
+leases_made = answer.AcquireGot ∷ answer.WentUp ∷ []
+
+abbrev pub leases_spent : List CallAnswer
+leases_spent = answer.ReleasedIdle ∷ answer.ReleasedQuarantined ∷ answer.ReleasedClosed
+    ∷ answer.ReleaseStale ∷ answer.ReleaseExhausted ∷ answer.Closed ∷ answer.CloseStale
+    ∷ answer.CloseExhausted ∷ []
+
+-- and of tickets
+abbrev pub tickets_made : List CallAnswer
+tickets_made = answer.Served ∷ []
+
+abbrev pub tickets_spent : List CallAnswer
+tickets_spent = answer.EndedFreed ∷ answer.EndedCounted ∷ answer.EndedStale
+    ∷ answer.EndedExhausted ∷ answer.FailedCondemned ∷ answer.FailedClosed ∷ answer.FailedStale
+    ∷ answer.FailedExhausted ∷ []
+
+-- the answers to cancel requests
+abbrev pub cancels : List CallAnswer
+cancels = answer.Served ∷ answer.Forwarded ∷ answer.Unwaited ∷ answer.CancelSpent
+    ∷ answer.CancelUnknown ∷ answer.CancelNoPeer ∷ answer.CancelNoLink ∷ answer.CancelBusy
+    ∷ answer.CancelExhausted ∷ []
+
+-- between two tallies as many calls that make a value were counted as calls that spend one
+abbrev pub AreEven : List CallAnswer → List CallAnswer → Tally → Tally → Type 0
+AreEven made spent old new =
+    answered new made + answered old spent ≡ answered new spent + answered old made
+
+-- A caller's allowance and its counts make as much as before, and the allowance isn't greater; and
+-- if some is left, the steps that it counted spent as many passes, permits, leases and tickets as
+-- they made, each kind by itself.
+pub record Balanced (old new : CallerView) : Type 0 where
+  pub same : (new.lock ≡ old.lock) × (new.start ≡ old.start)
+  pub total : new.allowance + all_calls new.tally ≡ old.allowance + all_calls old.tally
+  pub falls : new.allowance ≤ old.allowance
+  pub passes : 0 < new.allowance → AreEven passes_made passes_spent old.tally new.tally
+  pub permits : 0 < new.allowance → AreEven permits_made permits_spent old.tally new.tally
+  pub leases : 0 < new.allowance → AreEven leases_made leases_spent old.tally new.tally
+  pub tickets : 0 < new.allowance → AreEven tickets_made tickets_spent old.tally new.tally
+
+-- a caller counted at most one cancel request
+abbrev pub CancelsAtMostOnce : CallerView → CallerView → Type 0
+CancelsAtMostOnce old new = answered new.tally cancels ≤ answered old.tally cancels + 1

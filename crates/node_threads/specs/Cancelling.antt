@@ -1,0 +1,90 @@
+-- How a cancel connection is served (own).
+use Rattle.std.specs.Prelude.{ℕ, ◌≡◌, ◌<◌, ◌⊎◌, List, [], ◌∷◌}
+use Rattle.pg_ids.specs.declared.any_key.AnyKey.{AnyKey}
+use Rattle.lease.specs.declared.ticket.TicketRecord.{TicketRecord}
+use Rattle.cancel_router.specs.declared.refusal.RouteRefusal.TheVariants as route
+use Rattle.node_core.specs.declared.refusal.CancelRefusal.{CancelRefusal}
+use Rattle.node_core.specs.declared.refusal.CancelRefusal.TheVariants as refusal
+use Rattle.node_core.specs.declared.exchange.Order.{Order}
+use Rattle.node_core.specs.declared.exchange.Order.TheVariants as order
+use Rattle.node_core.specs.declared.exchange.Exchange.TheVariants as step
+use Rattle.locked_node.specs.Lock.{CallerView, Counted}
+use Rattle.peer_forward.specs.declared.outcome.Outcome.{Outcome}
+use Rattle.peer_forward.specs.declared.outcome.Outcome.TheVariants as outcome
+use Rattle.peer_forward.specs.declared.verdict.Verdict.{Verdict}
+use Rattle.peer_forward.specs.declared.verdict.Verdict.TheVariants as verdict
+use Rattle.stat_board.specs.declared.counter.Counter.{Counter}
+use Rattle.stat_board.specs.declared.counter.Counter.TheVariants as counter
+use Rattle.stat_board.specs.Places.{place_of}
+use Rattle.stat_board.specs.Seats.{SeatView, Raises}
+use Rattle.node_threads.specs.Desks.{reported, Tells}
+
+-- one more is counted at this place, or nothing by a seat without allowance
+pub record Tries (old : SeatView) (place : ℕ) (new : SeatView) : Type 0 where
+  pub counted : 0 < old.allowance → Raises old place new
+  pub passed : old.allowance ≡ 0 → new ≡ old
+
+-- one more is counted of each of these, in their order
+abbrev pub CountsAll : List Counter → SeatView → SeatView → Type 0
+CountsAll [] old new = new ≡ old
+CountsAll (word ∷ more) old new =
+    (next : SeatView) × Tries old (place_of word) next × CountsAll more next new
+
+-- the word of a refusal: the four of a route have one, and no other
+abbrev pub words_of_refusal : CancelRefusal → List Counter
+words_of_refusal (refusal.Route route.Spent) = counter.Spent ∷ []
+words_of_refusal (refusal.Route route.Unknown) = counter.Unknown ∷ []
+words_of_refusal (refusal.Route route.NoPeer) = counter.NoPeer ∷ []
+words_of_refusal (refusal.Route route.NoLink) = counter.NoLink ∷ []
+words_of_refusal refusal.Busy = []
+words_of_refusal refusal.Exhausted = []
+
+-- the word of the end of a request that was sent to a server
+abbrev pub word_of_outcome : Outcome → Counter
+word_of_outcome outcome.Ended = counter.Ended
+word_of_outcome outcome.Failed = counter.Failed
+
+-- what is counted of an order that was carried out with this outcome
+abbrev pub words_of : Order TicketRecord → Outcome → List Counter
+words_of (order.Serve ticket database server) end = counter.Sent ∷ word_of_outcome end ∷ []
+words_of (order.Forward peer packet) end = counter.Forwarded ∷ []
+words_of (order.Unwait slot) end = []
+words_of (order.Refused reason) end = words_of_refusal reason
+
+-- how a request that is carried on ends: by its outcome, or because it couldn't be connected
+abbrev pub IsCarried : Outcome → Verdict → Type 0
+IsCarried end told =
+    (told ≡ verdict.Carried end) ⊎ ((told ≡ verdict.NoConnect) × (end ≡ outcome.Failed))
+
+-- the verdict of an order
+abbrev pub IsVerdict : Order TicketRecord → Outcome → Verdict → Type 0
+IsVerdict (order.Serve ticket database server) end told = IsCarried end told
+IsVerdict (order.Forward peer packet) end told = IsCarried end told
+IsVerdict (order.Unwait slot) end told = told ≡ verdict.Unwaited
+IsVerdict (order.Refused reason) end told = told ≡ verdict.Refused
+
+-- of an order to serve, the node is told how its ticket's request has ended; of others nothing
+abbrev pub Settles : Order TicketRecord → Outcome → CallerView → CallerView → Type 0
+Settles (order.Serve ticket database server) end old new = Tells (reported end ticket) old new
+Settles (order.Forward peer packet) end old new = new ≡ old
+Settles (order.Unwait slot) end old new = new ≡ old
+Settles (order.Refused reason) end old new = new ≡ old
+
+-- A request that was carried on: with some verdict of this outcome the requester's connection is
+-- finished.
+abbrev pub FinishesCarried : (Verdict → Type 0) → Outcome → Type 0
+FinishesCarried Finished end = (told : Verdict) × IsCarried end told × Finished told
+
+-- A cancel connection was served by a caller and a seat: the node gave one order for its key, which
+-- was carried out with some outcome, and the requester's connection was finished by its verdict.
+pub record ServesCancel (key : AnyKey) (old new : CallerView) (seat next : SeatView)
+    (Finished : Verdict → Type 0) : Type 0 where
+  pub given : Order TicketRecord
+  pub end : Outcome
+  pub between : CallerView
+  pub asked : Counted (step.Cancel key given) given (order.Refused refusal.Exhausted) old between
+  pub settled : Settles given end between new
+  pub counted : CountsAll (words_of given end) seat next
+  pub told : Verdict
+  pub verdict : IsVerdict given end told
+  pub finished : Finished told

@@ -1,0 +1,68 @@
+-- How far a request has come, while it is read from a client.
+use Rattle.std.specs.Prelude.{◌≡◌, ◌⊎◌, ℕ, true, List, [], ◌++◌, length, Some, None, Result, Ok, Err}
+use Rattle.peer_forward.specs.Calls.{Call}
+use Rattle.pg_frames.specs.declared.frame.Frame.{Frame}
+use Rattle.pg_frames.specs.declared.error.FrameError.{FrameError}
+use Rattle.pg_frames.specs.declared.error.FrameError.TheVariants.{BadLength, TooLong, BadType, Memory}
+use Rattle.pg_frames.specs.FrameText.{text, texts, IsFrame, BeginsNoFrame, fault_at}
+use Rattle.startup.specs.declared.error_code.ErrorCode.TheVariants.{ProtocolViolation}
+use Rattle.client_state.specs.Session.{Session}
+use Rattle.client_state.specs.ClientMessage.{client_message}
+use Rattle.client_state.specs.declared.client_message.ClientMessage.{ClientMessage}
+use Rattle.client_state.specs.declared.client_message.ClientMessage.TheVariants as message
+use Rattle.node_threads.specs.declared.asking.Found.{Found}
+use Rattle.node_threads.specs.declared.asking.Found.TheVariants.{More, Request, End}
+use Rattle.node_threads.specs.StreamCalls.{Read, ReadToEnd}
+use Rattle.node_threads.specs.Asking.{IsError, IsSaid, AreGathered, Asks, request_of, Leaving, Leaves}
+use Rattle.node_threads.specs.Progress.{asking}
+
+-- a session in an open transaction that has gathered this for its next request
+abbrev pub gathering : ℕ → List ℕ → Session
+gathering database gathered =
+    record { database = database; leased = true; outstanding = 0; gathered = gathered }
+
+-- Messages were gathered after those of which the session knows, and then this one came.
+pub record Comes (old : Session) (kept : List ℕ) (parts : List Frame) (last : Frame)
+    (message : ClientMessage) (left : List ℕ) : Type 0 where
+  pub whole : kept ≡ texts parts ++ (text last ++ left)
+  pub gathered : AreGathered old.gathered parts
+  pub is_frame : IsFrame last
+  pub means : client_message (length (old.gathered ++ texts parts)) last ≡ message
+
+-- What was cut from the bytes that were read of a client, and what is left of them. Memory may have
+-- been refused.
+abbrev pub Finds : Session → List ℕ → Found → Session → List ℕ → Type 0
+Finds old kept More new left = (parts : List Frame) × (kept ≡ texts parts ++ left)
+    × AreGathered old.gathered parts × BeginsNoFrame left
+    × (new ≡ gathering old.database (old.gathered ++ texts parts))
+Finds old kept (Request request) new left = (parts : List Frame) × (last : Frame)
+    × Comes old kept parts last message.Request left
+    × (request ≡ (old.gathered ++ texts parts) ++ text last) × (new ≡ asking old.database)
+Finds old kept (End reply) new left =
+    ((parts : List Frame) × (last : Frame) × (says : ClientMessage)
+    × Comes old kept parts last says left × IsSaid says reply)
+    ⊎ ((parts : List Frame) × (rest : List ℕ) × (kept ≡ texts parts ++ rest)
+    × AreGathered old.gathered parts × (reply ≡ []))
+
+-- what is written to a client whose bytes can't be taken because of this
+abbrev pub IsRefusal : FrameError → List ℕ → Type 0
+IsRefusal BadLength reply = IsError ProtocolViolation reply
+IsRefusal TooLong reply = IsError ProtocolViolation reply
+IsRefusal BadType reply = IsError ProtocolViolation reply
+IsRefusal Memory reply = reply ≡ []
+
+-- the session ends where no whole frame was there
+abbrev pub Quits : List ℕ → List Call → List ℕ → List ℕ → Type 0
+Quits kept calls reply left =
+    ((fault : FrameError) × (calls ≡ []) × (fault_at kept ≡ Some fault) × (left ≡ kept)
+    × IsError ProtocolViolation reply)
+    ⊎ (ReadToEnd [] calls × (fault_at kept ≡ None) × (left ≡ kept) × (reply ≡ []))
+    ⊎ ((bytes : List ℕ) × Read bytes calls × (reply ≡ []))
+
+-- the next request was read, or the client leaves
+abbrev pub AsksNext : List ℕ → List Call → Result (List ℕ) (List ℕ) → List ℕ → Type 0
+AsksNext kept calls (Ok request) left = (bytes : List ℕ) × (parts : List Frame) × (last : Frame)
+    × Read bytes calls × (kept ++ bytes ≡ request_of parts last ++ left)
+    × Asks parts last message.Request × (request ≡ request_of parts last)
+AsksNext kept calls (Err reply) left =
+    (leaving : Leaving) × Leaves leaving kept calls reply left

@@ -1,0 +1,11 @@
+pub mod Secrets
+pub mod Front
+pub mod Desks
+pub mod Cancelling
+pub mod Balance
+pub mod StreamCalls
+pub mod Asking
+pub mod Replying
+pub mod Stay
+pub mod Progress
+pub mod Finding

@@ -1,0 +1,125 @@
+//! The next request of a client is read.
+ghost use Rattle.std.specs.Prelude.{◌≡◌, ◌++◌, ◌∷◌, [], ℕ, List, None, Some, IfSome, OnOk, IsTrue};
+ghost use Rattle.peer_forward.specs.Calls.{Call, Makes};
+ghost use Rattle.pg_frames.specs.FrameText.{BeginsNoFrame};
+ghost use Rattle.startup.specs.declared.error_code.ErrorCode.TheVariants.{ProtocolViolation};
+ghost use Rattle.node_threads.specs.StreamCalls.{SomeCalls, Read};
+ghost use Rattle.node_threads.specs.Asking.{IsError};
+ghost use Rattle.node_threads.specs.Progress.{asking, in_transaction};
+ghost use Rattle.node_threads.specs.Finding.{gathering, Finds, Quits, IsRefusal, AsksNext};
+
+use crate::stream::read_some;
+use client_state::{Act, Client, Reply, Request};
+use peer_forward::{ReadCalls, WriteCalls};
+use pg_frames::{Cutter, FrameError};
+use std::sync::Wait;
+
+// How many bytes are read at once.
+const MAX_READ: usize = 4_096;
+
+// What was cut from what a client sent.
+enum Found {
+    // No whole request. More is to be read.
+    More,
+    // A request.
+    Request(Request),
+    // The end of the session, with this for the client.
+    End(Reply),
+}
+
+/// Reads the client's next request, or returns what is to be written to the client as the session
+/// ends.
+pub fn next_request<R: Wait, C: WriteCalls + ReadCalls>(
+    rt: &R,
+    session: &mut Client,
+    client: &mut C,
+    cutter: &mut Cutter,
+) -> Result<Request, Reply>
+    requires { session.old ≡ in_transaction session.old.database }
+    ensures asks { SomeCalls C.wrote C.gave client.old client.new
+        (λ calls. AsksNext cutter.old calls result cutter.new) }
+    ensures session { OnOk result (session.new ≡ asking session.old.database) }
+{
+    for _ in rt.forever() {
+        match cut_request(session, cutter) {
+            Found::Request(request) => return Ok(request),
+            Found::End(reply) => return Err(reply),
+            Found::More => {}
+        }
+        if let Some(reply) = read_on(session, client, cutter) {
+            return Err(reply);
+        }
+    }
+    unreachable!()
+}
+
+// Cuts a request from what was read of the client.
+fn cut_request(session: &mut Client, cutter: &mut Cutter) -> Found
+    requires { session.old ≡ gathering session.old.database session.old.gathered }
+    ensures { Finds session.old cutter.old result session.new cutter.new }
+{
+    loop {
+        let Ok(found) = cutter.next() else {
+            return Found::End(Reply::nothing());
+        };
+        let Some(frame) = found else {
+            return Found::More;
+        };
+        match session.on_client(frame) {
+            Act::ToLink(request) => return Found::Request(request),
+            Act::ToClient(_) => {}
+            Act::Close(reply) => return Found::End(reply),
+            _ => unreachable!(),
+        }
+    }
+}
+
+// Reads more of the client. It returns what is to be written as the session ends, if it does.
+fn read_on<C: WriteCalls + ReadCalls>(
+    session: &mut Client,
+    client: &mut C,
+    cutter: &mut Cutter,
+) -> Option<Reply>
+    requires session { IsTrue session.old.leased }
+    requires none { BeginsNoFrame cutter.old }
+    ensures more { result ≡ None → SomeCalls C.wrote C.gave client.old client.new
+        (λ calls. (bytes : List ℕ) × Read bytes calls × (cutter.new ≡ cutter.old ++ bytes)) }
+    ensures session { result ≡ None → session.new ≡ session.old }
+    ensures ends { IfSome result (λ reply. SomeCalls C.wrote C.gave client.old client.new
+        (λ calls. Quits cutter.old calls reply cutter.new)) }
+{
+    if let Err(error) = cutter.feed(&[]) {
+        return Some(refusal(session, error));
+    }
+    let mut buffer = [0; MAX_READ];
+    let count = read_some(client, &mut buffer);
+    if count == 0 {
+        return Some(Reply::nothing());
+    }
+    match cutter.feed(&buffer[..count]) {
+        Err(FrameError::Memory) => Some(Reply::nothing()),
+        _ => None,
+    }
+}
+
+// What is written to a client whose bytes can't be taken.
+fn refusal(session: &mut Client, error: FrameError) -> Reply
+    requires { IsTrue session.old.leased }
+    ensures { IsRefusal error result }
+{
+    match error {
+        FrameError::BadLength | FrameError::TooLong | FrameError::BadType => violation(session),
+        FrameError::Memory => Reply::nothing(),
+    }
+}
+
+// The error of a client that violates the protocol.
+fn violation(session: &mut Client) -> Reply
+    requires { IsTrue session.old.leased }
+    ensures { IsError ProtocolViolation result }
+{
+    match session.on_client_fault() {
+        Act::Close(error) => error,
+        _ => Reply::nothing(),
+    }
+}

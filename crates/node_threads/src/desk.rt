@@ -1,0 +1,37 @@
+//! Where tickets and leases are handed in at the end, so that each call can be named in contracts.
+ghost use Rattle.std.specs.Prelude.{◌≡◌};
+ghost use Rattle.node_threads.specs.declared.desk_call.DeskCall.{DeskCall};
+ghost use Rattle.node_threads.specs.declared.desk_call.DeskCall.TheVariants as call;
+
+use lease::{Lease, Ticket};
+use std::sync::Wait;
+
+/// Where a cancel request's ticket is spent once it was carried, and a client's lease once its
+/// request was answered. `S` is the stream of a lease.
+pub trait Desk<S> {
+    /// The desk can be told a call.
+    ghost ready: { Self → Type 0 };
+
+    /// What it makes of a desk to be told this call.
+    ghost told: { Self → DeskCall → Self → Type 0 };
+
+    /// The cancel request of this ticket has ended cleanly.
+    fn ended<R: Wait>(&mut self, rt: &R, ticket: Ticket)
+        requires ready { ready self.old }
+        ensures told { told self.old (call.Ended ticket) self.new };
+
+    /// The cancel request of this ticket hasn't ended cleanly.
+    fn failed<R: Wait>(&mut self, rt: &R, ticket: Ticket)
+        requires ready { ready self.old }
+        ensures told { told self.old (call.Failed ticket) self.new };
+
+    /// The client gives the link of this lease back. A stream that is handed back is closed.
+    fn release<R: Wait>(&mut self, rt: &R, lease: Lease<S>)
+        requires ready { ready self.old }
+        ensures told { told self.old (call.Release lease.details) self.new };
+
+    /// The client closes the link of this lease. A stream that is handed back is closed.
+    fn close<R: Wait>(&mut self, rt: &R, lease: Lease<S>)
+        requires ready { ready self.old }
+        ensures told { told self.old (call.Close lease.details) self.new };
+}

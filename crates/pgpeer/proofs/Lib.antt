@@ -1,6 +1,0 @@
-pub mod ArgumentLemmas
-pub mod CallLemmas
-pub mod FileLemmas
-pub mod PacketLemmas
-pub mod WordList
-pub mod WritingLemmas

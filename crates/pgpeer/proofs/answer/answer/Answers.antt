@@ -1,7 +1,0 @@
-use Rattle.std.proofs.KnownBytes.{Keeps-refl}
-use Rattle.pgpeer.proofs.WritingLemmas.{answers_fault}
-use Rattle.pgpeer.proofs.answer.answer.Goals as goal
-
-pub returns-in-Err : goal.returns-in-Err
-returns-in-Err g c = answers_fault _ _ _ _ c.in-Err.fault c.write_fault.result
-    c.in-Err.ensures.fault c.write_fault.ensures (Keeps-refl _)

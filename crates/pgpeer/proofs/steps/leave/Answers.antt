@@ -1,9 +1,0 @@
-use Rattle.pgpeer.specs.Decision.{leave_reply}
-use Rattle.node_core.specs.declared.exchange.Exchange.TheVariants as call
-use Rattle.pgpeer.proofs.CallLemmas.{step_by}
-use Rattle.pgpeer.proofs.steps.leave.Goals as goal
-
-pub returns : goal.returns
-returns g c = step_by c.left_in.result (λ reply. call.Leave c.args.pass reply) c.leave.result
-    (λ x. leave_reply x) c.args.caller.now c.leave.new.caller
-    (c.leave.ensures.counted.made c.requires.allowance) (c.left_in.ensures c.args.pass)

@@ -1,0 +1,165 @@
+//! Cancel connections at a real node, over streams that log what happens to them: what is written,
+//! in which order, and what is counted.
+use crate::log::{Dialer, Event, Log, Marks, Reply, Wire, assert_logged};
+use crate::node::{Asked, Node, SHOP, Stream};
+use locked_node::CallAnswer;
+use node_core::ReleaseReply;
+use node_threads::Point;
+use pg_ids::{AnyKey, PeerNo};
+use startup::Packet;
+use std::alloc::Global;
+use std::process::Abort;
+use std::sync::Wait;
+use std::test::Fail;
+
+// The CancelRequest with the key of the link's server.
+const TO_SERVER: Event = Event::Sent(Packet::Short([
+    0, 0, 0, 16, 4, 0xd2, 0x16, 0x2e, 0x11, 0x12, 0x13, 0x14, 0x15, 0x16, 0x17, 0x18,
+]));
+
+// That of peer 3, slot 0, secret 1, with two hops.
+const TO_PEER: Event = Event::Sent(Packet::Short([
+    0, 0, 0, 16, 4, 0xd2, 0x16, 0x2e, 0, 12, 0, 0, 0, 0, 0, 6,
+]));
+
+const UNSETTLED: Event = Event::Byte(0x45);
+
+// The keys of the first client, who has the link, and of the second, and one of peer 3.
+const FIRST: [u8; 8] = [0, 8, 0, 0, 0, 0, 0, 7];
+
+const SECOND: [u8; 8] = [0, 8, 0, 4, 0, 0, 0, 0x17];
+
+const OTHER: [u8; 8] = [0, 12, 0, 0, 0, 0, 0, 7];
+
+// A cancel connection with this key is served, where connections end with this reply, or can't be
+// made. Exactly these events happen.
+fn expect<R: Wait + Abort>(
+    rt: &R,
+    alloc: Global,
+    node: &mut Node,
+    asked: [u8; 8],
+    reply: Option<Reply>,
+    events: &[Event],
+) {
+    let log = Log::new(alloc);
+    let mut requester = Wire::new(&log, 16, Reply::End);
+    let opener = Dialer { log: &log, reply };
+    let key = AnyKey::from_short_bytes(asked);
+    node.cancel(rt, &opener, &Marks(&log), &mut requester, key);
+    assert_logged(rt, &log, events);
+}
+
+// So many calls with each of these answers were counted.
+fn assert_calls(rt: &impl Abort, node: &Node, calls: &[(CallAnswer, u128)]) {
+    for (answer, count) in calls {
+        assert_eq!(rt; node.calls(*answer), *count, "{answer:?}");
+    }
+}
+
+// Requests for the first client's link are carried: one ends cleanly, one by a byte, and one isn't
+// connected.
+fn expect_carried<R: Wait + Abort>(rt: &R, alloc: Global, node: &mut Node) {
+    let events = [
+        Event::Passed(Point::Ordered),
+        Event::Server(SHOP),
+        TO_SERVER,
+        Event::Read,
+        Event::Passed(Point::Carried),
+        UNSETTLED,
+    ];
+    expect(
+        rt,
+        alloc,
+        node,
+        FIRST,
+        Some(Reply::End),
+        events.split_at(5).0,
+    );
+    expect(rt, alloc, node, FIRST, Some(Reply::Byte(0x4e)), &events);
+    let events = [
+        Event::Passed(Point::Ordered),
+        Event::Server(SHOP),
+        UNSETTLED,
+    ];
+    expect(rt, alloc, node, FIRST, None, &events);
+}
+
+// Requests for another pooler are forwarded there in the same ways.
+fn expect_forwarded<R: Wait + Abort>(rt: &R, alloc: Global, node: &mut Node, peer: PeerNo) {
+    let events = [
+        Event::Passed(Point::Ordered),
+        Event::Peer(peer),
+        TO_PEER,
+        Event::Read,
+        UNSETTLED,
+    ];
+    expect(
+        rt,
+        alloc,
+        node,
+        OTHER,
+        Some(Reply::End),
+        events.split_at(4).0,
+    );
+    expect(rt, alloc, node, OTHER, Some(Reply::Fails), &events);
+    let events = [Event::Passed(Point::Ordered), Event::Peer(peer), UNSETTLED];
+    expect(rt, alloc, node, OTHER, None, &events);
+}
+
+// A link for which a request failed is closed once it is given back.
+#[test]
+fn carried(rt: HostRuntime) -> Result<(), Fail> {
+    let peer = PeerNo::new(3).ok_or("no such peer")?;
+    let mut node = Node::new(rt.alloc())?;
+    let pass = node.login(&rt, 1).expect(&rt, "a slot");
+    let lease = node.open(&rt, &pass, 7).expect(&rt, "a link");
+    expect_carried(&rt, rt.alloc(), &mut node);
+    expect_forwarded(&rt, rt.alloc(), &mut node, peer);
+    let released = node.release(&rt, lease);
+    assert_eq!(rt; released, ReleaseReply::Closed(Stream(7)));
+    assert!(rt; node.leave(&rt, pass));
+    let calls = [
+        (CallAnswer::Served, 3),
+        (CallAnswer::EndedCounted, 1),
+        (CallAnswer::FailedCondemned, 2),
+        (CallAnswer::Forwarded, 3),
+    ];
+    assert_calls(&rt, &node, &calls);
+    assert_eq!(rt; node.words(), [0, 0, 0, 0, 3, 3, 1, 2]);
+    Ok(())
+}
+
+// Requests that go nowhere: with spent hops, with another secret, for a pooler that isn't listed,
+// and for a client without a link. Nothing is connected or written.
+fn expect_refused<R: Wait + Abort>(rt: &R, alloc: Global, node: &mut Node) {
+    for asked in [
+        [0, 8, 0, 0, 0, 0, 0, 4],
+        [0, 8, 0, 0, 0, 0, 0, 11],
+        [0, 16, 0, 0, 0, 0, 0, 7],
+        SECOND,
+    ] {
+        expect(rt, alloc, node, asked, Some(Reply::End), &[]);
+    }
+}
+
+// A request for a client that waits for a link ends its wait, and counts no word. Without allowance
+// nothing is counted.
+#[test]
+fn refused(rt: HostRuntime) -> Result<(), Fail> {
+    let mut node = Node::new(rt.alloc())?;
+    let first = node.login(&rt, 1).expect(&rt, "a slot");
+    let lease = node.open(&rt, &first, 7).expect(&rt, "a link");
+    let second = node.login(&rt, 5).expect(&rt, "a slot");
+    expect_refused(&rt, rt.alloc(), &mut node);
+    assert_eq!(rt; node.ask(&rt, &second), Asked::Waiting);
+    expect(&rt, rt.alloc(), &mut node, SECOND, Some(Reply::End), &[]);
+    assert_eq!(rt; node.ask(&rt, &second), Asked::Cancelled);
+    node.impoverish();
+    expect_refused(&rt, rt.alloc(), &mut node);
+    let released = node.release(&rt, lease);
+    assert_eq!(rt; released, ReleaseReply::Idle);
+    assert!(rt; node.leave(&rt, first));
+    assert!(rt; node.leave(&rt, second));
+    assert_eq!(rt; node.words(), [1, 1, 1, 1, 0, 0, 0, 0]);
+    Ok(())
+}

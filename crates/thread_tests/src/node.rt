@@ -1,0 +1,195 @@
+//! A node behind its lock, with one link for two clients, and its board.
+ghost use Rattle.std.specs.Prelude.{◌≡◌, ◌<◌, length};
+
+use ini_config::Settings;
+use locked_node::{CallAnswer, CallKind, Caller, Journal, Shared};
+use node_core::{
+    AcquireReply, DatabaseNo, Lease, LeaveReply, NodeCore, Pass, Permit, ReleaseReply, UpReply,
+};
+use node_threads::{Gate, Opener, serve_cancel};
+use peer_forward::WriteCalls;
+use pg_ids::{AnyKey, Boot, Kind, PeerNo, Secret, ServerKey};
+use stat_board::{Board, BoardSeat};
+use std::alloc::Global;
+use std::sync::Wait;
+use std::test::Fail;
+
+// The stream of a link, by a number.
+#[derive(Debug, Drop, PartialEq, Eq)]
+pub(crate) struct Stream(pub(crate) u8);
+
+pub(crate) const SHOP: DatabaseNo = DatabaseNo(0);
+
+const SERVER: ServerKey = ServerKey([0x11, 0x12, 0x13, 0x14, 0x15, 0x16, 0x17, 0x18]);
+
+// Another answer than the one that is waited for.
+#[derive(Clone, Copy, Debug, PartialEq, Eq)]
+pub(crate) struct Other;
+
+// Whether a client gets a link, a permit, or neither, which are spent.
+#[derive(Clone, Copy, Debug, PartialEq, Eq)]
+pub(crate) enum Asked {
+    Given,
+    Waiting,
+    Cancelled,
+    Other,
+}
+
+#[derive(Drop)]
+pub(crate) struct Node {
+    shared: Shared<Stream>,
+    caller: Caller<Stream>,
+    board: Board,
+    seat: BoardSeat,
+    ghost own: { caller.lock ≡ shared },
+    ghost some: { 0 < length caller.start.view.pools },
+    ghost seated: { seat.board ≡ board },
+}
+
+impl Node {
+    // Node 2 with the peer 3, one link and two slots.
+    pub(crate) fn new(alloc: Global) -> Result<Node, Fail> {
+        let me = PeerNo::new(2).ok_or("no such peer")?;
+        let peer = PeerNo::new(3).ok_or("no such peer")?;
+        let settings = Settings::plain(alloc, me, vec![in alloc; peer]?, 1, 2)?;
+        let core = NodeCore::new(alloc, &settings, Boot(9))?;
+        let (shared, caller) = Shared::new(alloc, Journal::new(alloc, core)?)?;
+        let (board, seat) = Board::new(alloc)?;
+        Ok(Node {
+            shared,
+            caller,
+            board,
+            seat,
+        })
+    }
+
+    // The seat has no allowance: half of it is left, 64 times.
+    pub(crate) fn impoverish(&mut self) {
+        for _i in 0..64u32 {
+            self.seat = self.seat.split(&self.board);
+        }
+    }
+
+    // A client logs in.
+    pub(crate) fn login<R: Wait>(&mut self, rt: &R, secret: u32) -> Result<Pass, Other> {
+        self.shared
+            .join(rt, &mut self.caller, SHOP, Secret(secret), Kind::Short)
+            .map_err(|_| Other)
+    }
+
+    // The client of a pass opens a link.
+    pub(crate) fn open<R: Wait>(
+        &mut self,
+        rt: &R,
+        pass: &Pass,
+        stream: u8,
+    ) -> Result<Lease<Stream>, Other> {
+        let permit = opened(self.shared.acquire(rt, &mut self.caller, pass))?;
+        went_up(
+            self.shared
+                .up(rt, &mut self.caller, permit, Stream(stream), SERVER),
+        )
+    }
+
+    // The client of a pass asks for a link.
+    pub(crate) fn ask<R: Wait>(&mut self, rt: &R, pass: &Pass) -> Asked {
+        match self.shared.acquire(rt, &mut self.caller, pass) {
+            AcquireReply::Got(lease) => {
+                let _stream = lease.forfeit();
+                Asked::Given
+            }
+            AcquireReply::Open(permit) => {
+                let _details = permit.forfeit();
+                Asked::Given
+            }
+            AcquireReply::Waiting => Asked::Waiting,
+            AcquireReply::Cancelled => Asked::Cancelled,
+            AcquireReply::Holding | AcquireReply::Exhausted | AcquireReply::Stale => Asked::Other,
+        }
+    }
+
+    // A client gives its link back.
+    pub(crate) fn release<R: Wait>(
+        &mut self,
+        rt: &R,
+        lease: Lease<Stream>,
+    ) -> ReleaseReply<Stream> {
+        self.shared.release(rt, &mut self.caller, lease)
+    }
+
+    // Whether the client of a pass leaves.
+    pub(crate) fn leave<R: Wait>(&mut self, rt: &R, pass: Pass) -> bool {
+        match self.shared.leave(rt, &mut self.caller, pass) {
+            LeaveReply::Left => true,
+            LeaveReply::Holding(pass) => {
+                let _details = pass.forfeit();
+                false
+            }
+            LeaveReply::Stale | LeaveReply::Exhausted => false,
+        }
+    }
+
+    // A cancel connection is served.
+    pub(crate) fn cancel<R: Wait, O: Opener, G: Gate, Q: WriteCalls>(
+        &mut self,
+        rt: &R,
+        opener: &O,
+        gate: &G,
+        requester: &mut Q,
+        key: AnyKey,
+    ) {
+        serve_cancel(
+            rt,
+            &self.shared,
+            &mut self.caller,
+            &self.board,
+            &mut self.seat,
+            opener,
+            gate,
+            requester,
+            key,
+        );
+    }
+
+    // How many calls with this answer were counted, with short keys or none.
+    pub(crate) fn calls(&self, answer: CallAnswer) -> u128 {
+        self.caller.calls(CallKind::short(answer))
+    }
+
+    // The words of the board.
+    pub(crate) fn words(self) -> [u64; 8] {
+        let Node {
+            shared: _,
+            caller: _,
+            board,
+            seat,
+        } = self;
+        board.close(seat)
+    }
+}
+
+fn opened(reply: AcquireReply<Lease<Stream>, Permit>) -> Result<Permit, Other> {
+    match reply {
+        AcquireReply::Open(permit) => Ok(permit),
+        AcquireReply::Got(lease) => {
+            let _stream = lease.forfeit();
+            Err(Other)
+        }
+        AcquireReply::Waiting
+        | AcquireReply::Cancelled
+        | AcquireReply::Holding
+        | AcquireReply::Exhausted
+        | AcquireReply::Stale => Err(Other),
+    }
+}
+
+fn went_up(reply: UpReply<Lease<Stream>, Permit, Stream>) -> Result<Lease<Stream>, Other> {
+    match reply {
+        UpReply::Up(lease) => Ok(lease),
+        UpReply::Exhausted(permit, _stream) => {
+            let _details = permit.forfeit();
+            Err(Other)
+        }
+        UpReply::Stale(_stream) | UpReply::AtEnd(_stream) => Err(Other),
+    }
+}

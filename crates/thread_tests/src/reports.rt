@@ -1,0 +1,174 @@
+//! Requests that are carried and reported, over streams that log what happens to them.
+use crate::log::{Event, Log, LoggedDesk, Marks, Reply, Wire, assert_logged};
+use lease::{Lease, LinkPlace, LinkRecord, Permit, PermitRecord, Ticket, TicketRecord};
+use node_threads::{Desk, DeskCall, ListDesk, Open, Point, relay, report};
+use peer_forward::Outcome;
+use pg_ids::{DatabaseNo, LinkNo, PeerNo};
+use startup::Packet;
+use std::alloc::Global;
+use std::process::Abort;
+use std::sync::Wait;
+use std::test::Fail;
+
+// The CancelRequest of peer 2, slot 0, secret 1, with two hops.
+const PACKET: Packet = Packet::Short([0, 0, 0, 16, 4, 0xd2, 0x16, 0x2e, 0, 8, 0, 0, 0, 0, 0, 6]);
+
+const AT: LinkPlace = LinkPlace {
+    database: DatabaseNo(1),
+    index: 8,
+};
+
+fn ticket_record() -> Result<TicketRecord, Fail> {
+    Ok(TicketRecord {
+        peer: PeerNo::new(2).ok_or("no peer 2")?,
+        incarnation: 3,
+        number: 6,
+        link: LinkNo(7),
+        at: AT,
+    })
+}
+
+fn link_record(number: u64) -> Result<LinkRecord, Fail> {
+    Ok(LinkRecord {
+        peer: PeerNo::new(2).ok_or("no peer 2")?,
+        incarnation: 3,
+        link: LinkNo(number),
+        at: AT,
+    })
+}
+
+// The lease of a link, whose stream is the link's number.
+fn lease(number: u64) -> Result<Lease<u64>, Fail> {
+    let permit = Permit::new(PermitRecord {
+        peer: PeerNo::new(2).ok_or("no peer 2")?,
+        incarnation: 3,
+        number: 4,
+        at: AT,
+    });
+    Ok(permit.up(LinkNo(number), number))
+}
+
+// Streams by how much they take and what is read then, how carrying over them ends, and what they
+// are written.
+const STREAMS: [(usize, Reply, Outcome, Event); 5] = [
+    (16, Reply::End, Outcome::Ended, Event::Sent(PACKET)),
+    (7, Reply::End, Outcome::Failed, Event::Part(7)),
+    (5, Reply::End, Outcome::Failed, Event::Part(5)),
+    (16, Reply::Byte(0x4e), Outcome::Failed, Event::Sent(PACKET)),
+    (16, Reply::Fails, Outcome::Failed, Event::Sent(PACKET)),
+];
+
+// What is told of the ticket's request that ended so.
+fn told(outcome: Outcome) -> Event {
+    match outcome {
+        Outcome::Ended => Event::Ended(6),
+        Outcome::Failed => Event::Failed(6),
+    }
+}
+
+// What happens: the packet is written and the end awaited, if it was taken whole, then come these
+// events, and the byte for the requester, if the request may still be acted on.
+fn happens(
+    alloc: Global,
+    written: Event,
+    between: &[Event],
+    outcome: Outcome,
+) -> Result<Vec<Event>, Fail> {
+    let mut events = Vec::new(alloc);
+    events.push(written)?;
+    if written == Event::Sent(PACKET) {
+        events.push(Event::Read)?;
+    }
+    events.extend_from_slice(between)?;
+    if outcome == Outcome::Failed {
+        events.push(Event::Byte(0x45))?;
+    }
+    Ok(events)
+}
+
+fn assert_reported(
+    rt: &(impl Abort + Wait),
+    log: &Log,
+    room: usize,
+    reply: Reply,
+    expected: Outcome,
+) -> Result<(), Fail> {
+    let mut desk = LoggedDesk(log);
+    let mut requester = Wire::new(log, 16, Reply::End);
+    let mut server = Wire::new(log, room, reply);
+    let ticket = Ticket::new(ticket_record()?);
+    let gate = Marks(log);
+    let outcome = report(
+        rt,
+        &mut desk,
+        &gate,
+        &mut requester,
+        &mut server,
+        ticket,
+        PACKET,
+    );
+    assert_eq!(rt; outcome, expected);
+    Ok(())
+}
+
+// Each request is reported by its own ticket, after it was carried and before the requester learns
+// of it.
+#[test]
+fn reports(rt: HostRuntime) -> Result<(), Fail> {
+    for (room, reply, outcome, written) in STREAMS {
+        let log = Log::new(rt.alloc());
+        assert_reported(&rt, &log, room, reply, outcome)?;
+        let between = [Event::Passed(Point::Carried), told(outcome)];
+        let events = happens(rt.alloc(), written, &between, outcome)?;
+        assert_logged(&rt, &log, events.as_slice());
+    }
+    Ok(())
+}
+
+fn assert_relayed(rt: &impl Abort, log: &Log, room: usize, reply: Reply, expected: Outcome) {
+    let mut requester = Wire::new(log, 16, Reply::End);
+    let mut peer = Wire::new(log, room, reply);
+    assert_eq!(rt; relay(&mut requester, &mut peer, PACKET), expected);
+}
+
+#[test]
+fn relays(rt: HostRuntime) -> Result<(), Fail> {
+    for (room, reply, outcome, written) in STREAMS {
+        let log = Log::new(rt.alloc());
+        assert_relayed(&rt, &log, room, reply, outcome);
+        let events = happens(rt.alloc(), written, &[], outcome)?;
+        assert_logged(&rt, &log, events.as_slice());
+    }
+    Ok(())
+}
+
+// A desk that is a list has each call, and the streams of the leases.
+#[test]
+fn listed_calls(rt: HostRuntime) -> Result<(), Fail> {
+    let mut desk = ListDesk::new(rt.alloc(), 3)?;
+    let log = Log::new(rt.alloc());
+    let mut requester = Wire::new(&log, 0, Reply::End);
+    let mut server = Wire::new(&log, 16, Reply::Fails);
+    let ticket = Ticket::new(ticket_record()?);
+    let outcome = report(
+        &rt,
+        &mut desk,
+        &Open,
+        &mut requester,
+        &mut server,
+        ticket,
+        PACKET,
+    );
+    assert_eq!(rt; outcome, Outcome::Failed);
+    assert_logged(&rt, &log, &[Event::Sent(PACKET), Event::Read]);
+    desk.release(&rt, lease(7)?);
+    desk.close(&rt, lease(8)?);
+    let calls = [
+        DeskCall::Failed(ticket_record()?),
+        DeskCall::Release(link_record(7)?),
+        DeskCall::Close(link_record(8)?),
+    ];
+    assert_eq!(rt; desk.calls(), calls.as_slice());
+    assert_eq!(rt; desk.streams(), [7u64, 8].as_slice());
+    Ok(())
+}
