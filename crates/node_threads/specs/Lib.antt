@@ -9,3 +9,4 @@ pub mod Replying
 pub mod Stay
 pub mod Progress
 pub mod Finding
+pub mod Turn

@@ -19,6 +19,7 @@ mod secrets;
 mod stayed;
 mod staying;
 mod stream;
+mod turning;
 
 pub use cancelling::serve_cancel;
 pub use desk::Desk;
@@ -33,3 +34,4 @@ pub use reporting::{relay, report};
 pub use secrets::Secrets;
 pub use stayed::Stayed;
 pub use staying::stay;
+pub use turning::turn;

@@ -3,8 +3,10 @@ ghost use Rattle.std.specs.Prelude.{◌≡◌, IfOk};
 ghost use Rattle.node_threads.specs.Progress.{asking};
 
 use client_state::{Act, Client, DatabaseNo, Request};
-use node_threads::{Link, Stayed, stay};
+use lease::{Lease, LinkPlace, LinkRecord, Permit, PermitRecord};
+use node_threads::{DeskCall, Link, ListDesk, Open, Stayed, stay, turn};
 use pg_frames::{Body, Cutter, Flow, Frame};
+use pg_ids::{LinkNo, PeerNo};
 use std::alloc::{AllocError, Global};
 use std::io;
 use std::io::{ErrorKind, Read, Write};
@@ -390,5 +392,76 @@ fn greatest_frame(rt: HostRuntime) -> Result<(), Fail> {
     for size in [1_000, 4_096, 16_384, 2_000_000] {
         assert_passed(&rt, text.as_slice(), size)?;
     }
+    Ok(())
+}
+
+// Where the link of a lease is in its node's pool.
+const AT: LinkPlace = LinkPlace {
+    database: DatabaseNo(3),
+    index: 5,
+};
+
+// The record of a lease of link 7.
+fn link_record() -> Result<LinkRecord, Fail> {
+    Ok(LinkRecord {
+        peer: PeerNo::new(2).ok_or("no peer 2")?,
+        incarnation: 3,
+        link: LinkNo(7),
+        at: AT,
+    })
+}
+
+// The lease of this link.
+fn lease_of<S>(details: LinkRecord, stream: S) -> Lease<S>
+    ensures { result.stream ≡ stream }
+{
+    let permit = Permit::new(PermitRecord {
+        peer: details.peer,
+        incarnation: details.incarnation,
+        number: 4,
+        at: details.at,
+    });
+    permit.up(details.link, stream)
+}
+
+// A turn on such a link ends so, and makes this one call of its desk.
+fn assert_turn<R: Abort + AllocGlobal + Wait>(
+    rt: &R,
+    on_link: Script<'_>,
+    ending: Ending<'_>,
+    call: DeskCall,
+) -> Result<(), Fail> {
+    let (mut session, request) = begin(rt)?;
+    let mut client = Wire::new(rt.alloc(), reads(&[]));
+    let mut cutter = Cutter::new(rt.alloc());
+    let mut desk = ListDesk::new(rt.alloc(), 1)?;
+    let link = Link {
+        stream: Wire::new(rt.alloc(), on_link),
+        flow: Flow::new(rt.alloc())?,
+    };
+    let lease = lease_of(link_record()?, link);
+    let stayed = turn(
+        rt,
+        &mut desk,
+        &Open,
+        &mut session,
+        &mut client,
+        &mut cutter,
+        lease,
+        request,
+    );
+    assert_eq!(rt; ending_of(&stayed), ending);
+    assert_eq!(rt; desk.calls(), [call].as_slice());
+    Ok(())
+}
+
+// The link is given back only after a reply with which it is idle and behind which nothing stands.
+#[test]
+fn leases_handed_in(rt: HostRuntime) -> Result<(), Fail> {
+    let release = DeskCall::Release(link_record()?);
+    let close = DeskCall::Close(link_record()?);
+    assert_turn(&rt, reads(&[ROW]), Release, release)?;
+    assert_turn(&rt, reads(&[b"Z\0\0\0\x05IN"]), Close, close)?;
+    assert_turn(&rt, reads(&[BEGUN]), End(b""), close)?;
     Ok(())
 }

@@ -1,0 +1,12 @@
+-- How a lease is handed in once a session doesn't need its link any more (own).
+use Rattle.lease.specs.declared.link_record.LinkRecord.{LinkRecord}
+use Rattle.node_threads.specs.declared.desk_call.DeskCall.{DeskCall}
+use Rattle.node_threads.specs.declared.desk_call.DeskCall.TheVariants as call
+use Rattle.node_threads.specs.declared.stayed.Stayed.{Stayed}
+use Rattle.node_threads.specs.declared.stayed.Stayed.TheVariants.{Release, Close, End}
+
+-- the link is given back exactly where the stay says so, and closed otherwise
+abbrev pub handed_in : Stayed → LinkRecord → DeskCall
+handed_in Release lease = call.Release lease
+handed_in Close lease = call.Close lease
+handed_in (End reply) lease = call.Close lease

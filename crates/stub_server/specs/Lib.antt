@@ -1,0 +1,4 @@
+pub mod Query
+pub mod Asked
+pub mod Answers
+pub mod Login
