@@ -8,6 +8,3 @@ mod table_view;
 pub use decision::{Route, decide};
 pub use refusal::RouteRefusal;
 pub use table_view::{Standing, TableView};
-
-#[cfg(test)]
-mod tests;

@@ -13,6 +13,3 @@ pub use client::Client;
 pub use pg_ids::DatabaseNo;
 pub use reply::Reply;
 pub use request::Request;
-
-#[cfg(test)]
-mod tests;

@@ -8,6 +8,3 @@ mod refusal;
 pub use entry::Entry;
 pub use key_table::KeyTable;
 pub use refusal::Full;
-
-#[cfg(test)]
-mod tests;

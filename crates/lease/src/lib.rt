@@ -17,6 +17,3 @@ pub use pass::{Pass, PassRecord};
 pub use permit::{Permit, PermitRecord};
 pub use ticket::{Ticket, TicketRecord};
 pub use token::Token;
-
-#[cfg(test)]
-mod tests;

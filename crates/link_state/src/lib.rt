@@ -14,6 +14,3 @@ pub use act::{LinkAct, LoginHead};
 pub use error::LinkError;
 pub use login::LinkLogin;
 pub use pg_ids::ServerKey;
-
-#[cfg(test)]
-mod tests;

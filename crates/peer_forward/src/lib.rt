@@ -11,6 +11,3 @@ pub use calls::{ReadCalls, WriteCalls};
 pub use carrying::carry;
 pub use outcome::Outcome;
 pub use verdict::{Verdict, finish};
-
-#[cfg(test)]
-mod tests;

@@ -1,5 +1,5 @@
 //! A stream of frames that comes in any pieces, and is passed on in pieces.
-ghost use Rattle.std.specs.Prelude.{◌≡◌, ◌+◌, ◌<◌, ◌≤◌, [], ℕ, None, Some, length, slice_index, IfOk, IsOkUnless, MatchOption};
+ghost use Rattle.std.specs.Prelude.{◌≡◌, ◌↔◌, ◌+◌, ◌<◌, ◌≤◌, [], ℕ, None, Some, IsTrue, length, slice_index, IfOk, IsOkUnless, MatchOption};
 ghost use Rattle.std.specs.Borrow.{sem};
 ghost use Rattle.std.specs.Io.BufRead.{Rests};
 ghost use Rattle.pg_frames.specs.contracts.flow.Flow.{the_row};
@@ -131,6 +131,14 @@ impl Flow {
         ensures { result.now ≡ self.now.passed }
     {
         self.buffer.kept()
+    }
+
+    /// Whether it is as a new one: between two frames, with nothing fed that isn't handed out and
+    /// nothing handed out that isn't forgotten.
+    pub fn is_at_start(&self) -> bool
+        ensures { IsTrue result ↔ (self.now ≡ start) }
+    {
+        self.left.is_none() && self.pending().is_empty() && self.passed().is_empty()
     }
 
     /// Forgets the first bytes of that text, which makes room.

@@ -24,6 +24,3 @@ pub use parts::{OwnedPiece, Parts, cut_in_parts};
 pub use piece::Piece;
 pub use put::put_frame;
 pub use stream::{Cutting, cut};
-
-#[cfg(test)]
-mod tests;

@@ -26,6 +26,3 @@ pub use secret::Secret;
 pub use serial::Serial;
 pub use server_key::ServerKey;
 pub use slot_no::SlotNo;
-
-#[cfg(test)]
-mod tests;

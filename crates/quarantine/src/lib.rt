@@ -7,6 +7,3 @@ mod refusal;
 
 pub use hold::{Hold, HoldState, MAX_OPEN_TICKETS};
 pub use refusal::Busy;
-
-#[cfg(test)]
-mod tests;

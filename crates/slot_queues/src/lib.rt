@@ -5,6 +5,3 @@
 mod slot_queues;
 
 pub use slot_queues::SlotQueues;
-
-#[cfg(test)]
-mod tests;

@@ -23,6 +23,3 @@ pub use packet::Packet;
 pub use replies::{write_error, write_login};
 pub use request::{write_cancel, write_startup};
 pub use startup_error::StartupError;
-
-#[cfg(test)]
-mod tests;

@@ -13,6 +13,3 @@ pub use board::Board;
 pub use counter::Counter;
 pub use refusal::NoAllowance;
 pub use seat::BoardSeat;
-
-#[cfg(test)]
-mod tests;

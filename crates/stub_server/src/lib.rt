@@ -21,6 +21,3 @@ pub use login::{key_of, login_text};
 pub use server::{Mode, Server};
 pub use session::Session;
 pub use transaction::Transaction;
-
-#[cfg(test)]
-mod tests;

@@ -1,6 +1,0 @@
-use Rattle.std.proofs.Common.{◌≡◌}
-use Rattle.stat_board.proofs.tests.halved.Given as goal
-
--- it is a seat of that board still
-abbrev pub invariant-loop-i : goal.invariant-loop-i
-invariant-loop-i l = l.seat.board ≡ l.fn.seat.board

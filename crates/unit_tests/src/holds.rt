@@ -1,0 +1,55 @@
+//! The tickets of a link, one after the other, up to as many as may be open.
+use quarantine::{Busy, Hold, HoldState, MAX_OPEN_TICKETS};
+
+#[test]
+fn three_tickets(rt: HostRuntime) -> Result<(), Busy> {
+    let mut hold = Hold::new();
+    assert_eq!(rt; hold.state(), HoldState::Clear);
+    for n in 1..4 {
+        hold.open_ticket()?;
+        assert_eq!(rt; (hold.state(), hold.tickets()), (HoldState::Waiting(n), n));
+    }
+    for left in [
+        HoldState::Waiting(2),
+        HoldState::Waiting(1),
+        HoldState::Clear,
+    ] {
+        assert!(rt; hold.tickets() > 0);
+        hold.clean_end();
+        assert_eq!(rt; hold.state(), left);
+    }
+    assert_eq!(rt; hold, Hold::default());
+    Ok(())
+}
+
+#[test]
+fn a_ticket_that_failed(rt: HostRuntime) -> Result<(), Busy> {
+    let mut hold = Hold::new();
+    hold.open_ticket()?;
+    hold.open_ticket()?;
+    hold.fail();
+    assert_eq!(rt; (hold.state(), hold.tickets()), (HoldState::Condemned, 1));
+    hold.open_ticket()?;
+    assert_eq!(rt; (hold.state(), hold.tickets()), (HoldState::Condemned, 2));
+    hold.clean_end();
+    hold.clean_end();
+    assert_eq!(rt; (hold.state(), hold.tickets()), (HoldState::Condemned, 0));
+    Ok(())
+}
+
+#[test]
+fn as_many_as_may_be_open(rt: HostRuntime) -> Result<(), Busy> {
+    let mut hold = Hold::new();
+    for _ in 0..65_535 {
+        hold.open_ticket()?;
+    }
+    assert_eq!(rt; hold.tickets(), MAX_OPEN_TICKETS);
+    let full = hold;
+    assert_eq!(rt; hold.open_ticket(), Err(Busy));
+    assert_eq!(rt; hold, full);
+    assert!(rt; hold.tickets() > 0);
+    hold.clean_end();
+    assert_eq!(rt; hold.open_ticket(), Ok(()));
+    assert_eq!(rt; Busy.number(), 31);
+    Ok(())
+}
