@@ -1,5 +1,5 @@
 -- The next request of a client, or how it leaves.
-use Rattle.std.proofs.Common.{◌≡◌, ◌≢◌, inl, inr, ℕ, List, [], ◌∷◌, ◌++◌, length, Option, Some, None, Result, Ok, Err, refl, sym, ap, ◌∙◌, subst, append_assoc, append-nil}
+use Rattle.std.proofs.Common.{◌≡◌, ◌≢◌, inl, inr, ℕ, Bool, List, [], ◌∷◌, ◌++◌, length, Option, Some, None, Result, Ok, Err, refl, sym, ap, ◌∙◌, subst, append_assoc, append-nil}
 use Rattle.std.proofs.lemmas.List.Concat.{flat_map-append}
 use Rattle.peer_forward.specs.Calls.{Call, Effect, Makes}
 use Rattle.pg_frames.specs.declared.frame.Frame.{Frame}
@@ -90,7 +90,7 @@ texts-append : (xs ys : List Frame) → texts (xs ++ ys) ≡ texts xs ++ texts y
 texts-append xs ys = flat_map-append text xs ys
 
 -- so far this was read of the client, and these messages gathered
-pub record Awaiting {T : Type 0} (wrote gave : Effect T) (old : T) (database : ℕ) (kept : List ℕ)
+pub record Awaiting {T : Type 0} (wrote gave : Effect T) (old : T) (leased : Bool) (database : ℕ) (kept : List ℕ)
     (session : Session) (rest : List ℕ) (new : T) : Type 0 where
   pub calls : List Call
   pub made : Makes wrote gave old calls new
@@ -99,12 +99,12 @@ pub record Awaiting {T : Type 0} (wrote gave : Effect T) (old : T) (database : �
   pub parts : List Frame
   pub gathered : AreGathered [] parts
   pub whole : kept ++ bytes ≡ texts parts ++ rest
-  pub session_is : session ≡ gathering database (texts parts)
+  pub session_is : session ≡ gathering leased database (texts parts)
 
-pub awaiting_start : {T : Type 0} (wrote gave : Effect T) (old : T) (database : ℕ)
-    (kept : List ℕ) (session : Session) → session ≡ gathering database []
-    → Awaiting wrote gave old database kept session kept old
-awaiting_start wrote gave old database kept session is = record {
+pub awaiting_start : {T : Type 0} (wrote gave : Effect T) (old : T) (leased : Bool) (database : ℕ)
+    (kept : List ℕ) (session : Session) → session ≡ gathering leased database []
+    → Awaiting wrote gave old leased database kept session kept old
+awaiting_start wrote gave old leased database kept session is = record {
   calls = [];
   made = refl;
   bytes = [];
@@ -116,22 +116,22 @@ awaiting_start wrote gave old database kept session is = record {
 }
 
 -- what was found, as found from the session that is known
-finds_at : {T : Type 0} (wrote gave : Effect T) (old new : T) (database : ℕ) (kept : List ℕ)
+finds_at : {T : Type 0} (wrote gave : Effect T) (old new : T) (leased : Bool) (database : ℕ) (kept : List ℕ)
     (session : Session) (rest : List ℕ) (found : Found) (session' : Session) (left : List ℕ)
-    (so_far : Awaiting wrote gave old database kept session rest new)
+    (so_far : Awaiting wrote gave old leased database kept session rest new)
     → Finds session rest found session' left
-    → Finds (gathering database (texts so_far.parts)) rest found session' left
-finds_at wrote gave old new database kept session rest found session' left so_far finds =
+    → Finds (gathering leased database (texts so_far.parts)) rest found session' left
+finds_at wrote gave old new leased database kept session rest found session' left so_far finds =
     subst (λ (s : Session). Finds s rest found session' left) so_far.session_is finds
 
 -- messages more were gathered, but none made a request whole
-pub awaiting_more : {T : Type 0} (wrote gave : Effect T) (old new : T) (database : ℕ)
+pub awaiting_more : {T : Type 0} (wrote gave : Effect T) (old new : T) (leased : Bool) (database : ℕ)
     (kept : List ℕ) (session session' : Session) (rest left : List ℕ)
-    → Awaiting wrote gave old database kept session rest new
+    → Awaiting wrote gave old leased database kept session rest new
     → Finds session rest More session' left
-    → Awaiting wrote gave old database kept session' left new × BeginsNoFrame left
-awaiting_more wrote gave old new database kept session session' rest left so_far finds =
-    let more = finds_at wrote gave old new database kept session rest More session' left so_far
+    → Awaiting wrote gave old leased database kept session' left new × BeginsNoFrame left
+awaiting_more wrote gave old new leased database kept session session' rest left so_far finds =
+    let more = finds_at wrote gave old new leased database kept session rest More session' left so_far
     finds in
     let joined = texts-append so_far.parts more.0 in (
       record {
@@ -144,19 +144,19 @@ awaiting_more wrote gave old new database kept session session' rest left so_far
         whole = so_far.whole ∙ ap (λ xs. texts so_far.parts ++ xs) more.1
             ∙ sym (append_assoc (texts so_far.parts) (texts more.0) left)
             ∙ ap (λ xs. xs ++ left) (sym joined);
-        session_is = more.4 ∙ ap (λ xs. gathering database xs) (sym joined);
+        session_is = more.4 ∙ ap (λ xs. gathering leased database xs) (sym joined);
       },
       more.3,
     )
 
 -- more was read
-pub awaiting_read : {T : Type 0} (wrote gave : Effect T) (old new new' : T) (database : ℕ)
+pub awaiting_read : {T : Type 0} (wrote gave : Effect T) (old new new' : T) (leased : Bool) (database : ℕ)
     (kept : List ℕ) (session session' : Session) (rest rest' : List ℕ)
-    → Awaiting wrote gave old database kept session rest new
+    → Awaiting wrote gave old leased database kept session rest new
     → SomeCalls wrote gave new new'
     (λ calls. (bytes : List ℕ) × Read bytes calls × (rest' ≡ rest ++ bytes))
-    → session' ≡ session → Awaiting wrote gave old database kept session' rest' new'
-awaiting_read wrote gave old new new' database kept session session' rest rest' so_far more is =
+    → session' ≡ session → Awaiting wrote gave old leased database kept session' rest' new'
+awaiting_read wrote gave old new new' leased database kept session session' rest rest' so_far more is =
     let bytes = more.2.0 in
     record {
       calls = so_far.calls ++ more.0;
@@ -172,12 +172,12 @@ awaiting_read wrote gave old new new' database kept session session' rest rest' 
     }
 
 -- the messages up to the one that came
-came : (kept bytes rest left : List ℕ) (database : ℕ) (parts more : List Frame) (last : Frame)
+came : (kept bytes rest left : List ℕ) (leased : Bool) (database : ℕ) (parts more : List Frame) (last : Frame)
     (says : ClientMessage) → AreGathered [] parts → kept ++ bytes ≡ texts parts ++ rest
-    → Comes (gathering database (texts parts)) rest more last says left
+    → Comes (gathering leased database (texts parts)) rest more last says left
     → Asks (parts ++ more) last says
     × (kept ++ bytes ≡ request_of (parts ++ more) last ++ left)
-came kept bytes rest left database parts more last says gathered whole comes =
+came kept bytes rest left leased database parts more last says gathered whole comes =
     let joined = texts-append parts more in (
       record {
         gathered = gathered-append [] parts more gathered comes.gathered;
@@ -191,16 +191,16 @@ came kept bytes rest left database parts more last says gathered whole comes =
     )
 
 -- a request was found
-pub asks_request : {T : Type 0} (wrote gave : Effect T) (old new : T) (database : ℕ)
+pub asks_request : {T : Type 0} (wrote gave : Effect T) (old new : T) (leased : Bool) (database : ℕ)
     (kept : List ℕ) (session session' : Session) (rest left request : List ℕ)
-    → Awaiting wrote gave old database kept session rest new
+    → Awaiting wrote gave old leased database kept session rest new
     → Finds session rest (Request request) session' left
     → SomeCalls wrote gave old new (λ calls. AsksNext kept calls (Ok request) left)
     × (session' ≡ asking database)
-asks_request wrote gave old new database kept session session' rest left request so_far finds =
-    let found = finds_at wrote gave old new database kept session rest (Request request) session'
+asks_request wrote gave old new leased database kept session session' rest left request so_far finds =
+    let found = finds_at wrote gave old new leased database kept session rest (Request request) session'
     left so_far finds in
-    let is = came kept so_far.bytes rest left database so_far.parts found.0 found.1
+    let is = came kept so_far.bytes rest left leased database so_far.parts found.0 found.1
     message.Request so_far.gathered so_far.whole found.2 in (
       (
         so_far.calls,
@@ -219,18 +219,18 @@ asks_request wrote gave old new database kept session session' rest left request
     )
 
 -- the client leaves with a message, or memory was refused
-pub asks_end : {T : Type 0} (wrote gave : Effect T) (old new : T) (database : ℕ)
+pub asks_end : {T : Type 0} (wrote gave : Effect T) (old new : T) (leased : Bool) (database : ℕ)
     (kept : List ℕ) (session session' : Session) (rest left reply : List ℕ)
-    → Awaiting wrote gave old database kept session rest new
+    → Awaiting wrote gave old leased database kept session rest new
     → Finds session rest (End reply) session' left
     → SomeCalls wrote gave old new (λ calls. AsksNext kept calls (Err reply) left)
-asks_end wrote gave old new database kept session session' rest left reply so_far finds = (
+asks_end wrote gave old new leased database kept session session' rest left reply so_far finds = (
   so_far.calls,
   so_far.made,
-  elim (finds_at wrote gave old new database kept session rest (End reply) session' left so_far
+  elim (finds_at wrote gave old new leased database kept session rest (End reply) session' left so_far
       finds) [
         | inl says ↦
-            let is = came kept so_far.bytes rest left database so_far.parts says.0 says.1 says.2
+            let is = came kept so_far.bytes rest left leased database so_far.parts says.0 says.1 says.2
             so_far.gathered so_far.whole says.3 in (
               Says (so_far.parts ++ says.0) says.1,
               (so_far.bytes, says.2, so_far.read, is.1, is.0, says.4),
@@ -251,12 +251,12 @@ asks_end wrote gave old new database kept session session' rest left reply so_fa
 )
 
 -- the client leaves without a whole message
-pub asks_quit : {T : Type 0} (wrote gave : Effect T) (old new new' : T) (database : ℕ)
+pub asks_quit : {T : Type 0} (wrote gave : Effect T) (old new new' : T) (leased : Bool) (database : ℕ)
     (kept : List ℕ) (session : Session) (rest left reply : List ℕ)
-    → Awaiting wrote gave old database kept session rest new → BeginsNoFrame rest
+    → Awaiting wrote gave old leased database kept session rest new → BeginsNoFrame rest
     → SomeCalls wrote gave new new' (λ calls. Quits rest calls reply left)
     → SomeCalls wrote gave old new' (λ calls. AsksNext kept calls (Err reply) left)
-asks_quit wrote gave old new new' database kept session rest left reply so_far none quits = (
+asks_quit wrote gave old new new' leased database kept session rest left reply so_far none quits = (
   so_far.calls ++ quits.0,
   Makes-append wrote gave old new new' so_far.calls quits.0 so_far.made quits.1,
   elim quits.2 [

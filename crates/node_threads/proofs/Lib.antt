@@ -9,3 +9,5 @@ pub mod FindingLemmas
 pub mod AskingLemmas
 pub mod Totals
 pub mod StayLemmas
+pub mod LoginLemmas
+pub mod OpeningLemmas

@@ -1,5 +1,5 @@
 -- Replies of which only a part is told.
-use Rattle.std.proofs.Common.{ap, ◌∙◌}
+use Rattle.std.proofs.Common.{ap}
 use Rattle.node_core.specs.declared.exchange.Exchange.{Exchange}
 use Rattle.locked_node.specs.Lock.{CallerView, Counted}
 

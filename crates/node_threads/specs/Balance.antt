@@ -51,22 +51,54 @@ cancels = answer.Served ∷ answer.Forwarded ∷ answer.Unwaited ∷ answer.Canc
     ∷ answer.CancelUnknown ∷ answer.CancelNoPeer ∷ answer.CancelNoLink ∷ answer.CancelBusy
     ∷ answer.CancelExhausted ∷ []
 
--- between two tallies as many calls that make a value were counted as calls that spend one
-abbrev pub AreEven : List CallAnswer → List CallAnswer → Tally → Tally → Type 0
-AreEven made spent old new =
-    answered new made + answered old spent ≡ answered new spent + answered old made
+-- how many values of each kind are in hand
+pub record Hand : Type 0 where
+  pub passes : ℕ
+  pub permits : ℕ
+  pub leases : ℕ
+  pub tickets : ℕ
+
+abbrev pub nothing : Hand
+nothing = record { passes = 0; permits = 0; leases = 0; tickets = 0 }
+
+abbrev pub a_pass : Hand
+a_pass = record { passes = 1; permits = 0; leases = 0; tickets = 0 }
+
+abbrev pub a_permit : Hand
+a_permit = record { passes = 0; permits = 1; leases = 0; tickets = 0 }
+
+abbrev pub a_lease : Hand
+a_lease = record { passes = 0; permits = 0; leases = 1; tickets = 0 }
+
+abbrev pub a_ticket : Hand
+a_ticket = record { passes = 0; permits = 0; leases = 0; tickets = 1 }
+
+-- With so many values in hand before, and these calls that make one or spend one counted between two
+-- tallies, so many are in hand after.
+abbrev pub Leads : List CallAnswer → List CallAnswer → ℕ → Tally → ℕ → Tally → Type 0
+Leads made spent before old after new = before + (answered new made + answered old spent)
+    ≡ after + (answered new spent + answered old made)
 
 -- A caller's allowance and its counts make as much as before, and the allowance isn't greater; and
--- if some is left, the steps that it counted spent as many passes, permits, leases and tickets as
--- they made, each kind by itself.
-pub record Balanced (old new : CallerView) : Type 0 where
+-- if some is left, the steps that it counted lead from the values in hand before to those after,
+-- each kind by itself.
+pub record Moves (before : Hand) (old : CallerView) (after : Hand) (new : CallerView) : Type 0 where
   pub same : (new.lock ≡ old.lock) × (new.start ≡ old.start)
   pub total : new.allowance + all_calls new.tally ≡ old.allowance + all_calls old.tally
   pub falls : new.allowance ≤ old.allowance
-  pub passes : 0 < new.allowance → AreEven passes_made passes_spent old.tally new.tally
-  pub permits : 0 < new.allowance → AreEven permits_made permits_spent old.tally new.tally
-  pub leases : 0 < new.allowance → AreEven leases_made leases_spent old.tally new.tally
-  pub tickets : 0 < new.allowance → AreEven tickets_made tickets_spent old.tally new.tally
+  pub passes : 0 < new.allowance
+      → Leads passes_made passes_spent before.passes old.tally after.passes new.tally
+  pub permits : 0 < new.allowance
+      → Leads permits_made permits_spent before.permits old.tally after.permits new.tally
+  pub leases : 0 < new.allowance
+      → Leads leases_made leases_spent before.leases old.tally after.leases new.tally
+  pub tickets : 0 < new.allowance
+      → Leads tickets_made tickets_spent before.tickets old.tally after.tickets new.tally
+
+-- the steps that a caller counted spent as many passes, permits, leases and tickets as they made,
+-- each kind by itself, if some allowance is left
+abbrev pub Balanced : CallerView → CallerView → Type 0
+Balanced old new = Moves nothing old nothing new
 
 -- a caller counted at most one cancel request
 abbrev pub CancelsAtMostOnce : CallerView → CallerView → Type 0

@@ -1,5 +1,5 @@
 -- How far a request has come, while it is read from a client.
-use Rattle.std.specs.Prelude.{◌≡◌, ◌⊎◌, ℕ, true, List, [], ◌++◌, length, Some, None, Result, Ok, Err}
+use Rattle.std.specs.Prelude.{◌≡◌, ◌⊎◌, ℕ, Bool, List, [], ◌++◌, length, Some, None, Result, Ok, Err}
 use Rattle.peer_forward.specs.Calls.{Call}
 use Rattle.pg_frames.specs.declared.frame.Frame.{Frame}
 use Rattle.pg_frames.specs.declared.error.FrameError.{FrameError}
@@ -16,10 +16,11 @@ use Rattle.node_threads.specs.StreamCalls.{Read, ReadToEnd}
 use Rattle.node_threads.specs.Asking.{IsError, IsSaid, AreGathered, Asks, request_of, Leaving, Leaves}
 use Rattle.node_threads.specs.Progress.{asking}
 
--- a session in an open transaction that has gathered this for its next request
-abbrev pub gathering : ℕ → List ℕ → Session
-gathering database gathered =
-    record { database = database; leased = true; outstanding = 0; gathered = gathered }
+-- a session with nothing outstanding that has gathered this for its next request, with a lease, as
+-- in an open transaction, or without one
+abbrev pub gathering : Bool → ℕ → List ℕ → Session
+gathering leased database gathered =
+    record { database = database; leased = leased; outstanding = 0; gathered = gathered }
 
 -- Messages were gathered after those of which the session knows, and then this one came.
 pub record Comes (old : Session) (kept : List ℕ) (parts : List Frame) (last : Frame)
@@ -34,7 +35,7 @@ pub record Comes (old : Session) (kept : List ℕ) (parts : List Frame) (last : 
 abbrev pub Finds : Session → List ℕ → Found → Session → List ℕ → Type 0
 Finds old kept More new left = (parts : List Frame) × (kept ≡ texts parts ++ left)
     × AreGathered old.gathered parts × BeginsNoFrame left
-    × (new ≡ gathering old.database (old.gathered ++ texts parts))
+    × (new ≡ gathering old.leased old.database (old.gathered ++ texts parts))
 Finds old kept (Request request) new left = (parts : List Frame) × (last : Frame)
     × Comes old kept parts last message.Request left
     × (request ≡ (old.gathered ++ texts parts) ++ text last) × (new ≡ asking old.database)

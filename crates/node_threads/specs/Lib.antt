@@ -10,3 +10,7 @@ pub mod Stay
 pub mod Progress
 pub mod Finding
 pub mod Turn
+pub mod Leasing
+pub mod LoggingIn
+pub mod Opening
+pub mod Restarting

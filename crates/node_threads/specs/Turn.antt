@@ -1,4 +1,7 @@
 -- How a lease is handed in once a session doesn't need its link any more (own).
+use Rattle.std.specs.Prelude.{◌≡◌}
+use Rattle.client_state.specs.Session.{Session}
+use Rattle.client_state.specs.Acts.{over}
 use Rattle.lease.specs.declared.link_record.LinkRecord.{LinkRecord}
 use Rattle.node_threads.specs.declared.desk_call.DeskCall.{DeskCall}
 use Rattle.node_threads.specs.declared.desk_call.DeskCall.TheVariants as call
@@ -10,3 +13,9 @@ abbrev pub handed_in : Stayed → LinkRecord → DeskCall
 handed_in Release lease = call.Release lease
 handed_in Close lease = call.Close lease
 handed_in (End reply) lease = call.Close lease
+
+-- where the session goes on it has no lease, and nothing is outstanding
+abbrev pub GoesOnWithout : Stayed → Session → Session → Type 0
+GoesOnWithout Release old new = new ≡ over old
+GoesOnWithout Close old new = new ≡ over old
+GoesOnWithout (End reply) old new = Unit {0}

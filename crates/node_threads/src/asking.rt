@@ -1,11 +1,11 @@
 //! The next request of a client is read.
-ghost use Rattle.std.specs.Prelude.{◌≡◌, ◌++◌, ◌∷◌, [], ℕ, List, None, Some, IfSome, OnOk, IsTrue};
+ghost use Rattle.std.specs.Prelude.{◌≡◌, ◌++◌, ◌∷◌, [], ℕ, List, None, Some, IfSome, OnOk};
 ghost use Rattle.peer_forward.specs.Calls.{Call, Makes};
 ghost use Rattle.pg_frames.specs.FrameText.{BeginsNoFrame};
 ghost use Rattle.startup.specs.declared.error_code.ErrorCode.TheVariants.{ProtocolViolation};
 ghost use Rattle.node_threads.specs.StreamCalls.{SomeCalls, Read};
 ghost use Rattle.node_threads.specs.Asking.{IsError};
-ghost use Rattle.node_threads.specs.Progress.{asking, in_transaction};
+ghost use Rattle.node_threads.specs.Progress.{asking};
 ghost use Rattle.node_threads.specs.Finding.{gathering, Finds, Quits, IsRefusal, AsksNext};
 
 use crate::stream::read_some;
@@ -27,15 +27,15 @@ enum Found {
     End(Reply),
 }
 
-/// Reads the client's next request, or returns what is to be written to the client as the session
-/// ends.
+/// Reads the client's next request, with a lease in an open transaction or without one, or returns
+/// what is to be written to the client as the session ends.
 pub fn next_request<R: Wait, C: WriteCalls + ReadCalls>(
     rt: &R,
     session: &mut Client,
     client: &mut C,
     cutter: &mut Cutter,
 ) -> Result<Request, Reply>
-    requires { session.old ≡ in_transaction session.old.database }
+    requires { session.old ≡ gathering session.old.leased session.old.database [] }
     ensures asks { SomeCalls C.wrote C.gave client.old client.new
         (λ calls. AsksNext cutter.old calls result cutter.new) }
     ensures session { OnOk result (session.new ≡ asking session.old.database) }
@@ -55,7 +55,7 @@ pub fn next_request<R: Wait, C: WriteCalls + ReadCalls>(
 
 // Cuts a request from what was read of the client.
 fn cut_request(session: &mut Client, cutter: &mut Cutter) -> Found
-    requires { session.old ≡ gathering session.old.database session.old.gathered }
+    requires { session.old ≡ gathering session.old.leased session.old.database session.old.gathered }
     ensures { Finds session.old cutter.old result session.new cutter.new }
 {
     loop {
@@ -66,10 +66,10 @@ fn cut_request(session: &mut Client, cutter: &mut Cutter) -> Found
             return Found::More;
         };
         match session.on_client(frame) {
-            Act::ToLink(request) => return Found::Request(request),
+            Act::ToLink(request) | Act::Need(request) => return Found::Request(request),
+            Act::Close(reply) | Act::End(reply) => return Found::End(reply),
             Act::ToClient(_) => {}
-            Act::Close(reply) => return Found::End(reply),
-            _ => unreachable!(),
+            Act::Release(_) => unreachable!(),
         }
     }
 }
@@ -80,7 +80,6 @@ fn read_on<C: WriteCalls + ReadCalls>(
     client: &mut C,
     cutter: &mut Cutter,
 ) -> Option<Reply>
-    requires session { IsTrue session.old.leased }
     requires none { BeginsNoFrame cutter.old }
     ensures more { result ≡ None → SomeCalls C.wrote C.gave client.old client.new
         (λ calls. (bytes : List ℕ) × Read bytes calls × (cutter.new ≡ cutter.old ++ bytes)) }
@@ -104,7 +103,6 @@ fn read_on<C: WriteCalls + ReadCalls>(
 
 // What is written to a client whose bytes can't be taken.
 fn refusal(session: &mut Client, error: FrameError) -> Reply
-    requires { IsTrue session.old.leased }
     ensures { IsRefusal error result }
 {
     match error {
@@ -115,11 +113,10 @@ fn refusal(session: &mut Client, error: FrameError) -> Reply
 
 // The error of a client that violates the protocol.
 fn violation(session: &mut Client) -> Reply
-    requires { IsTrue session.old.leased }
     ensures { IsError ProtocolViolation result }
 {
     match session.on_client_fault() {
-        Act::Close(error) => error,
+        Act::Close(error) | Act::End(error) => error,
         _ => Reply::nothing(),
     }
 }

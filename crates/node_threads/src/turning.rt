@@ -3,7 +3,7 @@ ghost use Rattle.std.specs.Prelude.{◌≡◌, [], None};
 ghost use Rattle.node_threads.specs.StreamCalls.{SomeCalls};
 ghost use Rattle.node_threads.specs.Progress.{asking, LeavesBehind};
 ghost use Rattle.node_threads.specs.Stay.{Stay};
-ghost use Rattle.node_threads.specs.Turn.{handed_in};
+ghost use Rattle.node_threads.specs.Turn.{handed_in, GoesOnWithout};
 
 use crate::{Desk, Gate, Link, Point, Stayed, stay};
 use client_state::{Client, Request};
@@ -39,6 +39,7 @@ where
         (λ on_link. SomeCalls C.wrote C.gave client.old client.new
         (λ on_client. Stay request lease.stream.flow.bytes cutter.old on_link on_client result
         cutter.new)) }
+    ensures session { GoesOnWithout result session.old session.new }
     // One call, with the session's own lease.
     ensures told { D.told desk.old (handed_in result lease.details) desk.new }
 {

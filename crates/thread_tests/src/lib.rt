@@ -9,8 +9,14 @@ mod log;
 #[cfg(test)]
 mod node;
 #[cfg(test)]
+mod openings;
+#[cfg(test)]
 mod reports;
 #[cfg(test)]
+mod sessions;
+#[cfg(test)]
 mod stays;
+#[cfg(test)]
+mod talk;
 #[cfg(test)]
 mod words;

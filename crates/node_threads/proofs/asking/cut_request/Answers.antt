@@ -2,7 +2,7 @@ use Rattle.std.proofs.Common.{◌≡◌, ◌++◌, Ok, Option, IfSome, ap, subst
 use Rattle.pg_frames.specs.declared.frame.Frame.{Frame}
 use Rattle.pg_frames.specs.FrameText.{text, IsFrame}
 use Rattle.node_threads.specs.declared.asking.Found.TheVariants.{More, Request, End}
-use Rattle.node_threads.proofs.FindingLemmas.{finds_more, finds_request, finds_end, gathered_on, some_text}
+use Rattle.node_threads.proofs.FindingLemmas.{finds_more, finds_request, finds_end, gathered_on, some_text, asked_in, ended_in}
 use Rattle.node_threads.proofs.asking.cut_request.Goals as goal
 
 pub returns-in_default-found : goal.returns-in_default-found
@@ -17,7 +17,9 @@ returns-in-ToLink c =
     (λ frame. IsFrame frame × (c.loop-found.cutter ≡ text frame ++ c.next.new.self))) c.in-Some.is
     c.in-Ok.ensures.frame in
     c.loop-found.invariant.1 (Request c.in-ToLink.request) c.on_client.new.self c.next.new.self
-    (finds_request c.loop-found.session _ c.loop-found.cutter _ _ c.in-Some.frame c.loop-found.invariant.0 came.0 came.1 c.in-ToLink.ensures)
+    (finds_request c.loop-found.session _ c.loop-found.cutter _ c.in-ToLink.request c.on_client.result
+    c.in-Some.frame (asked_in _ _ c.in-ToLink.is) c.loop-found.invariant.0 came.0 came.1
+    c.on_client.ensures)
 
 pub returns-in-Close : goal.returns-in-Close
 returns-in-Close c =
@@ -25,7 +27,9 @@ returns-in-Close c =
     (λ frame. IsFrame frame × (c.loop-found.cutter ≡ text frame ++ c.next.new.self))) c.in-Some.is
     c.in-Ok.ensures.frame in
     c.loop-found.invariant.1 (End c.in-Close.reply) c.on_client.new.self c.next.new.self
-    (finds_end c.loop-found.session _ c.loop-found.cutter _ _ c.in-Some.frame c.loop-found.invariant.0 came.0 came.1 c.in-Close.ensures)
+    (finds_end c.loop-found.session _ c.loop-found.cutter _ c.in-Close.reply c.on_client.result
+    c.in-Some.frame (ended_in _ _ c.in-Close.is) c.loop-found.invariant.0 came.0 came.1
+    c.on_client.ensures)
 
 pub loop-found-smaller-in-ToClient : goal.loop-found-smaller-in-ToClient
 loop-found-smaller-in-ToClient c =

@@ -6,9 +6,10 @@ use Rattle.node_threads.proofs.asking.cut_request.Given as goal
 
 -- what is found in the rest is found in all
 abbrev pub invariant-loop-found : goal.invariant-loop-found
-invariant-loop-found l = (l.session ≡ gathering l.session.database l.session.gathered)
+invariant-loop-found l =
+    (l.session ≡ gathering l.session.leased l.session.database l.session.gathered)
     × ((found : Found) (new : Session) (left : List ℕ)
-    → Finds (gathering l.session.database l.session.gathered) l.cutter found new left
+    → Finds (gathering l.session.leased l.session.database l.session.gathered) l.cutter found new left
     → Finds l.fn.session l.fn.cutter found new left)
 
 -- each frame takes bytes

@@ -9,7 +9,7 @@ returns-in-Serve-clause-balanced g c =
 
 pub returns-in-Serve-clause-once : goal.returns-in-Serve-clause-once
 returns-in-Serve-clause-once g c =
-    report-once _ _ _ _ _ _ c.in-Serve.ticket c.serve-outcome.result c.in-Serve.ensures.counted refl
+    report-once _ _ _ _ _ _ c.in-Serve.ticket c.serve-outcome.result c.in-Serve.ensures.counted
     c.serve-outcome.ensures.told
 
 pub returns-in-Forward-clause-balanced : goal.returns-in-Forward-clause-balanced
@@ -22,7 +22,7 @@ returns-in-Unwait-clause-balanced g c =
 
 pub returns-in-Unwait-clause-once : goal.returns-in-Unwait-clause-once
 returns-in-Unwait-clause-once g c =
-    order-once _ _ _ _ _ c.in-Unwait.ensures.counted refl
+    order-once _ _ _ _ _ c.in-Unwait.ensures.counted
 
 pub returns-in-Refused-clause-balanced : goal.returns-in-Refused-clause-balanced
 returns-in-Refused-clause-balanced g c =
@@ -30,4 +30,4 @@ returns-in-Refused-clause-balanced g c =
 
 pub returns-in-Refused-clause-once : goal.returns-in-Refused-clause-once
 returns-in-Refused-clause-once g c =
-    order-once _ _ _ _ _ c.in-Refused.ensures.counted refl
+    order-once _ _ _ _ _ c.in-Refused.ensures.counted

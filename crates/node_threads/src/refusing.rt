@@ -1,0 +1,21 @@
+//! Errors that end a connection.
+ghost use Rattle.std.specs.Prelude.{Some};
+ghost use Rattle.node_threads.specs.StreamCalls.{SomeCalls};
+ghost use Rattle.node_threads.specs.Opening.{WritesError};
+
+use crate::stream::write_whole;
+use client_state::Reply;
+use peer_forward::{ReadCalls, WriteCalls};
+use startup::{ErrorCode, Severity};
+use std::alloc::Global;
+
+/// Writes the error that ends a connection, as far as the client takes it. Nothing is written where
+/// memory for its text is refused.
+pub fn refuse<C: WriteCalls + ReadCalls>(alloc: Global, client: &mut C, code: ErrorCode)
+    ensures { SomeCalls C.wrote C.gave client.old client.new (WritesError (Some code)) }
+{
+    let Ok(reply) = Reply::error(alloc, Severity::Fatal, code) else {
+        return;
+    };
+    let _ = write_whole(client, reply.as_slice());
+}
