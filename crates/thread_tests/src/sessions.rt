@@ -1,14 +1,13 @@
 //! Sessions at a real node, over streams of memory: what a client and a server get of one another,
 //! and what the node was told.
-ghost use Rattle.std.specs.Prelude.{◌≡◌, ◌<◌, length};
+ghost use Rattle.std.specs.Prelude.{◌≡◌, ◌≤◌, length};
 
 use crate::talk::{Talk, Turn};
 use ini_config::Settings;
 use locked_node::{CallAnswer, CallKind, Caller, Journal, Shared};
 use node_core::{DatabaseNo, NodeCore, RestartReply};
-use node_threads::{Link, Open, Opener, restart, serve_client};
-use pg_frames::Cutter;
-use pg_ids::{Boot, Kind, PeerNo, Secret};
+use node_threads::{Link, Open, Opener, restart, serve_connection};
+use pg_ids::{Boot, PeerNo, Secret};
 use stat_board::{Board, BoardSeat};
 use std::alloc::Global;
 use std::io;
@@ -40,6 +39,9 @@ const TERMINATE: &[u8] = b"X\0\0\0\x04";
 
 // The error fields of a lost or refused link, up to the text for a person.
 const LOST: &[u8] = b"SFATAL\0VFATAL\0C08006\0";
+
+// A client that comes, and is greeted.
+const COMES: Turn = Turn::Gives(STARTUP);
 
 const GREETED: Turn = Turn::Takes(GREETING);
 
@@ -78,7 +80,7 @@ struct Node {
     board: Board,
     seat: BoardSeat,
     ghost own: { caller.lock ≡ shared },
-    ghost some: { 0 < length caller.start.view.pools },
+    ghost databases: { length settings.databases ≤ length caller.start.view.pools },
     ghost seated: { seat.board ≡ board },
 }
 
@@ -108,20 +110,18 @@ impl Node {
         turns: &'static [Turn],
     ) {
         let mut client = Talk::new(turns);
-        let mut cutter = Cutter::new(alloc);
-        serve_client(
+        serve_connection(
             rt,
             alloc,
             &self.shared,
             &mut self.caller,
+            &self.board,
+            &mut self.seat,
             &self.settings,
             server,
             &Open,
             &mut client,
-            &mut cutter,
-            DatabaseNo(0),
             Secret(1),
-            Kind::Short,
         );
         assert!(rt; client.is_done());
     }
@@ -145,13 +145,14 @@ fn assert_calls(rt: &impl Abort, node: &Node, calls: &[(CallAnswer, u128)]) {
 }
 
 const ASKS: &[Turn] = &[
+    COMES,
     GREETED,
     Turn::Gives(QUERY),
     Turn::Takes(ROWS),
     Turn::Gives(TERMINATE),
 ];
 
-const ASKS_IN_VAIN: &[Turn] = &[GREETED, Turn::Gives(QUERY), Turn::TakesError(LOST)];
+const ASKS_IN_VAIN: &[Turn] = &[COMES, GREETED, Turn::Gives(QUERY), Turn::TakesError(LOST)];
 
 // A client's query goes to a new link, which is idle after it and serves the next client.
 #[test]
@@ -272,5 +273,30 @@ fn the_last_boot(rt: HostRuntime) -> Result<(), Fail> {
     let mut last = Boot(0xffff_ffff_ffff_ffff);
     assert_eq!(rt; node.restart(&rt, &mut last), RestartReply::Exhausted);
     assert_calls(&rt, &node, &[(CallAnswer::Restarted, 1)]);
+    Ok(())
+}
+
+// A database that the settings don't have, and a cancel request with a key that was never given.
+#[test]
+fn others(rt: HostRuntime) -> Result<(), Fail> {
+    let server = Server { turns: None };
+    let mut node = Node::new(rt.alloc())?;
+    node.serve(
+        &rt,
+        rt.alloc(),
+        &server,
+        &[
+            Turn::Gives(b"\0\0\0\x22\0\x03\0\0user\0plain\0database\0none\0\0"),
+            Turn::TakesError(b"SFATAL\0VFATAL\0C3D000\0"),
+        ],
+    );
+    node.serve(
+        &rt,
+        rt.alloc(),
+        &server,
+        &[Turn::Gives(b"\0\0\0\x10\x04\xd2\x16\x2e\0\x08\0\0\0\0\0\x07")],
+    );
+    let calls = [(CallAnswer::Joined, 0), (CallAnswer::CancelUnknown, 1)];
+    assert_calls(&rt, &node, &calls);
     Ok(())
 }
