@@ -60,8 +60,8 @@ fn output<R: Wait, O: Opener>(
     }
 }
 
-// The fault of arguments that ask for nothing.
-fn usage_fault<'a>(alloc: Global, arguments: &'a [&'a str], wrong: Wrong<'_>) -> Fault
+/// The fault of arguments that ask for nothing.
+pub fn usage_fault<'a>(alloc: Global, arguments: &'a [&'a str], wrong: Wrong<'_>) -> Fault
     ensures usage { IsUsage result }
     ensures memory { wrong.entry ≡ wrongs.Memory → result ≡ Memory }
 {

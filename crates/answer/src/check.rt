@@ -18,11 +18,21 @@ pub fn check_line<O: Opener>(alloc: Global, opener: &O, files: &[&str]) -> Resul
     ensures refused { IfErr result (λ fault. IsCheckFault (O.text opener.now)
         (map (λ file. file.now) files.now) fault) }
 {
+    let group = group_of(alloc, opener, files)?;
+    let count = group.nodes().len();
+    group_line(alloc, count)
+}
+
+/// The group whose nodes are what these files say, one for each file, in order. The files are
+/// judged in order, then the group, and the first fault alone is returned.
+pub fn group_of<O: Opener>(alloc: Global, opener: &O, files: &[&str]) -> Result<Group, Fault>
+    ensures said { IfOk result (λ group. SayInOrder (O.text opener.now)
+        (map (λ file. file.now) files.now) group) }
+    ensures refused { IfErr result (λ fault. IsCheckFault (O.text opener.now)
+        (map (λ file. file.now) files.now) fault) }
+{
     match Group::check(settings_of(alloc, opener, files)?) {
-        Ok(group) => {
-            let count = group.nodes().len();
-            group_line(alloc, count)
-        }
+        Ok(group) => Ok(group),
         Err(error) => Err(Fault::OfGroup(error)),
     }
 }

@@ -14,6 +14,7 @@ mod opener;
 mod outcome;
 mod steps;
 
-pub use answers::{answer, write_fault};
+pub use answers::{answer, usage_fault, write_fault};
+pub use check::group_of;
 pub use fault::{Fault, Reply};
 pub use opener::{Disk, Opener};

@@ -13,6 +13,7 @@ mod keys;
 mod limits;
 mod orders;
 mod packets;
+mod running;
 mod usage;
 mod worlds;
 mod wrong_values;

@@ -3,3 +3,4 @@ pub mod Finds
 pub mod Numbers
 pub mod Clients
 pub mod Request
+pub mod Running

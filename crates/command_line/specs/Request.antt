@@ -38,7 +38,8 @@ pub data Asked : Type 0 where
 -- the commands, by their names
 abbrev pub commands : List (Text × CommandName)
 commands = (codes "key", command.Key) ∷ (codes "decide", command.Decide)
-    ∷ (codes "check", command.Check) ∷ (codes "world", command.World) ∷ []
+    ∷ (codes "check", command.Check) ∷ (codes "world", command.World)
+    ∷ (codes "serve", command.Serve) ∷ (codes "stub", command.Stub) ∷ []
 
 -- what may stand first besides a command
 abbrev pub first_words : List (Text × FirstArgument)
@@ -114,11 +115,14 @@ decide_asked given = do
   packet ← only_one given.plain
   option_map Decide (decision_of me peers live packet)
 
+-- `serve` and `stub` have no answer: they run until they are stopped
 abbrev pub asked_of : CommandName → Given → Option Asked
 asked_of command.Key given = key_asked given
 asked_of command.Decide given = decide_asked given
 asked_of command.Check given = check_asked given
 asked_of command.World given = world_asked given
+asked_of command.Serve given = None
+asked_of command.Stub given = None
 
 -- help on one command, or on the program
 abbrev pub topic_of : List Text → Option Asked

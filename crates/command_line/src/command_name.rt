@@ -13,6 +13,10 @@ pub enum CommandName {
     Check,
     /// What the events of a script bring about.
     World,
+    /// A group of poolers that serves clients.
+    Serve,
+    /// A stand-in server.
+    Stub,
 }
 
 /// What the first argument says.
@@ -39,6 +43,8 @@ impl CommandName {
             "decide" => Some(CommandName::Decide),
             "check" => Some(CommandName::Check),
             "world" => Some(CommandName::World),
+            "serve" => Some(CommandName::Serve),
+            "stub" => Some(CommandName::Stub),
             _ => None,
         }
     }

@@ -9,6 +9,9 @@ mod list;
 mod live_client;
 mod peers;
 mod request;
+mod running;
+mod serve_request;
+mod stub_request;
 mod texts;
 mod wrong;
 
@@ -16,5 +19,8 @@ pub use command_name::CommandName;
 pub use decide_request::DecideRequest;
 pub use live_client::LiveClient;
 pub use request::Request;
+pub use running::Running;
+pub use serve_request::ServeRequest;
+pub use stub_request::{StubMode, StubRequest};
 pub use texts::{help, longer_packet, usage, version};
 pub use wrong::{Place, Wrong};

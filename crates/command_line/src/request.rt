@@ -34,7 +34,8 @@ pub enum Request<'a> {
 }
 
 impl<'a> Request<'a> {
-    /// What these arguments ask for.
+    /// What these arguments ask for. They ask for no answer where `Running::read` finds a command
+    /// in them.
     pub fn read(alloc: Global, arguments: &[&'a str]) -> Result<Request<'a>, Wrong<'a>>
         ensures { Finds asked_in result (asked (map (λ argument. argument.now) arguments.now)) }
     {
@@ -81,6 +82,7 @@ impl<'a> Request<'a> {
             CommandName::Decide => Request::decide(alloc, &given),
             CommandName::Check => Request::check(given),
             CommandName::World => Request::world(&given),
+            CommandName::Serve | CommandName::Stub => Err(Wrong::Form),
         }
     }
 

@@ -4,7 +4,7 @@ ghost use Rattle.std.specs.Prelude.{◌≡◌, IsErr};
 use crate::command_name::CommandName;
 use crate::wrong::{Place, Wrong};
 use clap::error::ErrorKind;
-use clap::{Arg, Command};
+use clap::{Arg, ArgAction, ArgMatches, Command};
 use std::alloc::{AllocError, Global};
 
 /// Help on a command, or on the program.
@@ -15,6 +15,8 @@ pub fn help(alloc: Global, topic: Option<CommandName>) -> Result<String, AllocEr
         Some(CommandName::Decide) => parser_text(alloc, &["decide", "--help"]),
         Some(CommandName::Check) => parser_text(alloc, &["check", "--help"]),
         Some(CommandName::World) => parser_text(alloc, &["world", "--help"]),
+        Some(CommandName::Serve) => parser_text(alloc, &["serve", "--help"]),
+        Some(CommandName::Stub) => parser_text(alloc, &["stub", "--help"]),
     }
 }
 
@@ -47,6 +49,18 @@ pub fn longer_packet(alloc: Global, length: usize, more: usize) -> Result<String
     error_text(decide_command(alloc)?, message.as_str(), alloc)
 }
 
+/// What these arguments give, as the parser reads them.
+pub fn matches_of<'a>(
+    alloc: Global,
+    arguments: &'a [&'a str],
+) -> Result<ArgMatches<'a>, Wrong<'a>> {
+    match program(alloc)?.try_get_matches_from(arguments) {
+        Ok(matches) => Ok(matches),
+        Err(error) if error.kind() == ErrorKind::OutOfMemory => Err(Wrong::Memory),
+        Err(_) => Err(Wrong::Form),
+    }
+}
+
 // What the parser writes of these arguments.
 fn parser_text<'a>(alloc: Global, arguments: &'a [&'a str]) -> Result<String, AllocError> {
     let error = match program(alloc)?.try_get_matches_from(arguments) {
@@ -73,6 +87,8 @@ fn value_text(alloc: Global, place: Place, value: &str) -> Result<String, AllocE
     let message = message(alloc, place, value)?;
     let command = match place {
         Place::Key => key_command(alloc)?,
+        Place::Front | Place::Seed | Place::Boot => serve_command(alloc)?,
+        Place::Port => stub_command(alloc)?,
         _ => decide_command(alloc)?,
     };
     error_text(command, message.as_str(), alloc)
@@ -91,6 +107,13 @@ fn message(alloc: Global, place: Place, value: &str) -> Result<String, AllocErro
                 "invalid value '{value}' for '{argument}': {expected}, found {given} characters"
             )
         }
+        // A seed is secret.
+        Place::Seed => {
+            let given = value.chars().count();
+            format!(in alloc;
+                "invalid value for '{argument}': {expected}, found {given} characters"
+            )
+        }
         _ => format!(in alloc; "invalid value '{value}' for '{argument}': {expected}"),
     }
 }
@@ -103,6 +126,10 @@ fn argument(place: Place) -> &'static str {
         Place::Peer | Place::PeerAgain | Place::PeerTooMany => "--peers <P,P..>",
         Place::Secret | Place::ServerKey | Place::ClientTooMany => "--live <C,C..>",
         Place::Packet => "<HEX>",
+        Place::Front => "--front <PORT>",
+        Place::Seed => "--seed <HEX64>",
+        Place::Boot => "--boot <N>",
+        Place::Port => "<PORT>",
     }
 }
 
@@ -118,6 +145,9 @@ fn expected(place: Place) -> &'static str {
         Place::ServerKey => "expected 16 hexadecimal digits behind the colon",
         Place::ClientTooMany => "expected at most 65535",
         Place::Packet => "expected an even number of hexadecimal digits",
+        Place::Front | Place::Port => "expected a number from 1 to 65535",
+        Place::Seed => "expected 64 hexadecimal digits",
+        Place::Boot => "expected a number from 0 to 4294967295",
     }
 }
 
@@ -133,20 +163,26 @@ fn program<'a>(alloc: Global) -> Result<Command<'a>, AllocError> {
         .subcommand(key_command(alloc)?)?
         .subcommand(decide_command(alloc)?)?
         .subcommand(check_command(alloc)?)?
-        .subcommand(world_command(alloc)?)
+        .subcommand(world_command(alloc)?)?
+        .subcommand(serve_command(alloc)?)?
+        .subcommand(stub_command(alloc)?)
 }
 
 const AFTER_PROGRAM: &str = "\
 Exit status:
   0  the answer is on standard output
-  1  a file can't be read, the packet is no cancel request, memory ran out, or writing failed
+  1  a file can't be read, an address can't be listened at, the packet is no cancel request, memory
+     ran out, or writing failed
   2  the arguments, a settings file, a script or the group are refused
+'serve' and 'stub' run until they are stopped, and end by themselves only with status 1 or 2.
 
 Examples:
   pgpeer key 0008000000000007
   pgpeer decide --me 1 --peers 2 0000001004d2162e0008000000000007
   pgpeer check node1.ini node2.ini
-  pgpeer world the_race.script";
+  pgpeer world the_race.script
+  pgpeer serve --front 6432 --seed $(openssl rand -hex 32) node1.ini node2.ini
+  pgpeer stub 7100";
 
 // A command without its arguments.
 fn command<'a>(alloc: Global, name: CommandName) -> Result<Command<'a>, AllocError> {
@@ -174,6 +210,18 @@ fn command<'a>(alloc: Global, name: CommandName) -> Result<Command<'a>, AllocErr
             "pgpeer world",
             "Print what the events of a script bring about",
             AFTER_WORLD,
+        ),
+        CommandName::Serve => (
+            "serve",
+            "pgpeer serve",
+            "Serve clients and cancel requests as a group of poolers, until stopped",
+            AFTER_SERVE,
+        ),
+        CommandName::Stub => (
+            "stub",
+            "pgpeer stub",
+            "Run a stand-in server, for trials without PostgreSQL",
+            AFTER_STUB,
         ),
     };
     let command = Command::new(alloc, name).bin_name(whole_name)?;
@@ -273,3 +321,63 @@ Example, where login.script has the lines 'node 2 1 1' and 'login 2 10 1':
   $ pgpeer world login.script
   1 key 0008000000000007
   events 1 skipped 0 interrupts 0";
+
+fn serve_command<'a>(alloc: Global) -> Result<Command<'a>, AllocError> {
+    let front = Arg::new(alloc, "front")
+        .long("front")
+        .value_name("PORT")
+        .required(true)
+        .help("The port at which clients and cancel requests come in, 1 to 65535");
+    let seed = Arg::new(alloc, "seed")
+        .long("seed")
+        .value_name("HEX64")
+        .required(true)
+        .help(SEED);
+    let boot = Arg::new(alloc, "boot")
+        .long("boot")
+        .value_name("N")
+        .help(BOOT);
+    let files = Arg::new(alloc, "FILE")
+        .required(true)
+        .num_args(1..)
+        .help("Settings files, one for each pooler of this process");
+    command(alloc, CommandName::Serve)?
+        .override_usage("pgpeer serve --front <PORT> --seed <HEX64> [--boot <N>] <FILE>...")
+        .arg(front)?
+        .arg(seed)?
+        .arg(boot)?
+        .arg(files)
+}
+
+const SEED: &str = "\
+What the secrets of keys are drawn from, 32 bytes in 64 hexadecimal digits:
+give another one at each start, which nobody can guess";
+
+const BOOT: &str = "\
+The number of this start, part of longer keys, 0 to 4294967295 and 0 where it
+isn't given: give another one at each start";
+
+const AFTER_SERVE: &str = "\
+One file is a pooler of a group whose others run elsewhere. Several files are several poolers of a
+group in one process.
+
+Example:
+  $ pgpeer serve --front 6432 --seed $(openssl rand -hex 32) --boot $(date +%s) node1.ini";
+
+fn stub_command<'a>(alloc: Global) -> Result<Command<'a>, AllocError> {
+    let byte = Arg::new(alloc, "byte")
+        .long("byte")
+        .action(ArgAction::SetTrue)
+        .help("Write one byte before a cancel connection is ended, as a broken server might");
+    let port = Arg::new(alloc, "PORT")
+        .required(true)
+        .help("The port at which the server listens, 1 to 65535");
+    command(alloc, CommandName::Stub)?
+        .override_usage("pgpeer stub [--byte] <PORT>")
+        .arg(byte)?
+        .arg(port)
+}
+
+const AFTER_STUB: &str = "\
+Example:
+  $ pgpeer stub 7100";

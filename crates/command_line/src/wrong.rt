@@ -25,6 +25,14 @@ pub enum Place {
     ClientTooMany,
     /// The packet of `decide`.
     Packet,
+    /// The port of `serve`.
+    Front,
+    /// The seed of `serve`.
+    Seed,
+    /// The number of a start of `serve`.
+    Boot,
+    /// The port of `stub`.
+    Port,
 }
 
 /// Why arguments ask for nothing that there is, or that memory ran out.

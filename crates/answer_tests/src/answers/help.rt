@@ -12,6 +12,8 @@ Commands:
   decide  Print what a pooler does with a cancel request
   check   Check that settings files make a group
   world   Print what the events of a script bring about
+  serve   Serve clients and cancel requests as a group of poolers, until stopped
+  stub    Run a stand-in server, for trials without PostgreSQL
   help    Print this message or the help of the given subcommand(s)
 
 Options:
@@ -20,14 +22,18 @@ Options:
 
 Exit status:
   0  the answer is on standard output
-  1  a file can't be read, the packet is no cancel request, memory ran out, or writing failed
+  1  a file can't be read, an address can't be listened at, the packet is no cancel request, memory
+     ran out, or writing failed
   2  the arguments, a settings file, a script or the group are refused
+'serve' and 'stub' run until they are stopped, and end by themselves only with status 1 or 2.
 
 Examples:
   pgpeer key 0008000000000007
   pgpeer decide --me 1 --peers 2 0000001004d2162e0008000000000007
   pgpeer check node1.ini node2.ini
   pgpeer world the_race.script
+  pgpeer serve --front 6432 --seed $(openssl rand -hex 32) node1.ini node2.ini
+  pgpeer stub 7100
 ";
 
 const KEY: &str = "\
@@ -120,10 +126,49 @@ Example, where login.script has the lines 'node 2 1 1' and 'login 2 10 1':
   events 1 skipped 0 interrupts 0
 ";
 
+const SERVE: &str = "\
+Serve clients and cancel requests as a group of poolers, until stopped
+
+Usage: pgpeer serve --front <PORT> --seed <HEX64> [--boot <N>] <FILE>...
+
+Arguments:
+  <FILE>...  Settings files, one for each pooler of this process
+
+Options:
+      --front <PORT>  The port at which clients and cancel requests come in, 1 to 65535
+      --seed <HEX64>  What the secrets of keys are drawn from, 32 bytes in 64 hexadecimal digits:
+                      give another one at each start, which nobody can guess
+      --boot <N>      The number of this start, part of longer keys, 0 to 4294967295 and 0 where it
+                      isn't given: give another one at each start
+  -h, --help          Print help
+
+One file is a pooler of a group whose others run elsewhere. Several files are several poolers of a
+group in one process.
+
+Example:
+  $ pgpeer serve --front 6432 --seed $(openssl rand -hex 32) --boot $(date +%s) node1.ini
+";
+
+const STUB: &str = "\
+Run a stand-in server, for trials without PostgreSQL
+
+Usage: pgpeer stub [--byte] <PORT>
+
+Arguments:
+  <PORT>  The port at which the server listens, 1 to 65535
+
+Options:
+      --byte  Write one byte before a cancel connection is ended, as a broken server might
+  -h, --help  Print help
+
+Example:
+  $ pgpeer stub 7100
+";
+
 const VERSION: &str = "pgpeer 0.1.0\n";
 
 // The arguments, and the text. A help option is one wherever it is, also where a value is due.
-const TEXTS: [(&str, &str); 20] = [
+const TEXTS: [(&str, &str); 26] = [
     ("--help", PROGRAM),
     ("-h", PROGRAM),
     ("help", PROGRAM),
@@ -142,6 +187,12 @@ const TEXTS: [(&str, &str); 20] = [
     ("world -h", WORLD),
     ("world small -h", WORLD),
     ("help world", WORLD),
+    ("serve --help", SERVE),
+    ("serve --front -h", SERVE),
+    ("help serve", SERVE),
+    ("stub --help", STUB),
+    ("stub -h", STUB),
+    ("help stub", STUB),
     ("--version", VERSION),
     ("-V", VERSION),
 ];

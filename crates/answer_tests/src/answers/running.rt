@@ -1,0 +1,287 @@
+//! The commands that run until they are stopped: what they are asked for, and what is refused.
+use command_line::{Running, StubMode, usage};
+use std::alloc::Global;
+use std::process::Abort;
+use std::test::Fail;
+
+const SERVE: &str = "serve --front <PORT> --seed <HEX64> [--boot <N>] <FILE>...";
+
+const STUB: &str = "stub [--byte] <PORT>";
+
+// Stands for the word `SEED` in a line of arguments.
+const SEED: &str = "000102030405060708090a0b0c0d0e0f101112131415161718191A1B1C1D1E1F";
+
+// The words of a line of arguments.
+fn words_of<'a>(alloc: Global, line: &'a str) -> Result<Vec<&'a str>, Fail> {
+    let mut words = Vec::new(alloc);
+    for word in line.split(' ') {
+        words.push(if word == "SEED" { SEED } else { word })?;
+    }
+    Ok(words)
+}
+
+// These arguments ask for a group on this port, with the seed, this boot number and these files.
+#[track_caller]
+fn expect_serve(
+    rt: &(impl Abort + Alloc<A = Global>),
+    words: &[&str],
+    front: u16,
+    boot: u32,
+    files: &[&str],
+) {
+    let Ok(Some(Running::Serve(request))) = Running::read(rt.alloc(), words) else {
+        assert!(rt; false, "{words:?}");
+        return;
+    };
+    assert_eq!(rt; request.front, front, "{words:?}");
+    assert_eq!(rt; request.boot, boot, "{words:?}");
+    assert_eq!(rt; request.files.as_slice(), files, "{words:?}");
+    for (at, byte) in request.seed.iter().enumerate() {
+        assert_eq!(rt; *byte as usize, at, "{words:?}");
+    }
+}
+
+// The arguments, the port, the boot number and the files.
+const SERVED: [(&str, u16, u32, &[&str]); 5] = [
+    ("serve --front 6432 --seed SEED a.ini", 6432, 0, &["a.ini"]),
+    (
+        "serve a.ini --boot 7 --seed SEED b.ini --front 1",
+        1,
+        7,
+        &["a.ini", "b.ini"],
+    ),
+    (
+        "serve --boot=4294967295 --front=65535 --seed SEED a.ini",
+        65535,
+        4294967295,
+        &["a.ini"],
+    ),
+    ("serve --front 1 --seed SEED --boot 0 -- -a", 1, 0, &["-a"]),
+    (
+        "serve a.ini a.ini --seed SEED --front 6432",
+        6432,
+        0,
+        &["a.ini", "a.ini"],
+    ),
+];
+
+#[test]
+fn serve(rt: HostRuntime) -> Result<(), Fail> {
+    for (line, front, boot, files) in SERVED {
+        let words = words_of(rt.alloc(), line)?;
+        expect_serve(&rt, &words, front, boot, files);
+    }
+    Ok(())
+}
+
+// These arguments ask for a stand-in server on this port.
+#[track_caller]
+fn expect_stub(rt: &(impl Abort + Alloc<A = Global>), words: &[&str], port: u16, mode: StubMode) {
+    let Ok(Some(Running::Stub(request))) = Running::read(rt.alloc(), words) else {
+        assert!(rt; false, "{words:?}");
+        return;
+    };
+    assert_eq!(rt; request.port, port, "{words:?}");
+    assert_eq!(rt; request.mode, mode, "{words:?}");
+}
+
+#[test]
+fn stub(rt: HostRuntime) -> Result<(), Fail> {
+    expect_stub(&rt, &["stub", "1"], 1, StubMode::Honest);
+    expect_stub(&rt, &["stub", "65535"], 65535, StubMode::Honest);
+    expect_stub(&rt, &["stub", "--byte", "7100"], 7100, StubMode::Byte);
+    expect_stub(&rt, &["stub", "7100", "--byte"], 7100, StubMode::Byte);
+    Ok(())
+}
+
+// Arguments that ask for something else, or for help.
+const OTHERS: [&str; 9] = [
+    "help serve",
+    "serve --help",
+    "serve --front -h",
+    "serve --front 0 -h",
+    "stub -h",
+    "key 0008000000000007",
+    "--version",
+    "unknown",
+    "",
+];
+
+#[track_caller]
+fn expect_other(rt: &(impl Abort + Alloc<A = Global>), words: &[&str]) {
+    let is_other = matches!(Running::read(rt.alloc(), words), Ok(None));
+    assert!(rt; is_other, "{words:?}");
+}
+
+#[test]
+fn others(rt: HostRuntime) -> Result<(), Fail> {
+    expect_other(&rt, &[]);
+    for line in OTHERS {
+        let words = words_of(rt.alloc(), line)?;
+        expect_other(&rt, &words);
+    }
+    Ok(())
+}
+
+// These arguments are refused: this fault, and the usage of the command.
+#[track_caller]
+fn expect_wrong(
+    rt: &(impl Abort + Alloc<A = Global>),
+    words: &[&str],
+    fault: &str,
+    usage_line: &str,
+) -> Result<(), Fail> {
+    let alloc = rt.alloc();
+    let Err(wrong) = Running::read(alloc, words) else {
+        assert!(rt; false, "{words:?}");
+        return Ok(());
+    };
+    let written = usage(alloc, words, wrong)?;
+    let expected = format!(in alloc;
+        "error: {fault}\n\nUsage: pgpeer {usage_line}\n\nFor more information, try '--help'.\n"
+    )?;
+    assert_eq!(rt; written.as_str(), expected.as_str(), "{words:?}");
+    Ok(())
+}
+
+const PORTS: [&str; 8] = [
+    "0",
+    "01",
+    "65536",
+    "+1",
+    " 1",
+    "1x",
+    "",
+    "99999999999999999999",
+];
+
+#[test]
+fn ports(rt: HostRuntime) -> Result<(), Fail> {
+    for port in PORTS {
+        let front = format!(in rt.alloc();
+            "invalid value '{port}' for '--front <PORT>': expected a number from 1 to 65535"
+        )?;
+        let words = ["serve", "--front", port, "--seed", SEED, "a.ini"];
+        expect_wrong(&rt, &words, front.as_str(), SERVE)?;
+        let stub = format!(in rt.alloc();
+            "invalid value '{port}' for '<PORT>': expected a number from 1 to 65535"
+        )?;
+        expect_wrong(&rt, &["stub", port], stub.as_str(), STUB)?;
+    }
+    Ok(())
+}
+
+// The digits, and how many characters they are.
+const SEEDS: [(&str, &str); 5] = [
+    (
+        "000102030405060708090a0b0c0d0e0f101112131415161718191a1b1c1d1e1",
+        "63",
+    ),
+    (
+        "000102030405060708090a0b0c0d0e0f101112131415161718191a1b1c1d1e1f0",
+        "65",
+    ),
+    (
+        "000102030405060708090a0b0c0d0e0f101112131415161718191a1b1c1d1e1g",
+        "64",
+    ),
+    ("0008000000000007", "16"),
+    ("", "0"),
+];
+
+#[test]
+fn seeds(rt: HostRuntime) -> Result<(), Fail> {
+    for (digits, count) in SEEDS {
+        let fault = format!(in rt.alloc();
+            "invalid value for '--seed <HEX64>': expected 64 hexadecimal digits, \
+             found {count} characters"
+        )?;
+        let words = ["serve", "--front", "6432", "--seed", digits, "a.ini"];
+        expect_wrong(&rt, &words, fault.as_str(), SERVE)?;
+    }
+    Ok(())
+}
+
+#[test]
+fn boots(rt: HostRuntime) -> Result<(), Fail> {
+    for boot in ["4294967296", "01", "00", "+1", "x", ""] {
+        let fault = format!(in rt.alloc();
+            "invalid value '{boot}' for '--boot <N>': expected a number from 0 to 4294967295"
+        )?;
+        let words = [
+            "serve", "--front", "6432", "--seed", SEED, "--boot", boot, "a.ini",
+        ];
+        expect_wrong(&rt, &words, fault.as_str(), SERVE)?;
+    }
+    Ok(())
+}
+
+// The arguments, those that are missing, and the usage.
+const MISSING: [(&str, &str, &str); 6] = [
+    (
+        "serve",
+        "--front <PORT>\n  --seed <HEX64>\n  <FILE>...",
+        SERVE,
+    ),
+    ("serve --seed SEED a.ini", "--front <PORT>", SERVE),
+    ("serve --front 6432 a.ini", "--seed <HEX64>", SERVE),
+    ("serve --front 6432 --seed SEED", "<FILE>...", SERVE),
+    ("stub", "<PORT>", STUB),
+    ("stub --byte", "<PORT>", STUB),
+];
+
+#[test]
+fn missing(rt: HostRuntime) -> Result<(), Fail> {
+    for (line, missing, usage_line) in MISSING {
+        let fault = format!(in rt.alloc();
+            "the following required arguments were not provided:\n  {missing}"
+        )?;
+        let words = words_of(rt.alloc(), line)?;
+        expect_wrong(&rt, &words, fault.as_str(), usage_line)?;
+    }
+    Ok(())
+}
+
+// The arguments, which of them stands there twice, and the usage.
+const TWICE: [(&str, &str, &str); 4] = [
+    (
+        "serve --front 1 --front 2 --seed SEED a.ini",
+        "--front <PORT>",
+        SERVE,
+    ),
+    (
+        "serve --front 1 --seed SEED --seed SEED a.ini",
+        "--seed <HEX64>",
+        SERVE,
+    ),
+    (
+        "serve --front 1 --seed SEED --boot 1 --boot 2 a.ini",
+        "--boot <N>",
+        SERVE,
+    ),
+    ("stub --byte 1 --byte", "--byte", STUB),
+];
+
+#[test]
+fn twice(rt: HostRuntime) -> Result<(), Fail> {
+    for (line, argument, usage_line) in TWICE {
+        let fault = format!(in rt.alloc();
+            "the argument '{argument}' cannot be used multiple times"
+        )?;
+        let words = words_of(rt.alloc(), line)?;
+        expect_wrong(&rt, &words, fault.as_str(), usage_line)?;
+    }
+    Ok(())
+}
+
+#[test]
+fn unexpected(rt: HostRuntime) -> Result<(), Fail> {
+    let fault = "unexpected argument '2' found";
+    expect_wrong(&rt, &["stub", "1", "2"], fault, STUB)?;
+    let fault =
+        "unexpected argument '--me' found\n\n  tip: to pass '--me' as a value, use '-- --me'";
+    let words = [
+        "serve", "--front", "1", "--seed", SEED, "a.ini", "--me", "1",
+    ];
+    expect_wrong(&rt, &words, fault, SERVE)
+}

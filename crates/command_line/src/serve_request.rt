@@ -1,0 +1,17 @@
+//! What `serve` is asked for.
+ghost use Rattle.std.specs.Prelude.{◌<◌, length};
+
+/// A group of poolers, or some of its nodes, that serve clients.
+#[derive(Drop)]
+pub struct ServeRequest<'a> {
+    /// The port at which clients and cancel requests come in.
+    pub front: u16,
+    /// What the secrets of keys are drawn from.
+    pub seed: [u8; 32],
+    /// The number of this start, which is part of longer keys.
+    pub boot: u32,
+    /// The names of the settings files, one for each node of this process.
+    pub files: Vec<&'a str>,
+    ghost listens: { 0 < front },
+    ghost some_node: { 0 < length files.items },
+}
