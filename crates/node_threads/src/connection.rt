@@ -3,70 +3,129 @@ ghost use Rattle.std.specs.Prelude.{◌≡◌, ◌≤◌, length};
 ghost use Rattle.node_threads.specs.Balance.{Balanced};
 
 use crate::refusing::refuse;
-use crate::{Gate, Link, Opened, Opener, open, serve_cancel, serve_client};
-use ini_config::Settings;
-use locked_node::{Caller, Shared};
+use crate::{
+    CONSOLE, Calling, Gate, Opened, Opener, open, serve_cancel, serve_client, serve_console,
+};
 use peer_forward::{ReadCalls, WriteCalls};
 use pg_frames::Cutter;
-use pg_ids::Secret;
+use pg_ids::{AnyKey, Kind};
 use startup::ErrorCode;
-use stat_board::{Board, BoardSeat};
 use std::alloc::Global;
 use std::sync::Wait;
 
 /// Serves a connection from its first packet to its end: a client's session on the database that it
-/// asks for, with this secret in its key, or a cancel request. A database that isn't in the settings
-/// is refused.
+/// asks for or on the console, or a cancel request. A database that isn't in the settings is refused.
+/// A cancel request for which no seat at the board is free is given up without an order.
 pub fn serve_connection<R, O, G, C>(
     rt: &R,
     alloc: Global,
-    shared: &Shared<Link<O::Stream>>,
-    caller: &mut Caller<Link<O::Stream>>,
-    board: &Board,
-    seat: &mut BoardSeat,
-    settings: &Settings,
+    calling: &mut Calling<O::Stream>,
     opener: &O,
     gate: &G,
     client: &mut C,
-    secret: Secret,
 )
 where
     R: Wait,
     O: Opener,
     G: Gate,
     C: WriteCalls + ReadCalls,
-    requires own { caller.old.lock ≡ shared.now }
-    requires board { seat.old.board ≡ board.now }
-    requires databases { length settings.now.databases ≤ length caller.old.start.view.pools }
     // Each pass, permit, lease and ticket that was made was spent.
-    ensures balanced { Balanced caller.old caller.new }
-    ensures board { seat.new.board ≡ board.now }
+    ensures balanced { Balanced calling.old.caller calling.new.caller }
 {
     let mut cutter = Cutter::new(alloc);
     match open(rt, alloc, client, &mut cutter) {
         Opened::Session { database, kind } => {
-            let Some(database) = settings.find_database(database.as_str()) else {
-                refuse(alloc, client, ErrorCode::InvalidCatalogName);
-                return;
-            };
-            serve_client(
+            serve_session(
                 rt,
                 alloc,
-                shared,
-                caller,
-                settings,
+                calling,
                 opener,
                 gate,
                 client,
                 &mut cutter,
-                database,
-                secret,
+                database.as_str(),
                 kind,
             );
         }
-        Opened::Cancel(key) => {
-            serve_cancel(rt, shared, caller, board, seat, opener, gate, client, key);
-        }
+        Opened::Cancel(key) => serve_request(rt, calling, opener, gate, client, key),
         Opened::Over => {}
     }
+}
+
+// Serves a session on the database of this name.
+fn serve_session<R, O, G, C>(
+    rt: &R,
+    alloc: Global,
+    calling: &mut Calling<O::Stream>,
+    opener: &O,
+    gate: &G,
+    client: &mut C,
+    cutter: &mut Cutter,
+    name: &str,
+    kind: Kind,
+)
+where
+    R: Wait,
+    O: Opener,
+    G: Gate,
+    C: WriteCalls + ReadCalls,
+    ensures balanced { Balanced calling.old.caller calling.new.caller }
+{
+    if name == CONSOLE {
+        serve_console(rt, alloc, calling, client, cutter);
+        return;
+    }
+    let Some(database) = calling.node.settings().find_database(name) else {
+        refuse(alloc, client, ErrorCode::InvalidCatalogName);
+        return;
+    };
+    let secret = calling.node.secret(rt);
+    serve_client(
+        rt,
+        alloc,
+        &calling.node.shared,
+        &mut calling.caller,
+        calling.node.settings(),
+        opener,
+        gate,
+        client,
+        cutter,
+        database,
+        secret,
+        kind,
+    );
+}
+
+// Serves a cancel request with this key.
+fn serve_request<R, O, G, C>(
+    rt: &R,
+    calling: &mut Calling<O::Stream>,
+    opener: &O,
+    gate: &G,
+    client: &mut C,
+    key: AnyKey,
+)
+where
+    R: Wait,
+    O: Opener,
+    G: Gate,
+    C: WriteCalls + ReadCalls,
+    ensures balanced { Balanced calling.old.caller calling.new.caller }
+{
+    let Some(mut counting) = calling.node.seats.take(rt) else {
+        return;
+    };
+    let counted = &mut counting;
+    serve_cancel(
+        rt,
+        &calling.node.shared,
+        &mut calling.caller,
+        &counted.board,
+        &mut counted.seat,
+        opener,
+        gate,
+        client,
+        key,
+    );
+    calling.node.seats.give_back(rt, counting);
 }

@@ -3,8 +3,11 @@
 #![tactic(auto)]
 
 mod asking;
+mod calling;
 mod cancelling;
 mod connection;
+mod console_session;
+mod counting;
 mod desk;
 mod desk_call;
 mod front;
@@ -22,6 +25,7 @@ mod refusing;
 mod replying;
 mod reporting;
 mod restarting;
+mod seats;
 mod secrets;
 mod session;
 mod stayed;
@@ -29,8 +33,11 @@ mod staying;
 mod stream;
 mod turning;
 
+pub use calling::{Calling, Node};
 pub use cancelling::serve_cancel;
 pub use connection::serve_connection;
+pub use console_session::{CONSOLE, serve_console};
+pub use counting::Counting;
 pub use desk::Desk;
 pub use desk_call::DeskCall;
 pub use front::Front;
@@ -42,6 +49,7 @@ pub use opener::Opener;
 pub use opening::{Opened, open};
 pub use reporting::{relay, report};
 pub use restarting::restart;
+pub use seats::Seats;
 pub use secrets::Secrets;
 pub use session::serve_client;
 pub use stayed::Stayed;

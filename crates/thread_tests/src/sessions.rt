@@ -1,28 +1,34 @@
 //! Sessions at a real node, over streams of memory: what a client and a server get of one another,
 //! and what the node was told.
-ghost use Rattle.std.specs.Prelude.{◌≡◌, ◌≤◌, length};
-
 use crate::talk::{Talk, Turn};
-use ini_config::Settings;
-use locked_node::{CallAnswer, CallKind, Caller, Journal, Shared};
-use node_core::{DatabaseNo, NodeCore, RestartReply};
-use node_threads::{Link, Open, Opener, restart, serve_connection};
-use pg_ids::{Boot, PeerNo, Secret};
-use stat_board::{Board, BoardSeat};
+use ini_config::{Group, Settings};
+use locked_node::{CallAnswer, CallKind};
+use node_core::{DatabaseNo, RestartReply};
+use node_threads::{Calling, Open, Opener, serve_connection};
+use pg_ids::{Boot, PeerNo};
 use std::alloc::Global;
 use std::io;
 use std::io::ErrorKind;
 use std::process::Abort;
-use std::sync::Wait;
+use std::sync::{Arc, Wait};
 use std::test::Fail;
 
-// What a login of slot 0 at peer 2 with secret 1 writes: AuthenticationOk, three ParameterStatus,
-// BackendKeyData and ReadyForQuery.
+// What the first login at node 1 writes: AuthenticationOk, three ParameterStatus, BackendKeyData and
+// ReadyForQuery. The key has slot 0 and, for a seed of zeros, the secret d6df3fef, the first word of
+// stream 1 by draft-agl-tls-chacha20poly1305, 7.
 const GREETING: &[u8] = b"R\0\0\0\x08\0\0\0\0\
     S\0\0\0\x16server_version\x0016\0\
     S\0\0\0\x19server_encoding\0UTF8\0\
     S\0\0\0\x19client_encoding\0UTF8\0\
-    K\0\0\0\x0c\0\x08\0\0\0\0\0\x07\
+    K\0\0\0\x0c\0\x04\0\x03\x5b\x7c\xff\xbf\
+    Z\0\0\0\x05I";
+
+// The same of the second login, with the second word, fb7815c6.
+const SECOND_GREETING: &[u8] = b"R\0\0\0\x08\0\0\0\0\
+    S\0\0\0\x16server_version\x0016\0\
+    S\0\0\0\x19server_encoding\0UTF8\0\
+    S\0\0\0\x19client_encoding\0UTF8\0\
+    K\0\0\0\x0c\0\x04\0\x03\xed\xe0\x57\x1b\
     Z\0\0\0\x05I";
 
 const STARTUP: &[u8] = b"\0\0\0\x23\0\x03\0\0user\0plain\0database\0plain\0\0";
@@ -71,33 +77,23 @@ impl Opener for Server {
     }
 }
 
-// Node 2, alone, with one database, one link and two slots.
+// Node 1, alone, with one database, one link and two slots.
 #[derive(Drop)]
 struct Node {
-    settings: Settings,
-    shared: Shared<Link<Talk>>,
-    caller: Caller<Link<Talk>>,
-    board: Board,
-    seat: BoardSeat,
-    ghost own: { caller.lock ≡ shared },
-    ghost databases: { length settings.databases ≤ length caller.start.view.pools },
-    ghost seated: { seat.board ≡ board },
+    calling: Calling<Talk>,
 }
 
 impl Node {
-    fn new(alloc: Global) -> Result<Node, Fail> {
-        let me = PeerNo::new(2).ok_or("no such peer")?;
+    fn new(alloc: Global, boot: Boot) -> Result<Node, Fail> {
+        let me = PeerNo::new(1).ok_or("no such peer")?;
         let settings = Settings::plain(alloc, me, Vec::new(alloc), 1, 2)?;
-        let core = NodeCore::new(alloc, &settings, Boot(9))?;
-        let (shared, caller) = Shared::new(alloc, Journal::new(alloc, core)?)?;
-        let (board, seat) = Board::new(alloc)?;
-        Ok(Node {
-            settings,
-            shared,
-            caller,
-            board,
-            seat,
-        })
+        let group = Group::check(vec![in alloc; settings]?).map_err(|_| Fail::from("no group"))?;
+        if group.is_empty() {
+            return Err(Fail::from("no node"));
+        }
+        let group = Arc::new(alloc, group)?;
+        let calling = Calling::new(alloc, &group, 0, [0; 32], boot)?;
+        Ok(Node { calling })
     }
 
     // A client is served that takes these turns, all of them.
@@ -110,30 +106,18 @@ impl Node {
         turns: &'static [Turn],
     ) {
         let mut client = Talk::new(turns);
-        serve_connection(
-            rt,
-            alloc,
-            &self.shared,
-            &mut self.caller,
-            &self.board,
-            &mut self.seat,
-            &self.settings,
-            server,
-            &Open,
-            &mut client,
-            Secret(1),
-        );
+        serve_connection(rt, alloc, &mut self.calling, server, &Open, &mut client);
         assert!(rt; client.is_done());
     }
 
     // The node is started anew.
-    fn restart<R: Wait>(&mut self, rt: &R, boot: &mut Boot) -> RestartReply {
-        restart(rt, &self.shared, &mut self.caller, boot)
+    fn restart<R: Wait>(&mut self, rt: &R) -> RestartReply {
+        self.calling.restart(rt)
     }
 
     // How many calls with this answer were counted.
     fn calls(&self, answer: CallAnswer) -> u128 {
-        self.caller.calls(CallKind::short(answer))
+        self.calling.caller().calls(CallKind::short(answer))
     }
 }
 
@@ -147,6 +131,14 @@ fn assert_calls(rt: &impl Abort, node: &Node, calls: &[(CallAnswer, u128)]) {
 const ASKS: &[Turn] = &[
     COMES,
     GREETED,
+    Turn::Gives(QUERY),
+    Turn::Takes(ROWS),
+    Turn::Gives(TERMINATE),
+];
+
+const ASKS_SECOND: &[Turn] = &[
+    COMES,
+    Turn::Takes(SECOND_GREETING),
     Turn::Gives(QUERY),
     Turn::Takes(ROWS),
     Turn::Gives(TERMINATE),
@@ -167,9 +159,9 @@ fn two_clients_on_one_link(rt: HostRuntime) -> Result<(), Fail> {
             Turn::Gives(ROWS),
         ]),
     };
-    let mut node = Node::new(rt.alloc())?;
+    let mut node = Node::new(rt.alloc(), Boot(9))?;
     node.serve(&rt, rt.alloc(), &server, ASKS);
-    node.serve(&rt, rt.alloc(), &server, ASKS);
+    node.serve(&rt, rt.alloc(), &server, ASKS_SECOND);
     let calls = [
         (CallAnswer::Joined, 2),
         (CallAnswer::AcquireOpen, 1),
@@ -190,7 +182,7 @@ fn expect_lost<R: Wait + Abort>(
     turns: Option<&'static [Turn]>,
 ) -> Result<(), Fail> {
     let server = Server { turns };
-    let mut node = Node::new(alloc)?;
+    let mut node = Node::new(alloc, Boot(9))?;
     node.serve(rt, alloc, &server, ASKS_IN_VAIN);
     let calls = [
         (CallAnswer::AcquireOpen, 1),
@@ -230,7 +222,7 @@ fn a_link_that_breaks(rt: HostRuntime) -> Result<(), Fail> {
     let server = Server {
         turns: Some(&[LOGIN_SENT, LOGGED_IN, Turn::Takes(QUERY)]),
     };
-    let mut node = Node::new(rt.alloc())?;
+    let mut node = Node::new(rt.alloc(), Boot(9))?;
     node.serve(&rt, rt.alloc(), &server, ASKS_IN_VAIN);
     let calls = [
         (CallAnswer::WentUp, 1),
@@ -248,11 +240,9 @@ fn a_new_boot(rt: HostRuntime) -> Result<(), Fail> {
     let server = Server {
         turns: Some(&[LOGIN_SENT, LOGGED_IN, Turn::Takes(QUERY), Turn::Gives(ROWS)]),
     };
-    let mut node = Node::new(rt.alloc())?;
-    let mut boot = Boot(9);
+    let mut node = Node::new(rt.alloc(), Boot(9))?;
     node.serve(&rt, rt.alloc(), &server, ASKS);
-    assert_eq!(rt; node.restart(&rt, &mut boot), RestartReply::Restarted);
-    assert_eq!(rt; boot, Boot(10));
+    assert_eq!(rt; node.restart(&rt), RestartReply::Restarted);
     let calls = [
         (CallAnswer::WentUp, 1),
         (CallAnswer::ReleasedIdle, 1),
@@ -263,24 +253,33 @@ fn a_new_boot(rt: HostRuntime) -> Result<(), Fail> {
 }
 
 // A process has 2^32 boots.
+fn expect_restarts<R: Wait + Abort>(
+    rt: &R,
+    alloc: Global,
+    boot: Boot,
+    restarts: u128,
+) -> Result<(), Fail> {
+    let mut node = Node::new(alloc, boot)?;
+    let first = node.restart(rt);
+    let second = node.restart(rt);
+    assert_eq!(rt; first == RestartReply::Restarted, restarts > 0);
+    assert_eq!(rt; second, RestartReply::Exhausted);
+    assert_calls(rt, &node, &[(CallAnswer::Restarted, restarts)]);
+    Ok(())
+}
+
 #[test]
 fn the_last_boot(rt: HostRuntime) -> Result<(), Fail> {
-    let mut node = Node::new(rt.alloc())?;
-    let mut boot = Boot(0x1_ffff_fffe);
-    assert_eq!(rt; node.restart(&rt, &mut boot), RestartReply::Restarted);
-    assert_eq!(rt; node.restart(&rt, &mut boot), RestartReply::Exhausted);
-    assert_eq!(rt; boot, Boot(0x1_ffff_ffff));
-    let mut last = Boot(0xffff_ffff_ffff_ffff);
-    assert_eq!(rt; node.restart(&rt, &mut last), RestartReply::Exhausted);
-    assert_calls(&rt, &node, &[(CallAnswer::Restarted, 1)]);
-    Ok(())
+    expect_restarts(&rt, rt.alloc(), Boot(0x1_ffff_fffe), 1)?;
+    expect_restarts(&rt, rt.alloc(), Boot(0x1_ffff_ffff), 0)?;
+    expect_restarts(&rt, rt.alloc(), Boot(0xffff_ffff_ffff_ffff), 0)
 }
 
 // A database that the settings don't have, and a cancel request with a key that was never given.
 #[test]
 fn others(rt: HostRuntime) -> Result<(), Fail> {
     let server = Server { turns: None };
-    let mut node = Node::new(rt.alloc())?;
+    let mut node = Node::new(rt.alloc(), Boot(9))?;
     node.serve(
         &rt,
         rt.alloc(),
@@ -294,9 +293,79 @@ fn others(rt: HostRuntime) -> Result<(), Fail> {
         &rt,
         rt.alloc(),
         &server,
-        &[Turn::Gives(b"\0\0\0\x10\x04\xd2\x16\x2e\0\x08\0\0\0\0\0\x07")],
+        &[Turn::Gives(b"\0\0\0\x10\x04\xd2\x16\x2e\0\x04\0\0\0\0\0\x07")],
     );
     let calls = [(CallAnswer::Joined, 0), (CallAnswer::CancelUnknown, 1)];
     assert_calls(&rt, &node, &calls);
+    Ok(())
+}
+
+// What a client of the console is greeted with: it gets no key.
+const CONSOLE_GREETING: &[u8] = b"R\0\0\0\x08\0\0\0\0\
+    S\0\0\0\x16server_version\x0016\0\
+    S\0\0\0\x19server_encoding\0UTF8\0\
+    S\0\0\0\x19client_encoding\0UTF8\0\
+    Z\0\0\0\x05I";
+
+// The links of a node that has none: the names of five columns, and no row.
+const NO_LINKS: &[u8] = b"T\0\0\0\x86\0\x05\
+    link\0\0\0\0\0\0\0\0\0\0\x19\xff\xff\xff\xff\xff\xff\0\0\
+    database\0\0\0\0\0\0\0\0\0\0\x19\xff\xff\xff\xff\xff\xff\0\0\
+    place\0\0\0\0\0\0\0\0\0\0\x19\xff\xff\xff\xff\xff\xff\0\0\
+    tickets\0\0\0\0\0\0\0\0\0\0\x19\xff\xff\xff\xff\xff\xff\0\0\
+    condemned\0\0\0\0\0\0\0\0\0\0\x19\xff\xff\xff\xff\xff\xff\0\0\
+    C\0\0\0\x09SHOW\0Z\0\0\0\x05I";
+
+const CONSOLE_COMES: Turn = Turn::Gives(
+    b"\0\0\0\x27\0\x03\0\0user\0plain\0database\0pgbouncer\0\0",
+);
+
+const CONSOLE_GREETED: Turn = Turn::Takes(CONSOLE_GREETING);
+
+const NOT_IN_PROFILE: Turn = Turn::TakesError(b"SFATAL\0VFATAL\0C0A000\0");
+
+// Sessions on the console: queries and other texts, and what ends a session with an error.
+const CONSOLES: &[&[Turn]] = &[
+    &[
+        CONSOLE_COMES,
+        CONSOLE_GREETED,
+        Turn::Gives(b"Q\0\0\0\x0fSHOW LINKS\0"),
+        Turn::Takes(NO_LINKS),
+        Turn::Gives(b"Q\0\0\0\x10show links;\0"),
+        Turn::Takes(NO_LINKS),
+        Turn::Gives(b"Q\0\0\0\x0eSHOW LINK\0"),
+        Turn::TakesError(b"SERROR\0VERROR\0C0A000\0"),
+        Turn::Gives(b"Q\0\0\0\x06\xff\0"),
+        Turn::TakesError(b"SERROR\0VERROR\0C0A000\0"),
+        Turn::Gives(TERMINATE),
+    ],
+    &[
+        CONSOLE_COMES,
+        CONSOLE_GREETED,
+        Turn::Gives(b"P\0\0\0\x08\0\0\0\0"),
+        NOT_IN_PROFILE,
+    ],
+    &[
+        CONSOLE_COMES,
+        CONSOLE_GREETED,
+        Turn::Gives(b"Q\0\0\0\x0eSHOW LINKS"),
+        Turn::TakesError(b"SFATAL\0VFATAL\0C08P01\0"),
+    ],
+    &[
+        CONSOLE_COMES,
+        CONSOLE_GREETED,
+        Turn::Gives(b"Q\0\0\0\x03"),
+        Turn::TakesError(b"SFATAL\0VFATAL\0C08P01\0"),
+    ],
+];
+
+#[test]
+fn consoles(rt: HostRuntime) -> Result<(), Fail> {
+    let server = Server { turns: None };
+    let mut node = Node::new(rt.alloc(), Boot(9))?;
+    for turns in CONSOLES {
+        node.serve(&rt, rt.alloc(), &server, turns);
+    }
+    assert_calls(&rt, &node, &[(CallAnswer::Joined, 0)]);
     Ok(())
 }

@@ -1,0 +1,48 @@
+//! A seat at a node's board, with the board.
+ghost use Rattle.std.specs.Prelude.{◌≡◌, IfOk};
+ghost use Rattle.std.specs.Arc.{arc_value};
+ghost use Rattle.stat_board.specs.Seats.{Splits};
+
+use stat_board::{Board, BoardSeat, Counter};
+use std::alloc::{AllocError, Global};
+use std::sync::Arc;
+
+/// A seat at a node's board, with the board. What is counted there is counted at that board.
+#[derive(Drop)]
+pub struct Counting {
+    pub(crate) board: Arc<Board, Global>,
+    pub(crate) seat: BoardSeat,
+    ghost own: { seat.board ≡ arc_value board },
+}
+
+impl Counting {
+    /// The first seat at a new board.
+    pub fn new(alloc: Global) -> Result<Counting, AllocError> {
+        let (board, seat) = Board::new(alloc)?;
+        let board = Arc::new(alloc, board)?;
+        Ok(Counting { board, seat })
+    }
+
+    /// Hands half of what it may count to a new seat at the same board.
+    pub fn split(&mut self) -> Result<Counting, AllocError>
+        ensures { IfOk result (λ part. Splits self.old.seat self.new.seat part.seat) }
+    {
+        let board = Arc::try_clone(&self.board)?;
+        let seat = self.seat.split(&board);
+        Ok(Counting { board, seat })
+    }
+
+    /// The words of the board, in the order of its counters.
+    pub fn words(&mut self) -> [u64; 8] {
+        [
+            self.seat.read(&self.board, Counter::Spent),
+            self.seat.read(&self.board, Counter::Unknown),
+            self.seat.read(&self.board, Counter::NoPeer),
+            self.seat.read(&self.board, Counter::NoLink),
+            self.seat.read(&self.board, Counter::Forwarded),
+            self.seat.read(&self.board, Counter::Sent),
+            self.seat.read(&self.board, Counter::Ended),
+            self.seat.read(&self.board, Counter::Failed),
+        ]
+    }
+}
