@@ -1,7 +1,14 @@
-//! The program `pgpeer`: its arguments are handed to `answer`, with the files and the writers.
+//! The program `pgpeer`: its arguments are handed to `answer`, with the files and the writers, or a
+//! group of nodes or a stand-in server runs.
 #![tactic(auto)]
 
-use answer::{Disk, Fault, answer, write_fault};
+mod serving;
+mod standing_in;
+
+use crate::serving::serve;
+use crate::standing_in::stand_in;
+use answer::{Disk, Fault, answer, group_of, usage_fault, write_fault};
+use command_line::Running;
 use std::alloc::{AllocError, Global};
 use std::io::ErrorKind;
 use std::process::ExitCode;
@@ -16,8 +23,24 @@ fn main(rt: HostRuntime) -> ExitCode {
         return failed(&rt, &Fault::Memory);
     };
     let opener = Disk::new(&rt);
-    let (mut out, mut err) = (rt.stdout(), rt.stderr());
-    ExitCode::from(answer(&rt, alloc, &arguments, &opener, &mut out, &mut err))
+    let running = match Running::read(alloc, &arguments) {
+        Ok(running) => running,
+        Err(wrong) => return failed(&rt, &usage_fault(alloc, &arguments, wrong)),
+    };
+    let Some(running) = running else {
+        let (mut out, mut err) = (rt.stdout(), rt.stderr());
+        return ExitCode::from(answer(&rt, alloc, &arguments, &opener, &mut out, &mut err));
+    };
+    match running {
+        Running::Serve(request) => {
+            let group = match group_of(alloc, &opener, &request.files) {
+                Ok(group) => group,
+                Err(fault) => return failed(&rt, &fault),
+            };
+            ExitCode::from(serve(&rt, alloc, group, request.front, request.seed, request.boot))
+        }
+        Running::Stub(request) => ExitCode::from(stand_in(&rt, alloc, request.port, request.mode)),
+    }
 }
 
 // The arguments, without the program's name.

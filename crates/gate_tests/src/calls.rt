@@ -1,0 +1,16 @@
+//! The calls that were counted.
+use crate::node::Caller;
+use locked_node::{CallAnswer, CallKind};
+use std::process::Abort;
+
+// So many calls with each of these answers were counted. Returns how many the caller counted of all
+// of them.
+pub(crate) fn assert_calls(rt: &impl Abort, caller: &Caller, calls: &[(CallAnswer, u128)]) -> u128 {
+    let mut total = 0u128;
+    for (answer, expected) in calls {
+        let counted = caller.calls(CallKind::short(*answer));
+        assert_eq!(rt; counted, *expected, "{answer:?}");
+        total = total.wrapping_add(counted);
+    }
+    total
+}

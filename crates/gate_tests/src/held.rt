@@ -1,0 +1,88 @@
+//! Threads that are held until a session at the same node was served: no lock is held at a gate, and
+//! no connection waits for the end of another.
+use crate::gates::Where;
+use crate::messages::{CANCELS, FORWARDS, HELD, SERVED_AT_1, SERVED_AT_2};
+use crate::owner::KEY;
+use crate::scene::{Scene, Task, assert_played};
+use locked_node::CallAnswer;
+use node_threads::Point;
+use std::test::Fail;
+
+// A request for the owner's link waits at `Ordered` until a session at the same node has passed
+// `Acquired` and `Ready`.
+const CANCEL: Scene = Scene {
+    task: Task::Cancel(KEY),
+    script: CANCELS,
+    held_at: Where::Point(Point::Ordered),
+    links: 2,
+    restarts: false,
+    other: SERVED_AT_1,
+    clients: 2,
+    connections: 2,
+    closed: 1,
+    calls: &[
+        (CallAnswer::Joined, 2),
+        (CallAnswer::AcquireOpen, 2),
+        (CallAnswer::WentUp, 2),
+        (CallAnswer::Served, 1),
+        (CallAnswer::EndedCounted, 1),
+        (CallAnswer::ReleasedIdle, 2),
+        (CallAnswer::Left, 2),
+    ],
+};
+
+#[test]
+fn a_cancel_is_held_until_a_session_was_served(rt: HostRuntime) -> Result<(), Fail> {
+    assert_played(&rt, rt.alloc(), &CANCEL)
+}
+
+// The same of a request for peer 3.
+const FORWARD: Scene = Scene {
+    task: Task::Cancel([0, 12, 0, 0, 0, 0, 0, 7]),
+    script: FORWARDS,
+    held_at: Where::Point(Point::Ordered),
+    links: 2,
+    restarts: false,
+    other: SERVED_AT_1,
+    clients: 2,
+    connections: 2,
+    closed: 1,
+    calls: &[
+        (CallAnswer::Joined, 2),
+        (CallAnswer::AcquireOpen, 2),
+        (CallAnswer::WentUp, 2),
+        (CallAnswer::Forwarded, 1),
+        (CallAnswer::ReleasedIdle, 2),
+        (CallAnswer::Left, 2),
+    ],
+};
+
+#[test]
+fn a_forward_is_held_until_a_session_was_served(rt: HostRuntime) -> Result<(), Fail> {
+    assert_played(&rt, rt.alloc(), &FORWARD)
+}
+
+// A session waits at `Acquired` until another, on another link, has passed `Ready`.
+const SESSION: Scene = Scene {
+    task: Task::Session,
+    script: HELD,
+    held_at: Where::Point(Point::Acquired),
+    links: 3,
+    restarts: false,
+    other: SERVED_AT_2,
+    clients: 2,
+    connections: 2,
+    closed: 0,
+    calls: &[
+        (CallAnswer::Joined, 3),
+        (CallAnswer::AcquireOpen, 3),
+        (CallAnswer::WentUp, 3),
+        (CallAnswer::ReleasedIdle, 3),
+        (CallAnswer::Left, 3),
+    ],
+};
+
+#[test]
+fn a_session_is_held_until_another_was_served(rt: HostRuntime) -> Result<(), Fail> {
+    assert_played(&rt, rt.alloc(), &SESSION)
+}

@@ -1,0 +1,108 @@
+//! The client at slot 0, which has a link while another is held.
+ghost use Rattle.std.specs.Prelude.{◌≡◌, ◌<◌, length};
+
+use crate::node::{Caller, Lock, PLAIN};
+use crate::talk::{Talk, Tracker};
+use lease::{Lease, Pass, Permit};
+use link_pool::{AcquireReply, UpReply};
+use node_core::LeaveReply;
+use node_threads::Link;
+use pg_frames::Flow;
+use pg_ids::{Kind, Secret, ServerKey};
+use std::alloc::Global;
+use std::sync::{Arc, Wait};
+
+// The key of its link's backend.
+const SERVER: ServerKey = ServerKey([0x11, 0x12, 0x13, 0x14, 0x15, 0x16, 0x17, 0x18]);
+
+// Its own key: peer 2, slot 0, secret 1, three hops.
+pub(crate) const KEY: [u8; 8] = [0, 8, 0, 0, 0, 0, 0, 7];
+
+pub(crate) struct Owner {
+    pass: Pass,
+    lease: Lease<Link<Talk>>,
+}
+
+impl Owner {
+    // The client logs in and opens a link, to which nothing may be written.
+    pub(crate) fn new<R: Wait>(
+        rt: &R,
+        alloc: Global,
+        lock: &Lock,
+        caller: &mut Caller,
+        servers: &Arc<Tracker, Global>,
+    ) -> Option<Owner>
+        requires own { caller.old.lock ≡ lock.now }
+        requires database { 0 < length caller.old.start.view.pools }
+        ensures { (caller.new.lock ≡ caller.old.lock) × (caller.new.start ≡ caller.old.start) }
+    {
+        let link = link(alloc, servers)?;
+        let Ok(pass) = lock.join(rt, caller, PLAIN, Secret(1), Kind::Short) else {
+            return None;
+        };
+        let Some(lease) = open(rt, lock, caller, &pass, link) else {
+            pass.forfeit();
+            return None;
+        };
+        Some(Owner { pass, lease })
+    }
+
+    // It gives its link back and leaves.
+    pub(crate) fn leave<R: Wait>(self, rt: &R, lock: &Lock, caller: &mut Caller)
+        requires own { caller.old.lock ≡ lock.now }
+        ensures { (caller.new.lock ≡ caller.old.lock) × (caller.new.start ≡ caller.old.start) }
+    {
+        let Owner { pass, lease } = self;
+        let _reply = lock.release(rt, caller, lease);
+        if let LeaveReply::Holding(pass) = lock.leave(rt, caller, pass) {
+            pass.forfeit();
+        }
+    }
+}
+
+fn link(alloc: Global, servers: &Arc<Tracker, Global>) -> Option<Link<Talk>> {
+    let flow = Flow::new(alloc).ok()?;
+    let stream = Talk::new(servers, &[]).ok()?;
+    Some(Link { stream, flow })
+}
+
+// The client of a pass opens a link.
+fn open<R: Wait>(
+    rt: &R,
+    lock: &Lock,
+    caller: &mut Caller,
+    pass: &Pass,
+    link: Link<Talk>,
+) -> Option<Lease<Link<Talk>>>
+    requires own { caller.old.lock ≡ lock.now }
+    ensures { (caller.new.lock ≡ caller.old.lock) × (caller.new.start ≡ caller.old.start) }
+{
+    let permit = opened(lock.acquire(rt, caller, pass))?;
+    went_up(lock.up(rt, caller, permit, link, SERVER))
+}
+
+fn opened(reply: AcquireReply<Lease<Link<Talk>>, Permit>) -> Option<Permit> {
+    match reply {
+        AcquireReply::Open(permit) => Some(permit),
+        AcquireReply::Got(lease) => {
+            let _link = lease.forfeit();
+            None
+        }
+        AcquireReply::Waiting
+        | AcquireReply::Cancelled
+        | AcquireReply::Holding
+        | AcquireReply::Exhausted
+        | AcquireReply::Stale => None,
+    }
+}
+
+fn went_up(reply: UpReply<Lease<Link<Talk>>, Permit, Link<Talk>>) -> Option<Lease<Link<Talk>>> {
+    match reply {
+        UpReply::Up(lease) => Some(lease),
+        UpReply::Exhausted(permit, _link) => {
+            let _details = permit.forfeit();
+            None
+        }
+        UpReply::Stale(_link) | UpReply::AtEnd(_link) => None,
+    }
+}

@@ -1,0 +1,202 @@
+//! A stream that plays one side of a conversation, and what becomes of such streams.
+use node_threads::Opener;
+use pg_ids::{DatabaseNo, PeerNo};
+use std::alloc::{AllocError, Global};
+use std::io;
+use std::io::{ErrorKind, Read, Write};
+use std::sync::atomic::{AtomicU64, Ordering};
+use std::sync::{Arc, Wait};
+
+// What one side does next.
+#[derive(Clone, Copy, Debug)]
+pub(crate) enum Turn {
+    // It takes these bytes, in as many writes as come.
+    Takes(&'static [u8]),
+    // It takes one write of an ErrorResponse that begins with these fields.
+    TakesError(&'static [u8]),
+    // It gives these bytes at one read.
+    Gives(&'static [u8]),
+}
+
+// How many streams there were: made, closed, closed with all their turns taken, and how often one
+// was written what it doesn't take.
+#[derive(Clone, Copy, Debug, PartialEq, Eq)]
+pub(crate) struct Ends {
+    pub(crate) made: u64,
+    pub(crate) closed: u64,
+    pub(crate) done: u64,
+    pub(crate) strayed: u64,
+}
+
+// Counts the ends of streams, in any thread.
+#[derive(Drop)]
+pub(crate) struct Tracker {
+    made: AtomicU64,
+    closed: AtomicU64,
+    done: AtomicU64,
+    strayed: AtomicU64,
+}
+
+impl Tracker {
+    pub(crate) fn new(alloc: Global) -> Result<Arc<Tracker, Global>, AllocError> {
+        let tracker = Tracker {
+            made: AtomicU64::new(0),
+            closed: AtomicU64::new(0),
+            done: AtomicU64::new(0),
+            strayed: AtomicU64::new(0),
+        };
+        Ok(Arc::new(alloc, tracker)?)
+    }
+
+    pub(crate) fn ends(&self) -> Ends {
+        Ends {
+            made: self.made.load(Ordering::SeqCst),
+            closed: self.closed.load(Ordering::SeqCst),
+            done: self.done.load(Ordering::SeqCst),
+            strayed: self.strayed.load(Ordering::SeqCst),
+        }
+    }
+}
+
+// One more.
+fn add_one(count: &AtomicU64) {
+    count.fetch_add(1, Ordering::SeqCst);
+}
+
+// A side of a conversation. A write that isn't its turn fails, and a read finds the end of the
+// input. It is closed when it is dropped.
+pub(crate) struct Talk {
+    turns: &'static [Turn],
+    // What is left to take of a turn that began.
+    takes: &'static [u8],
+    tracker: Arc<Tracker, Global>,
+}
+
+impl Drop for Talk {
+    fn drop(self) {
+        add_one(&self.tracker.closed);
+        if self.takes.is_empty() && self.turns.is_empty() {
+            add_one(&self.tracker.done);
+        }
+        let Talk {
+            turns: _,
+            takes: _,
+            tracker: _,
+        } = self;
+    }
+}
+
+impl Talk {
+    // A stream that takes these turns.
+    pub(crate) fn new(
+        tracker: &Arc<Tracker, Global>,
+        turns: &'static [Turn],
+    ) -> Result<Talk, AllocError> {
+        let tracker = Arc::try_clone(tracker)?;
+        add_one(&tracker.made);
+        Ok(Talk {
+            turns,
+            takes: b"",
+            tracker,
+        })
+    }
+
+    fn next(&mut self) -> Option<Turn> {
+        let turn = self.turns.first()?;
+        self.turns = self.turns.split_at(1).1;
+        Some(*turn)
+    }
+
+    // Takes the bytes, if it is their turn.
+    fn take(&mut self, bytes: &[u8]) -> bool {
+        if self.takes.is_empty()
+            && let Some(Turn::TakesError(fields)) = self.turns.first()
+        {
+            self.turns = self.turns.split_at(1).1;
+            return is_error(bytes, fields);
+        }
+        for byte in bytes {
+            if !self.take_byte(*byte) {
+                return false;
+            }
+        }
+        true
+    }
+
+    fn take_byte(&mut self, byte: u8) -> bool {
+        if self.takes.is_empty() {
+            match self.next() {
+                Some(Turn::Takes(text)) => self.takes = text,
+                _ => return false,
+            }
+        }
+        if self.takes.first() != Some(&byte) {
+            return false;
+        }
+        self.takes = self.takes.split_at(1).1;
+        true
+    }
+}
+
+// Whether these bytes are an ErrorResponse whose body begins with these fields.
+fn is_error(bytes: &[u8], fields: &[u8]) -> bool {
+    bytes.len() > 5 && bytes[0] == b'E' && bytes.split_at(5).1.starts_with(fields)
+}
+
+impl Read for Talk {
+    fn read(&mut self, buffer: &mut [u8]) -> io::Result<usize> {
+        if !self.takes.is_empty() {
+            return Ok(0);
+        }
+        let Some(Turn::Gives(text)) = self.turns.first() else {
+            return Ok(0);
+        };
+        if text.len() > buffer.len() {
+            return Err(io::Error::from(ErrorKind::InvalidInput));
+        }
+        self.turns = self.turns.split_at(1).1;
+        let count = text.len();
+        buffer[..count].copy_from_slice(text);
+        Ok(count)
+    }
+}
+
+impl Write for Talk {
+    fn write(&mut self, bytes: &[u8]) -> io::Result<usize> {
+        if self.take(bytes) {
+            Ok(bytes.len())
+        } else {
+            add_one(&self.tracker.strayed);
+            Err(io::Error::from(ErrorKind::BrokenPipe))
+        }
+    }
+
+    fn flush(&mut self) -> io::Result<()> {
+        Ok(())
+    }
+}
+
+// What connects to servers and poolers that take these turns.
+#[derive(Drop)]
+pub(crate) struct Dialer<'a> {
+    pub(crate) tracker: &'a Arc<Tracker, Global>,
+    pub(crate) turns: &'static [Turn],
+}
+
+impl Dialer<'_> {
+    fn dial(&self) -> io::Result<Talk> {
+        Ok(Talk::new(self.tracker, self.turns)?)
+    }
+}
+
+impl Opener for Dialer<'_> {
+    type Stream = Talk;
+
+    fn server<R: Wait>(&self, _rt: &R, _database: DatabaseNo) -> io::Result<Talk> {
+        self.dial()
+    }
+
+    fn peer<R: Wait>(&self, _rt: &R, _peer: PeerNo) -> io::Result<Talk> {
+        self.dial()
+    }
+}

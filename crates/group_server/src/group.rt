@@ -1,0 +1,151 @@
+//! A group whose addresses are bound.
+use crate::accepting::accept;
+use crate::{Dialer, Host, Notices, Serving};
+use ini_config::Group;
+use node_threads::Calling;
+use pg_ids::Boot;
+use std::alloc::{AllocError, Global};
+use std::net::TcpListener;
+use std::sync::Arc;
+use std::{io, thread};
+
+/// Why a group can't listen.
+#[derive(Clone, Copy, Debug, PartialEq, Eq)]
+pub enum ListenError {
+    /// This port can't be listened at.
+    Port(u16),
+    /// Memory was refused.
+    Memory,
+}
+
+impl From<AllocError> for ListenError {
+    fn from(_: AllocError) -> ListenError {
+        ListenError::Memory
+    }
+}
+
+/// A group whose addresses are bound: one for the group, and one of each node.
+#[derive(Drop)]
+pub struct Listening<H: Host> {
+    front: TcpListener,
+    nodes: Vec<ListeningNode<H>>,
+    notices: Arc<Notices, Global>,
+}
+
+// A node whose own address is bound.
+#[derive(Drop)]
+struct ListeningNode<H: Host> {
+    listener: TcpListener,
+    serving: Arc<Serving<H>, Global>,
+}
+
+impl<H: Host> Listening<H> {
+    /// Binds port `front` of 127.0.0.1 and the address of each node. The nodes have no clients and no
+    /// links, and boot with this number.
+    pub fn bind(
+        host: &H,
+        alloc: Global,
+        group: Group,
+        front: u16,
+        seed: [u8; 32],
+        boot: u32,
+    ) -> Result<Listening<H>, ListenError> {
+        let front = listen(host, "127.0.0.1", front)?;
+        let listeners = listen_at_each(host, alloc, &group)?;
+        Ok(Listening::new(host, alloc, group, front, listeners, seed, boot)?)
+    }
+
+    // The group with these listeners, one for each node.
+    fn new(
+        host: &H,
+        alloc: Global,
+        group: Group,
+        front: TcpListener,
+        listeners: Vec<TcpListener>,
+        seed: [u8; 32],
+        boot: u32,
+    ) -> Result<Listening<H>, AllocError> {
+        let group = Arc::new(alloc, group)?;
+        let notices = Arc::new(alloc, Notices::new())?;
+        let mut nodes = Vec::with_capacity(alloc, listeners.len())?;
+        let mut place = 0;
+        for listener in listeners {
+            if place < group.len() {
+                let first = Calling::new(alloc, &group, place, seed, Boot((boot as u64) << 32))?;
+                let dialer = Dialer::new(
+                    *host,
+                    Arc::try_clone(&group)?,
+                    place,
+                    Arc::try_clone(&notices)?,
+                );
+                let serving = Arc::new(alloc, Serving::new(alloc, first, dialer))?;
+                nodes.push(ListeningNode { listener, serving })?;
+                place += 1;
+            }
+        }
+        Ok(Listening {
+            front,
+            nodes,
+            notices,
+        })
+    }
+
+    /// Accepts connections and serves them. Fails if a node can't accept connections for want of a
+    /// thread or of memory.
+    pub fn serve(self, host: &H, alloc: Global) -> Result<(), AllocError> {
+        let Listening {
+            front,
+            nodes,
+            notices,
+        } = self;
+        let mut all = Vec::with_capacity(alloc, nodes.len())?;
+        for node in nodes {
+            let ListeningNode { listener, serving } = node;
+            all.push(Arc::try_clone(&serving)?)?;
+            accept_apart(host, alloc, serving, listener, &notices)?;
+        }
+        accept(host, alloc, &all, &notices, &front);
+        Ok(())
+    }
+}
+
+// Accepts a node's own connections in a thread apart.
+fn accept_apart<H: Host>(
+    host: &H,
+    alloc: Global,
+    serving: Arc<Serving<H>, Global>,
+    listener: TcpListener,
+    notices: &Arc<Notices, Global>,
+) -> Result<(), AllocError> {
+    let mut nodes = Vec::with_capacity(alloc, 1)?;
+    nodes.push(serving)?;
+    let notices = Arc::try_clone(notices)?;
+    let own = *host;
+    thread::spawn(host, move || {
+        accept(&own, alloc, &nodes, &notices, &listener);
+    })?;
+    Ok(())
+}
+
+// Binds the address of each node, in their order.
+fn listen_at_each<H: Host>(
+    host: &H,
+    alloc: Global,
+    group: &Group,
+) -> Result<Vec<TcpListener>, ListenError> {
+    let mut listeners = Vec::new(alloc);
+    for settings in group.nodes() {
+        let listener = listen(host, settings.listen_addr(), settings.listen_port())?;
+        let Ok(()) = listeners.push(listener) else {
+            return Err(ListenError::Memory);
+        };
+    }
+    Ok(listeners)
+}
+
+fn listen<H: Host>(host: &H, address: &str, port: u16) -> Result<TcpListener, ListenError> {
+    match TcpListener::bind(host, (address, port)) {
+        Ok(listener) => Ok(listener),
+        Err(_) => Err(ListenError::Port(port)),
+    }
+}

@@ -1,0 +1,16 @@
+//! What the threads of a group need of the machine.
+use std::io::Eprint;
+use std::net::{Net, TcpListener, TcpStream};
+use std::sync::Wait;
+use std::thread::Threads;
+use std::time::Clock;
+
+/// What it takes to connect to servers and peers, and to say what goes wrong there.
+pub trait Machine: Net<Listener = TcpListener, Stream = TcpStream> + Wait + Clock + Eprint {}
+
+impl<M: Net<Listener = TcpListener, Stream = TcpStream> + Wait + Clock + Eprint> Machine for M {}
+
+/// A machine on which threads serve connections.
+pub trait Host: Machine + Threads + Copy + Send + Sync + 'static {}
+
+impl<H: Machine + Threads + Copy + Send + Sync + 'static> Host for H {}

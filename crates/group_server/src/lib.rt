@@ -1,0 +1,16 @@
+//! A group of nodes on sockets: connections are accepted and served, each in a thread of its own, and
+//! servers and peers are connected to.
+#![tactic(auto)]
+
+mod accepting;
+mod dialer;
+mod group;
+mod host;
+mod notices;
+mod serving;
+
+pub use dialer::Dialer;
+pub use group::{ListenError, Listening};
+pub use host::{Host, Machine};
+pub use notices::{Notice, Notices};
+pub use serving::Serving;

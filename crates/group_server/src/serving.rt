@@ -1,0 +1,54 @@
+//! A node that serves connections.
+use crate::{Dialer, Machine};
+use node_threads::{Calling, Open, serve_connection};
+use std::alloc::Global;
+use std::net::TcpStream;
+use std::sync::{Mutex, Wait};
+
+/// A node that serves connections, with those callers of it that no connection has. A caller's
+/// totals are large, so it is kept out of the stacks of threads.
+#[derive(Drop)]
+pub struct Serving<M: Machine> {
+    first: Mutex<Calling<TcpStream>>,
+    free: Mutex<Vec<Box<Calling<TcpStream>>>>,
+    dialer: Dialer<M>,
+}
+
+impl<M: Machine> Serving<M> {
+    /// A node with its first caller, and what connects it to servers and peers.
+    pub fn new(alloc: Global, first: Calling<TcpStream>, dialer: Dialer<M>) -> Serving<M> {
+        Serving {
+            first: Mutex::new(first),
+            free: Mutex::new(Vec::new(alloc)),
+            dialer,
+        }
+    }
+
+    /// Who calls the node for one more connection, if there is memory for it.
+    pub fn take<R: Wait>(&self, rt: &R, alloc: Global) -> Option<Box<Calling<TcpStream>>> {
+        if let Some(calling) = self.free.lock(rt).pop() {
+            return Some(calling);
+        }
+        let calling = self.first.lock(rt).split()?;
+        Box::new(alloc, calling).ok()
+    }
+
+    /// Serves a connection to its end.
+    pub fn serve<R: Wait>(
+        &self,
+        rt: &R,
+        alloc: Global,
+        mut calling: Box<Calling<TcpStream>>,
+        mut client: TcpStream,
+    ) {
+        serve_connection(rt, alloc, &mut calling, &self.dialer, &Open, &mut client);
+        self.give_back(rt, calling);
+    }
+
+    // Keeps a caller for the next connection. One that can't be kept is made anew then. It isn't
+    // inlined, so that a connection's stack has no room for a caller that is dropped.
+    #[inline(never)]
+    fn give_back<R: Wait>(&self, rt: &R, calling: Box<Calling<TcpStream>>) {
+        let _ = self.free.lock(rt).push(calling);
+    }
+}
