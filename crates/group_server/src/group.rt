@@ -72,6 +72,7 @@ impl<H: Host> Listening<H> {
         for listener in listeners {
             if place < group.len() {
                 let first = Calling::new(alloc, &group, place, seed, Boot((boot as u64) << 32))?;
+                let first = Box::new(alloc, first)?;
                 let dialer = Dialer::new(
                     *host,
                     Arc::try_clone(&group)?,

@@ -9,14 +9,14 @@ use std::sync::{Mutex, Wait};
 /// totals are large, so it is kept out of the stacks of threads.
 #[derive(Drop)]
 pub struct Serving<M: Machine> {
-    first: Mutex<Calling<TcpStream>>,
+    first: Mutex<Box<Calling<TcpStream>>>,
     free: Mutex<Vec<Box<Calling<TcpStream>>>>,
     dialer: Dialer<M>,
 }
 
 impl<M: Machine> Serving<M> {
     /// A node with its first caller, and what connects it to servers and peers.
-    pub fn new(alloc: Global, first: Calling<TcpStream>, dialer: Dialer<M>) -> Serving<M> {
+    pub fn new(alloc: Global, first: Box<Calling<TcpStream>>, dialer: Dialer<M>) -> Serving<M> {
         Serving {
             first: Mutex::new(first),
             free: Mutex::new(Vec::new(alloc)),
