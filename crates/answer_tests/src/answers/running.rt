@@ -22,9 +22,9 @@ fn words_of<'a>(alloc: Global, line: &'a str) -> Result<Vec<&'a str>, Fail> {
 
 // These arguments ask for a group on this port, with the seed, this boot number and these files.
 #[track_caller]
-fn expect_serve(
+fn expect_serve<'a>(
     rt: &(impl Abort + Alloc<A = Global>),
-    words: &[&str],
+    words: &'a [&'a str],
     front: u16,
     boot: u32,
     files: &[&str],
@@ -76,7 +76,12 @@ fn serve(rt: HostRuntime) -> Result<(), Fail> {
 
 // These arguments ask for a stand-in server on this port.
 #[track_caller]
-fn expect_stub(rt: &(impl Abort + Alloc<A = Global>), words: &[&str], port: u16, mode: StubMode) {
+fn expect_stub<'a>(
+    rt: &(impl Abort + Alloc<A = Global>),
+    words: &'a [&'a str],
+    port: u16,
+    mode: StubMode,
+) {
     let Ok(Some(Running::Stub(request))) = Running::read(rt.alloc(), words) else {
         assert!(rt; false, "{words:?}");
         return;
@@ -108,7 +113,7 @@ const OTHERS: [&str; 9] = [
 ];
 
 #[track_caller]
-fn expect_other(rt: &(impl Abort + Alloc<A = Global>), words: &[&str]) {
+fn expect_other<'a>(rt: &(impl Abort + Alloc<A = Global>), words: &'a [&'a str]) {
     let is_other = matches!(Running::read(rt.alloc(), words), Ok(None));
     assert!(rt; is_other, "{words:?}");
 }
@@ -125,9 +130,9 @@ fn others(rt: HostRuntime) -> Result<(), Fail> {
 
 // These arguments are refused: this fault, and the usage of the command.
 #[track_caller]
-fn expect_wrong(
+fn expect_wrong<'a>(
     rt: &(impl Abort + Alloc<A = Global>),
-    words: &[&str],
+    words: &'a [&'a str],
     fault: &str,
     usage_line: &str,
 ) -> Result<(), Fail> {
