@@ -2,7 +2,9 @@
 #![tactic(auto)]
 
 mod arguments;
+mod command_arguments;
 mod command_name;
+mod commands;
 mod decide_request;
 mod decide_texts;
 mod list;

@@ -23,11 +23,11 @@ const NODE: &str = "[pgbouncer]\npool_mode = transaction\nauth_type = trust\n\
 
 const NO_CANCELS: [u64; 8] = [0; 8];
 
-fn settings(alloc: Global) -> Result<Settings, Fail> {
-    let Ok(settings) = read_settings(alloc, NODE) else {
-        return Err(Fail::from("settings that are in order"));
-    };
-    Ok(settings)
+fn settings_of(alloc: Global, text: &str) -> Result<Settings, Fail> {
+    match read_settings(alloc, text) {
+        Ok(settings) => Ok(settings),
+        Err(fault) => Err(Fail::from(fault)),
+    }
 }
 
 fn new_view(alloc: Global, settings: &Settings) -> Result<View<u32>, Fail> {
@@ -45,7 +45,7 @@ struct TestNode {
 impl TestNode {
     // A node that was just made.
     fn fresh(alloc: Global) -> Result<TestNode, Fail> {
-        let settings = settings(alloc)?;
+        let settings = settings_of(alloc, NODE)?;
         let view = new_view(alloc, &settings)?;
         Ok(TestNode { settings, view })
     }
@@ -199,7 +199,7 @@ fn assert_kinds(
 
 // A node with links in each place and clients in each state, and what is shown of the clients.
 fn shown_busy(alloc: Global) -> Result<(TestNode, String), Fail> {
-    let settings = settings(alloc)?;
+    let settings = settings_of(alloc, NODE)?;
     let (core, clients) = busy_node(alloc, &settings)?;
     let view = View::of(alloc, &core)?;
     Ok((TestNode { settings, view }, clients))

@@ -1,5 +1,7 @@
 -- Peers by their numbers.
-use Rattle.std.proofs.Common.{◌≡◌, ℕ, suc, None, sym, ◌∙◌, arith, eqb, List, [], ◌∷◌, map, is_some, refl, ap}
+use Rattle.std.proofs.Common.{◌≡◌, ℕ, suc, None, sym, ◌∙◌, ◌+◌, ◌<◌, arith, eqb, List, [], ◌∷◌, ◌++◌, map, take, length, get_or, is_some, refl, ap, add-one}
+use Rattle.std.proofs.lemmas.List.{map-append}
+use Rattle.std.proofs.Math.Seq.{take-suc}
 use Rattle.std.specs.List.{list_any}
 use Rattle.std.specs.Prelude.{All}
 use Rattle.std.proofs.lemmas.Bool.{ne_eqb}
@@ -30,3 +32,12 @@ absent_peer number (x ∷ es) (n ∷ front) e others =
     let other : number ≡ x.0 → ⊥ = λ eq. others 0 n (omega arith) (sym same ∙ sym eq) in
     let rest : All (λ x. x ≡ number → ⊥) front = λ i d lt. others (suc i) d (omega arith) in
     rw (ne_eqb number x.0 other) (absent_peer number es front tail rest)
+
+-- one more number, and the entry of its peer behind those of the earlier ones
+pub one_more_peer : (es : List (ℕ × PeerEntry)) (numbers : List ℕ) (i number : ℕ) (entry : PeerEntry) → i < length numbers → number ≡ get_or numbers i number → map (λ e. peer_settings e.0 e.1) es ≡ map plain_peer (take i numbers) → peer_settings number entry ≡ plain_peer number → map (λ e. peer_settings e.0 e.1) (es ++ (number, entry) ∷ []) ≡ map plain_peer (take (i + 1) numbers)
+one_more_peer es numbers i number entry within is so_far new =
+    map-append (λ (e : ℕ × PeerEntry). peer_settings e.0 e.1) es ((number, entry) ∷ [])
+    ∙ ap (λ (l : List PeerSettings). l ++ peer_settings number entry ∷ []) so_far
+    ∙ ap (λ (p : PeerSettings). map plain_peer (take i numbers) ++ p ∷ []) (new ∙ ap plain_peer is)
+    ∙ sym (map-append plain_peer (take i numbers) (get_or numbers i number ∷ []))
+    ∙ ap (map plain_peer) (sym (rw add-one (take-suc numbers i number within)))

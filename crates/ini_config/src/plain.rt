@@ -1,5 +1,5 @@
 //! Settings that come from no file.
-ghost use Rattle.std.specs.Prelude.{◌≡◌, ◌≢◌, ◌<◌, ◌≤◌, ◌^◌, map, length, All, AllPairs, IfOk};
+ghost use Rattle.std.specs.Prelude.{◌≡◌, ◌≢◌, ◌<◌, ◌≤◌, ◌^◌, ℕ, map, length, All, AllPairs, IfOk};
 ghost use Rattle.ini_config.specs.Plain.{plain_settings, plain_peer};
 ghost use Rattle.ini_config.specs.View.{peer_settings};
 
@@ -67,12 +67,20 @@ fn plain_peers(alloc: Global, peers: &[PeerNo]) -> Result<IndexMap<PeerNo, PeerE
 {
     let mut entries = IndexMap::new(alloc);
     for number in peers {
-        let entry = PeerEntry {
-            host: String::from_str(alloc, HOST)?,
-            port: PEER_PORT,
-            pool_size: 1,
-        };
+        let entry = plain_entry(alloc)?;
         add_entry(&mut entries, *number, entry)?;
     }
     Ok(entries)
+}
+
+// The entry of a peer, of any number.
+fn plain_entry(alloc: Global) -> Result<PeerEntry, AllocError>
+    ensures { IfOk result (λ e. (number : ℕ) → peer_settings number e ≡ plain_peer number) }
+{
+    let host = String::from_str(alloc, HOST)?;
+    Ok(PeerEntry {
+        host,
+        port: PEER_PORT,
+        pool_size: 1,
+    })
 }

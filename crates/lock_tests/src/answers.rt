@@ -1,35 +1,54 @@
 //! The calls of one caller: replies, counts, and sums of numbers.
-use crate::nodes::{Journal, Shared, key, left, node, ordered, stray};
-use crate::sums::{assert_short, assert_sums};
+ghost use Rattle.std.specs.Prelude.{◌≡◌, ◌<◌, length};
+
+use crate::nodes::{Caller, Journal, Shared, key, left, node, ordered, stray};
+use crate::sums::{assert_long, assert_short};
 use locked_node::{CallAnswer, CallKind, Cancel};
 use node_core::{DatabaseNo, Exchange, JoinRefusal, LeaveReply, Pass};
 use pg_ids::{AnyKey, Kind, Secret};
+use std::alloc::Global;
+use std::process::Abort;
+use std::sync::Wait;
 use std::test::Fail;
+
+// The number of a key of peer 2, slot 0 and secret 1 with three hops; a request with it is sent on
+// with a key whose number is one less.
+const NUMBER: u128 = 0x0008_0000_0000_0007;
+
+// This many requests with that key.
+fn request(journal: &mut Journal, count: u32) {
+    for _i in 0..count {
+        ordered(journal.call(Cancel(key())));
+    }
+}
+
+// What 904 requests sum up to, and 5,000.
+const OLDEST: &[(CallAnswer, &[u128])] = &[(
+    CallAnswer::Forwarded,
+    &[1808, 904 * NUMBER, 904 * NUMBER - 904],
+)];
+
+const ALL: &[(CallAnswer, &[u128])] = &[(
+    CallAnswer::Forwarded,
+    &[10000, 5000 * NUMBER, 5000 * NUMBER - 5000],
+)];
+
+fn assert_trimmed(rt: &impl Abort, journal: &Journal) {
+    let trimmed = journal.trimmed();
+    let totals = journal.totals();
+    let calls = (trimmed.calls(forwarded()), totals.calls(forwarded()));
+    assert_eq!(rt; (journal.calls(), calls), (5000, (904, 5000)));
+    assert_short(rt, trimmed, OLDEST);
+    assert_short(rt, &totals, ALL);
+}
 
 // The tail keeps 4,096 calls, and what leaves it is counted: 5,000 requests for peer 2, each sent on
 // with a key that ends in 6 for one that ends in 7.
 #[test]
 fn trims(rt: HostRuntime) -> Result<(), Fail> {
     let mut journal = node(rt.alloc(), 1)?;
-    for _i in 0..5000u32 {
-        ordered(journal.call(Cancel(key())));
-    }
-    let number = 0x0008_0000_0000_0007;
-    assert_eq!(rt; journal.calls(), 5000);
-    assert_eq!(rt; journal.trimmed().calls(forwarded()), 904);
-    assert_eq!(rt; journal.totals().calls(forwarded()), 5000);
-    assert_sums(
-        &rt,
-        journal.trimmed(),
-        &forwarded(),
-        &[1808, 904 * number, 904 * number - 904],
-    );
-    assert_sums(
-        &rt,
-        &journal.totals(),
-        &forwarded(),
-        &[10000, 5000 * number, 5000 * number - 5000],
-    );
+    request(&mut journal, 5000);
+    assert_trimmed(&rt, &journal);
     Ok(())
 }
 
@@ -37,20 +56,19 @@ fn forwarded() -> CallKind {
     CallKind::short(CallAnswer::Forwarded)
 }
 
-// Two requests with the same long key, which are sent on with it: the peer, the key that came, and
-// the key that is sent, each of three numbers.
+// The peer, the key that came, and the key that is sent, each of three numbers.
+const SENT_ON: &[(CallAnswer, &[u128])] = &[(
+    CallAnswer::Forwarded,
+    &[4, 2 * NUMBER, 516, 6, 2 * NUMBER - 2, 516, 6],
+)];
+
+// Two requests with the same long key, which are sent on with it.
 #[test]
 fn long_requests(rt: HostRuntime) -> Result<(), Fail> {
     let mut journal = node(rt.alloc(), 1)?;
     ordered(journal.call(Cancel(long_key())));
     ordered(journal.call(Cancel(long_key())));
-    let number = 0x0008_0000_0000_0007;
-    assert_sums(
-        &rt,
-        &journal.totals(),
-        &CallKind::long(CallAnswer::Forwarded),
-        &[4, 2 * number, 516, 6, 2 * number - 2, 516, 6],
-    );
+    assert_long(&rt, &journal.totals(), SENT_ON);
     Ok(())
 }
 
@@ -75,24 +93,39 @@ const ANSWERED: &[(CallAnswer, &[u128])] = &[
     (CallAnswer::LeaveStale, &[1, 0, 1, STRANGE]),
 ];
 
+// A pass of another node, the second that it gave.
+fn stranger<R: Abort + Wait>(rt: &R, alloc: Global) -> Result<Pass, Fail> {
+    let (elsewhere, mut guest) = Shared::new(alloc, node(alloc, 2)?)?;
+    assert!(rt; !is_full(elsewhere.join(rt, &mut guest, DatabaseNo(0), Secret(1), Kind::Short)));
+    Ok(
+        elsewhere
+            .join(rt, &mut guest, DatabaseNo(0), Secret(9), Kind::Short)
+            .expect(rt, "another slot"),
+    )
+}
+
+// Four calls.
+fn answer<R: Abort + Wait>(rt: &R, shared: &Shared, caller: &mut Caller, stranger: Pass)
+    requires own { caller.old.lock ≡ shared.now }
+    requires database { 0 < length caller.old.start.view.pools }
+    ensures { caller.new.lock ≡ caller.old.lock }
+{
+    let first = shared
+        .join(rt, caller, DatabaseNo(0), Secret(1), Kind::Short)
+        .expect(rt, "a slot");
+    assert!(rt; is_full(shared.join(rt, caller, DatabaseNo(0), Secret(2), Kind::Short)));
+    let stale = left(shared.leave(rt, caller, stranger));
+    let first = left(shared.leave(rt, caller, first));
+    assert_eq!(rt; (stale, first), (LeaveReply::Stale, LeaveReply::Left));
+}
+
 // One slot: the second client finds none, a pass of another node is stale, and the first client
 // leaves.
 #[test]
 fn answers(rt: HostRuntime) -> Result<(), Fail> {
     let (shared, mut caller) = Shared::new(rt.alloc(), node(rt.alloc(), 1)?)?;
-    let (elsewhere, mut guest) = Shared::new(rt.alloc(), node(rt.alloc(), 2)?)?;
-    assert!(rt; !is_full(elsewhere.join(&rt, &mut guest, DatabaseNo(0), Secret(1), Kind::Short)));
-    let first = shared
-        .join(&rt, &mut caller, DatabaseNo(0), Secret(1), Kind::Short)
-        .expect(&rt, "a slot");
-    let stranger = elsewhere
-        .join(&rt, &mut guest, DatabaseNo(0), Secret(9), Kind::Short)
-        .expect(&rt, "another slot");
-    let full = is_full(shared.join(&rt, &mut caller, DatabaseNo(0), Secret(2), Kind::Short));
-    let stale = left(shared.leave(&rt, &mut caller, stranger));
-    let first = left(shared.leave(&rt, &mut caller, first));
-    assert!(rt; full);
-    assert_eq!(rt; (stale, first), (LeaveReply::Stale, LeaveReply::Left));
+    let stranger = stranger(&rt, rt.alloc())?;
+    answer(&rt, &shared, &mut caller, stranger);
     assert_short(&rt, caller.tally(), ANSWERED);
     assert_eq!(rt; caller.allowance(), (1 << 127) - 4);
     Ok(())
@@ -110,17 +143,36 @@ fn is_full(reply: Result<Pass, JoinRefusal>) -> bool {
 
 // A new caller has 2^64 calls, which is too few to hand any on. What is handed comes back by a
 // join.
+fn hand_on(rt: &impl Abort, shared: &Shared, first: &mut Caller) -> Result<(), Fail>
+    requires own { first.old.lock ≡ shared.now }
+    ensures { first.new.lock ≡ first.old.lock }
+{
+    let mut part = first.split(shared).ok_or("a second caller")?;
+    let allowances = (part.allowance(), first.allowance());
+    assert_eq!(rt; allowances, (1 << 64, (1 << 127) - (1 << 64)));
+    assert!(rt; part.split(shared).is_none());
+    first.join(shared, part);
+    assert_eq!(rt; first.allowance(), 1 << 127);
+    Ok(())
+}
+
 #[test]
 fn parts(rt: HostRuntime) -> Result<(), Fail> {
     let (shared, mut first) = Shared::new(rt.alloc(), node(rt.alloc(), 1)?)?;
-    let mut part = first.split(&shared).ok_or("a second caller")?;
-    assert_eq!(rt; part.allowance(), 1 << 64);
-    assert_eq!(rt; first.allowance(), (1 << 127) - (1 << 64));
-    assert!(rt; part.split(&shared).is_none());
-    first.join(&shared, part);
-    assert_eq!(rt; first.allowance(), 1 << 127);
+    hand_on(&rt, &shared, &mut first)?;
     assert_eq!(rt; shared.total_calls(first), 0);
     Ok(())
+}
+
+// Two calls by the first caller, and one by the other, which has a part of the first one's.
+fn call_by_both<R: Abort + Wait>(rt: &R, shared: &Shared, first: &mut Caller, part: &mut Caller)
+    requires own { (first.old.lock ≡ shared.now) × (part.old.lock ≡ shared.now) }
+    ensures { part.new.lock ≡ part.old.lock }
+{
+    ordered(shared.cancel(rt, first, key()));
+    ordered(shared.cancel(rt, first, stray()));
+    ordered(shared.cancel(rt, part, key()));
+    assert_eq!(rt; part.calls(forwarded()), 1);
 }
 
 // A caller that hasn't everything back: the total is that of the lock, and neither what this caller
@@ -129,12 +181,17 @@ fn parts(rt: HostRuntime) -> Result<(), Fail> {
 fn total_of_others(rt: HostRuntime) -> Result<(), Fail> {
     let (shared, mut first) = Shared::new(rt.alloc(), node(rt.alloc(), 1)?)?;
     let mut part = first.split(&shared).ok_or("a second caller")?;
-    ordered(shared.cancel(&rt, &mut first, key()));
-    ordered(shared.cancel(&rt, &mut first, stray()));
-    ordered(shared.cancel(&rt, &mut part, key()));
-    assert_eq!(rt; part.calls(forwarded()), 1);
+    call_by_both(&rt, &shared, &mut first, &mut part);
     assert_eq!(rt; shared.total_calls(part), 3);
     Ok(())
+}
+
+// The tail is full, and this is the key of its oldest call.
+fn assert_tail(rt: &impl Abort, journal: &Journal, key: AnyKey) {
+    assert_eq!(rt;
+        (oldest(journal), journal.tail().count()),
+        (Some(key), 4096)
+    );
 }
 
 // The tail has the last 4,096 calls, the oldest first.
@@ -142,14 +199,10 @@ fn total_of_others(rt: HostRuntime) -> Result<(), Fail> {
 fn tail(rt: HostRuntime) -> Result<(), Fail> {
     let mut journal = node(rt.alloc(), 1)?;
     ordered(journal.call(Cancel(stray())));
-    for _i in 0..4095u32 {
-        ordered(journal.call(Cancel(key())));
-    }
-    assert_eq!(rt; oldest(&journal), Some(stray()));
-    assert_eq!(rt; journal.tail().count(), 4096);
-    ordered(journal.call(Cancel(key())));
-    assert_eq!(rt; oldest(&journal), Some(key()));
-    assert_eq!(rt; journal.tail().count(), 4096);
+    request(&mut journal, 4095);
+    assert_tail(&rt, &journal, stray());
+    request(&mut journal, 1);
+    assert_tail(&rt, &journal, key());
     Ok(())
 }
 

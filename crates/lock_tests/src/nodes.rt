@@ -50,6 +50,20 @@ pub(crate) fn node(alloc: Global, clients: u32) -> Result<Journal, Fail>
     Ok(Journal::new(alloc, core)?)
 }
 
+// A node with this number, no peer, this many links at most, and this many slots.
+pub(crate) fn alone(alloc: Global, me: u16, links: u16, clients: u32) -> Result<Journal, Fail>
+    requires links { 1 ≤ links }
+    requires some { 1 ≤ clients }
+    requires within { clients ≤ 65536 }
+    ensures { IfOk result (λ journal. 0 < length journal.view.pools) }
+{
+    let me = PeerNo::new(me).ok_or("no such peer")?;
+    let peers = Vec::<PeerNo>::new(alloc);
+    let settings = Settings::plain(alloc, me, peers, links, clients)?;
+    let core = NodeCore::new(alloc, &settings, BOOT)?;
+    Ok(Journal::new(alloc, core)?)
+}
+
 // The reply to a client that leaves. A pass that it hands back is spent.
 pub(crate) fn left(reply: LeaveReply<Pass>) -> LeaveReply<PassRecord> {
     match reply {

@@ -1,12 +1,11 @@
 //! Steps for the tests, through a lock: what each hands out, or that it was another answer.
 ghost use Rattle.std.specs.Prelude.{◌≡◌, ◌<◌, length, IfOk};
 
-use crate::nodes::{BOOT, Caller, Journal, Shared, Stream, left, ordered};
-use ini_config::Settings;
+use crate::nodes::{Caller, Journal, Shared, Stream, alone, left, ordered};
 use node_core::{
-    AcquireReply, DatabaseNo, Lease, LeaveReply, NodeCore, Order, Pass, Permit, Ticket, UpReply,
+    AcquireReply, DatabaseNo, Lease, LeaveReply, Order, Pass, Permit, Ticket, UpReply,
 };
-use pg_ids::{Kind, PeerNo, Secret, ServerKey};
+use pg_ids::{Kind, Secret, ServerKey};
 use std::alloc::Global;
 use std::sync::Wait;
 use std::test::Fail;
@@ -21,10 +20,7 @@ pub(crate) struct Other;
 pub(crate) fn one_link(alloc: Global) -> Result<Journal, Fail>
     ensures { IfOk result (λ journal. 0 < length journal.view.pools) }
 {
-    let me = PeerNo::new(2).ok_or("no such peer")?;
-    let settings = Settings::plain(alloc, me, Vec::new(alloc), 1, 2)?;
-    let core = NodeCore::new(alloc, &settings, BOOT)?;
-    Ok(Journal::new(alloc, core)?)
+    alone(alloc, 2, 1, 2)
 }
 
 pub(crate) fn opened(reply: AcquireReply<Lease<Stream>, Permit>) -> Result<Permit, Other> {

@@ -28,3 +28,10 @@ pub(crate) fn assert_long(rt: &impl Abort, tally: &Tally, wanted: &[(CallAnswer,
         assert_sums(rt, tally, &CallKind::long(*answer), sums);
     }
 }
+
+// There was one call with each of these answers, and with a short key or none.
+pub(crate) fn assert_once(rt: &impl Abort, tally: &Tally, answers: &[CallAnswer]) {
+    for answer in answers {
+        assert_eq!(rt; tally.calls(CallKind::short(*answer)), 1, "{answer:?}");
+    }
+}

@@ -2,10 +2,12 @@
 ghost use Rattle.std.specs.Prelude.{◌≡◌, ◌<◌, length, IfSome};
 ghost use Rattle.std.specs.Thread.{IsSync};
 
-use crate::nodes::{Caller, LOWERED, Shared, key, left, node, ordered, stray};
-use locked_node::{CallAnswer, CallKind};
+use crate::nodes::{Caller, Journal, LOWERED, Shared, key, left, node, ordered, stray};
+use locked_node::{CallAnswer, CallKind, Tally};
 use node_core::{DatabaseNo, JoinRefusal, LeaveReply, Order, Pass, TicketRecord};
-use pg_ids::{AnyKey, Kind, PeerNo, Secret};
+use pg_ids::{AnyKey, Kind, Secret};
+use startup::Packet;
+use std::process::Abort;
 use std::sync::Wait;
 use std::test::Fail;
 use std::thread;
@@ -179,9 +181,33 @@ fn pair(shared: &Shared, first: &mut Caller) -> Option<Two>
     ensures start { IfSome result
         (λ two. (two.0.start ≡ first.old.start) × (two.1.start ≡ first.old.start)) }
 {
-    let one = first.split(shared)?;
-    let other = first.split(shared)?;
+    let Some(one) = first.split(shared) else {
+        return None;
+    };
+    let Some(other) = first.split(shared) else {
+        return None;
+    };
     Some(Two(one, other))
+}
+
+// The lock counted each answer as often as threads got it.
+fn assert_replies(rt: &impl Abort, caller: &Caller, replies: &Replies) {
+    for (answer, calls) in [
+        (CallAnswer::Joined, replies.joined),
+        (CallAnswer::JoinFull, replies.full),
+        (CallAnswer::Left, replies.left),
+        (CallAnswer::Forwarded, replies.forwarded),
+        (CallAnswer::CancelNoPeer, replies.strayed),
+    ] {
+        assert_eq!(rt; caller.calls(CallKind::short(answer)), u128::from(calls));
+    }
+    assert_eq!(rt; (replies.joined, replies.strayed), (replies.left, 2000));
+}
+
+// The journal has eight thousand calls, and this tally of them.
+fn assert_journal(rt: &impl Abort, journal: &Journal, tally: &Tally) {
+    assert_eq!(rt; journal.calls(), 8000);
+    assert_eq!(rt; journal.totals(), *tally);
 }
 
 #[test]
@@ -211,21 +237,9 @@ fn eight_threads(rt: HostRuntime) -> Result<(), Fail> {
         { by_four(&rt, lock, two, three) },
     );
     let (caller, replies) = united(&shared, front, back);
-    for (answer, calls) in [
-        (CallAnswer::Joined, replies.joined),
-        (CallAnswer::JoinFull, replies.full),
-        (CallAnswer::Left, replies.left),
-        (CallAnswer::Forwarded, replies.forwarded),
-        (CallAnswer::CancelNoPeer, replies.strayed),
-    ] {
-        assert_eq!(rt; caller.calls(CallKind::short(answer)), u128::from(calls));
-    }
-    assert_eq!(rt; replies.joined, replies.left);
-    assert_eq!(rt; replies.strayed, 2000);
+    assert_replies(&rt, &caller, &replies);
     let tally = *caller.tally();
-    let journal = shared.into_journal(caller);
-    assert_eq!(rt; journal.calls(), 8000);
-    assert_eq!(rt; journal.totals(), tally);
+    assert_journal(&rt, &shared.into_journal(caller), &tally);
     Ok(())
 }
 
@@ -252,27 +266,48 @@ fn canceller<R: Wait>(rt: &R, shared: &Shared, mut caller: Caller) -> (Caller, O
     (caller, order)
 }
 
+// A client joins in one thread and leaves again, and a cancel request comes in another.
+fn by_both<R: Abort + Threads + Wait + Sync>(
+    rt: &R,
+    shared: &Shared,
+    first: Caller,
+    second: Caller,
+) -> (Caller, Order<TicketRecord>)
+    requires own { (first.lock ≡ shared.now) × (second.lock ≡ shared.now) }
+    requires database { 0 < length first.start.view.pools }
+    ensures { result.0.lock ≡ first.lock }
+{
+    let ((mut one, pass), (two, order)) = thread::join(
+        rt,
+        || -> (Caller, Result<Pass, JoinRefusal>)
+            requires { (first.lock ≡ shared.now) × (0 < length first.start.view.pools) }
+            ensures { result.0.lock ≡ first.lock }
+        { client(rt, shared, first) },
+        || -> (Caller, Order<TicketRecord>)
+            requires { second.lock ≡ shared.now }
+            ensures { result.0.lock ≡ second.lock }
+        { canceller(rt, shared, second) },
+    );
+    one.join(shared, two);
+    let pass = pass.expect(rt, "a slot");
+    assert_eq!(rt; left(shared.leave(rt, &mut one, pass)), LeaveReply::Left);
+    (one, order)
+}
+
+// To which peer a request was sent on, and what was sent.
+fn sent_on(order: &Order<TicketRecord>) -> Option<(u16, Packet)> {
+    match order {
+        Order::Forward(peer, packet) => Some((peer.get(), *packet)),
+        _ => None,
+    }
+}
+
 #[test]
 fn two_threads(rt: HostRuntime) -> Result<(), Fail> {
-    let peer = PeerNo::new(2).ok_or("no such peer")?;
     let (shared, mut first) = Shared::new(rt.alloc(), node(rt.alloc(), 3)?)?;
     let second = first.split(&shared).ok_or("a second caller")?;
-    let lock = &shared;
-    let ((mut one, pass), (two, order)) = thread::join(
-        &rt,
-        || -> (Caller, Result<Pass, JoinRefusal>)
-            requires { (first.lock ≡ lock.now) × (0 < length first.start.view.pools) }
-            ensures { result.0.lock ≡ first.lock }
-        { client(&rt, lock, first) },
-        || -> (Caller, Order<TicketRecord>)
-            requires { second.lock ≡ lock.now }
-            ensures { result.0.lock ≡ second.lock }
-        { canceller(&rt, lock, second) },
-    );
-    one.join(&shared, two);
-    let pass = pass.expect(&rt, "a slot");
-    assert_eq!(rt; left(shared.leave(&rt, &mut one, pass)), LeaveReply::Left);
-    assert_eq!(rt; order, Order::Forward(peer, LOWERED));
-    assert_eq!(rt; shared.total_calls(one), 3);
+    let (caller, order) = by_both(&rt, &shared, first, second);
+    assert_eq!(rt; sent_on(&order), Some((2, LOWERED)));
+    assert_eq!(rt; shared.total_calls(caller), 3);
     Ok(())
 }

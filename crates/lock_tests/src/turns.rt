@@ -1,15 +1,14 @@
 //! Clients that wait for links, each in a thread of its own: who is woken, and what a copy of the
 //! node shows meanwhile.
-ghost use Rattle.std.specs.Prelude.{◌≡◌, ◌<◌, ◌≤◌, length, IfOk};
+ghost use Rattle.std.specs.Prelude.{◌≡◌, ◌<◌, length};
 ghost use Rattle.std.specs.Thread.{IsSync};
 
-use crate::nodes::{BOOT, Caller, Journal, Shared, Stream};
+use crate::nodes::{Caller, Shared, Stream, alone};
 use crate::steps::{login, open};
-use ini_config::Settings;
 use link_pool::Claim;
 use locked_node::{CallAnswer, CallKind};
-use node_core::{AcquireReply, DatabaseNo, Lease, NodeCore, Pass, UpReply, View};
-use pg_ids::{Boot, Kind, PeerNo, Secret, ServerKey};
+use node_core::{AcquireReply, DatabaseNo, Lease, Pass, UpReply, View};
+use pg_ids::{Boot, Kind, Secret, ServerKey};
 use std::alloc::Global;
 use std::hint::spin_loop;
 use std::sync::Wait;
@@ -18,19 +17,6 @@ use std::thread;
 use std::thread::Threads;
 
 const SERVER: ServerKey = ServerKey([0, 0, 0, 1, 0, 0, 0, 2]);
-
-// A node with this many links at most, and this many slots.
-fn pool_of(alloc: Global, links: u16, clients: u32) -> Result<Journal, Fail>
-    requires links { 1 ≤ links }
-    requires some { 1 ≤ clients }
-    requires within { clients ≤ 65536 }
-    ensures { IfOk result (λ journal. 0 < length journal.view.pools) }
-{
-    let me = PeerNo::new(1).ok_or("no such peer")?;
-    let settings = Settings::plain(alloc, me, Vec::new(alloc), links, clients)?;
-    let core = NodeCore::new(alloc, &settings, BOOT)?;
-    Ok(Journal::new(alloc, core)?)
-}
 
 // The client keeps its link for a while, and gives it back.
 fn give<R: Wait>(rt: &R, shared: &Shared, caller: &mut Caller, lease: Lease<Stream>)
@@ -125,7 +111,7 @@ fn crowd<R: Threads + Wait + Sync>(
 // twice, and no more.
 #[test]
 fn one_is_woken_by_a_release(rt: HostRuntime) -> Result<(), Fail> {
-    let (shared, first) = Shared::new(rt.alloc(), pool_of(rt.alloc(), 8, 128)?)?;
+    let (shared, first) = Shared::new(rt.alloc(), alone(rt.alloc(), 1, 8, 128)?)?;
     let caller = crowd(&rt, &shared, first, 127);
     let got = caller.calls(CallKind::long(CallAnswer::AcquireGot));
     let opened = caller.calls(CallKind::long(CallAnswer::AcquireOpen));
@@ -173,7 +159,7 @@ fn start_anew<R: Wait>(
 // While the only link is held, sixteen clients wait; a new start wakes each of them.
 #[test]
 fn all_are_woken_by_a_new_start(rt: HostRuntime) -> Result<(), Fail> {
-    let (shared, mut first) = Shared::new(rt.alloc(), pool_of(rt.alloc(), 1, 17)?)?;
+    let (shared, mut first) = Shared::new(rt.alloc(), alone(rt.alloc(), 1, 1, 17)?)?;
     let second = first.split(&shared).ok_or("a second caller")?;
     let pass = login(&rt, &shared, &mut first, 1, Kind::Short).expect(&rt, "a slot");
     let lease = open(&rt, &shared, &mut first, &pass, 7, SERVER).expect(&rt, "a link");

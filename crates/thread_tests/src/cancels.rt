@@ -1,5 +1,6 @@
 //! Cancel connections at a real node, over streams that log what happens to them: what is written,
 //! in which order, and what is counted.
+use crate::calls::assert_calls;
 use crate::log::{Dialer, Event, Log, Marks, Reply, Wire, assert_logged};
 use crate::node::{Asked, Node, SHOP, Stream};
 use locked_node::CallAnswer;
@@ -47,13 +48,6 @@ fn expect<R: Wait + Abort>(
     let key = AnyKey::from_short_bytes(asked);
     node.cancel(rt, &opener, &Marks(&log), &mut requester, key);
     assert_logged(rt, &log, events);
-}
-
-// So many calls with each of these answers were counted.
-fn assert_calls(rt: &impl Abort, node: &Node, calls: &[(CallAnswer, u128)]) {
-    for (answer, count) in calls {
-        assert_eq!(rt; node.calls(*answer), *count, "{answer:?}");
-    }
 }
 
 // Requests for the first client's link are carried: one ends cleanly, one by a byte, and one isn't
@@ -124,21 +118,24 @@ fn carried(rt: HostRuntime) -> Result<(), Fail> {
         (CallAnswer::FailedCondemned, 2),
         (CallAnswer::Forwarded, 3),
     ];
-    assert_calls(&rt, &node, &calls);
+    assert_calls(&rt, node.caller(), &calls);
     assert_eq!(rt; node.words(), [0, 0, 0, 0, 3, 3, 1, 2]);
     Ok(())
 }
 
 // Requests that go nowhere: with spent hops, with another secret, for a pooler that isn't listed,
-// and for a client without a link. Nothing is connected or written.
+// and for a client without a link.
+const REFUSED: &[[u8; 8]] = &[
+    [0, 8, 0, 0, 0, 0, 0, 4],
+    [0, 8, 0, 0, 0, 0, 0, 11],
+    [0, 16, 0, 0, 0, 0, 0, 7],
+    SECOND,
+];
+
+// Nothing is connected or written for these.
 fn expect_refused<R: Wait + Abort>(rt: &R, alloc: Global, node: &mut Node) {
-    for asked in [
-        [0, 8, 0, 0, 0, 0, 0, 4],
-        [0, 8, 0, 0, 0, 0, 0, 11],
-        [0, 16, 0, 0, 0, 0, 0, 7],
-        SECOND,
-    ] {
-        expect(rt, alloc, node, asked, Some(Reply::End), &[]);
+    for asked in REFUSED {
+        expect(rt, alloc, node, *asked, Some(Reply::End), &[]);
     }
 }
 

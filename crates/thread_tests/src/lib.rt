@@ -1,22 +1,43 @@
-//! Tests of what the threads of a node do, by public calls alone. They have a crate of their own,
-//! since a crate with tests is proved twice: without them and with them.
+//! Tests of what the threads of a node do, by public calls alone, and of threads that are held on
+//! their way, while another thread serves a client of the same node or starts the node anew. They
+//! have a crate of their own, since a crate with tests is proved twice: without them and with them.
 #![tactic(auto)]
 
 #[cfg(test)]
+mod calls;
+#[cfg(test)]
 mod cancels;
 #[cfg(test)]
+mod gates;
+#[cfg(test)]
+mod held;
+#[cfg(test)]
 mod log;
+#[cfg(test)]
+mod messages;
 #[cfg(test)]
 mod node;
 #[cfg(test)]
 mod openings;
 #[cfg(test)]
+mod owner;
+#[cfg(test)]
 mod reports;
+#[cfg(test)]
+mod restarts;
+#[cfg(test)]
+mod scene;
+#[cfg(test)]
+mod scene_node;
 #[cfg(test)]
 mod sessions;
 #[cfg(test)]
 mod stays;
 #[cfg(test)]
 mod talk;
+#[cfg(test)]
+mod tracked;
+#[cfg(test)]
+mod turns;
 #[cfg(test)]
 mod words;

@@ -1,14 +1,15 @@
 //! A node behind its lock, with one link for two clients, and its board.
 ghost use Rattle.std.specs.Prelude.{◌≡◌, ◌<◌, length};
 
+use crate::owner::open;
 use ini_config::Settings;
-use locked_node::{CallAnswer, CallKind, Caller, Journal, Shared};
+use locked_node::{Caller, Journal, Shared};
 use node_core::{
-    AcquireReply, DatabaseNo, Lease, LeaveReply, NodeCore, Pass, Permit, ReleaseReply, UpReply,
+    AcquireReply, DatabaseNo, Lease, LeaveReply, NodeCore, Pass, Permit, ReleaseReply,
 };
 use node_threads::{Gate, Opener, serve_cancel};
 use peer_forward::WriteCalls;
-use pg_ids::{AnyKey, Boot, Kind, PeerNo, Secret, ServerKey};
+use pg_ids::{AnyKey, Boot, Kind, PeerNo, Secret};
 use stat_board::{Board, BoardSeat};
 use std::alloc::Global;
 use std::sync::Wait;
@@ -19,8 +20,6 @@ use std::test::Fail;
 pub(crate) struct Stream(pub(crate) u8);
 
 pub(crate) const SHOP: DatabaseNo = DatabaseNo(0);
-
-const SERVER: ServerKey = ServerKey([0x11, 0x12, 0x13, 0x14, 0x15, 0x16, 0x17, 0x18]);
 
 // Another answer than the one that is waited for.
 #[derive(Clone, Copy, Debug, PartialEq, Eq)]
@@ -72,9 +71,13 @@ impl Node {
 
     // A client logs in.
     pub(crate) fn login<R: Wait>(&mut self, rt: &R, secret: u32) -> Result<Pass, Other> {
-        self.shared
-            .join(rt, &mut self.caller, SHOP, Secret(secret), Kind::Short)
-            .map_err(|_| Other)
+        let joined = self
+            .shared
+            .join(rt, &mut self.caller, SHOP, Secret(secret), Kind::Short);
+        match joined {
+            Ok(pass) => Ok(pass),
+            Err(_) => Err(Other),
+        }
     }
 
     // The client of a pass opens a link.
@@ -84,28 +87,15 @@ impl Node {
         pass: &Pass,
         stream: u8,
     ) -> Result<Lease<Stream>, Other> {
-        let permit = opened(self.shared.acquire(rt, &mut self.caller, pass))?;
-        went_up(
-            self.shared
-                .up(rt, &mut self.caller, permit, Stream(stream), SERVER),
-        )
+        match open(rt, &self.shared, &mut self.caller, pass, Stream(stream)) {
+            Some(lease) => Ok(lease),
+            None => Err(Other),
+        }
     }
 
     // The client of a pass asks for a link.
     pub(crate) fn ask<R: Wait>(&mut self, rt: &R, pass: &Pass) -> Asked {
-        match self.shared.acquire(rt, &mut self.caller, pass) {
-            AcquireReply::Got(lease) => {
-                let _stream = lease.forfeit();
-                Asked::Given
-            }
-            AcquireReply::Open(permit) => {
-                let _details = permit.forfeit();
-                Asked::Given
-            }
-            AcquireReply::Waiting => Asked::Waiting,
-            AcquireReply::Cancelled => Asked::Cancelled,
-            AcquireReply::Holding | AcquireReply::Exhausted | AcquireReply::Stale => Asked::Other,
-        }
+        answer_of(self.shared.acquire(rt, &mut self.caller, pass))
     }
 
     // A client gives its link back.
@@ -151,9 +141,9 @@ impl Node {
         );
     }
 
-    // How many calls with this answer were counted, with short keys or none.
-    pub(crate) fn calls(&self, answer: CallAnswer) -> u128 {
-        self.caller.calls(CallKind::short(answer))
+    // Who makes its calls.
+    pub(crate) fn caller(&self) -> &Caller<Stream> {
+        &self.caller
     }
 
     // The words of the board.
@@ -168,28 +158,18 @@ impl Node {
     }
 }
 
-fn opened(reply: AcquireReply<Lease<Stream>, Permit>) -> Result<Permit, Other> {
+fn answer_of(reply: AcquireReply<Lease<Stream>, Permit>) -> Asked {
     match reply {
-        AcquireReply::Open(permit) => Ok(permit),
         AcquireReply::Got(lease) => {
             let _stream = lease.forfeit();
-            Err(Other)
+            Asked::Given
         }
-        AcquireReply::Waiting
-        | AcquireReply::Cancelled
-        | AcquireReply::Holding
-        | AcquireReply::Exhausted
-        | AcquireReply::Stale => Err(Other),
-    }
-}
-
-fn went_up(reply: UpReply<Lease<Stream>, Permit, Stream>) -> Result<Lease<Stream>, Other> {
-    match reply {
-        UpReply::Up(lease) => Ok(lease),
-        UpReply::Exhausted(permit, _stream) => {
+        AcquireReply::Open(permit) => {
             let _details = permit.forfeit();
-            Err(Other)
+            Asked::Given
         }
-        UpReply::Stale(_stream) | UpReply::AtEnd(_stream) => Err(Other),
+        AcquireReply::Waiting => Asked::Waiting,
+        AcquireReply::Cancelled => Asked::Cancelled,
+        AcquireReply::Holding | AcquireReply::Exhausted | AcquireReply::Stale => Asked::Other,
     }
 }

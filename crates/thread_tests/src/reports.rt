@@ -18,34 +18,34 @@ const AT: LinkPlace = LinkPlace {
     index: 8,
 };
 
-fn ticket_record() -> Result<TicketRecord, Fail> {
-    Ok(TicketRecord {
-        peer: PeerNo::new(2).ok_or("no peer 2")?,
+fn ticket_record(peer: PeerNo) -> TicketRecord {
+    TicketRecord {
+        peer,
         incarnation: 3,
         number: 6,
         link: LinkNo(7),
         at: AT,
-    })
+    }
 }
 
-fn link_record(number: u64) -> Result<LinkRecord, Fail> {
-    Ok(LinkRecord {
-        peer: PeerNo::new(2).ok_or("no peer 2")?,
+fn link_record(peer: PeerNo, number: u64) -> LinkRecord {
+    LinkRecord {
+        peer,
         incarnation: 3,
         link: LinkNo(number),
         at: AT,
-    })
+    }
 }
 
 // The lease of a link, whose stream is the link's number.
-fn lease(number: u64) -> Result<Lease<u64>, Fail> {
+fn lease(peer: PeerNo, number: u64) -> Lease<u64> {
     let permit = Permit::new(PermitRecord {
-        peer: PeerNo::new(2).ok_or("no peer 2")?,
+        peer,
         incarnation: 3,
         number: 4,
         at: AT,
     });
-    Ok(permit.up(LinkNo(number), number))
+    permit.up(LinkNo(number), number)
 }
 
 // Streams by how much they take and what is read then, how carrying over them ends, and what they
@@ -89,14 +89,15 @@ fn happens(
 fn assert_reported(
     rt: &(impl Abort + Wait),
     log: &Log,
+    peer: PeerNo,
     room: usize,
     reply: Reply,
     expected: Outcome,
-) -> Result<(), Fail> {
+) {
     let mut desk = LoggedDesk(log);
     let mut requester = Wire::new(log, 16, Reply::End);
     let mut server = Wire::new(log, room, reply);
-    let ticket = Ticket::new(ticket_record()?);
+    let ticket = Ticket::new(ticket_record(peer));
     let gate = Marks(log);
     let outcome = report(
         rt,
@@ -108,16 +109,16 @@ fn assert_reported(
         PACKET,
     );
     assert_eq!(rt; outcome, expected);
-    Ok(())
 }
 
 // Each request is reported by its own ticket, after it was carried and before the requester learns
 // of it.
 #[test]
 fn reports(rt: HostRuntime) -> Result<(), Fail> {
+    let peer = PeerNo::new(2).ok_or("no peer 2")?;
     for (room, reply, outcome, written) in STREAMS {
         let log = Log::new(rt.alloc());
-        assert_reported(&rt, &log, room, reply, outcome)?;
+        assert_reported(&rt, &log, peer, room, reply, outcome);
         let between = [Event::Passed(Point::Carried), told(outcome)];
         let events = happens(rt.alloc(), written, &between, outcome)?;
         assert_logged(&rt, &log, events.as_slice());
@@ -142,33 +143,41 @@ fn relays(rt: HostRuntime) -> Result<(), Fail> {
     Ok(())
 }
 
-// A desk that is a list has each call, and the streams of the leases.
-#[test]
-fn listed_calls(rt: HostRuntime) -> Result<(), Fail> {
-    let mut desk = ListDesk::new(rt.alloc(), 3)?;
-    let log = Log::new(rt.alloc());
-    let mut requester = Wire::new(&log, 0, Reply::End);
-    let mut server = Wire::new(&log, 16, Reply::Fails);
-    let ticket = Ticket::new(ticket_record()?);
+// A request over a stream that fails, whose requester takes nothing, ends so at this desk.
+fn report_failed<R: Wait + Abort>(rt: &R, desk: &mut ListDesk<u64>, log: &Log, peer: PeerNo) {
+    let mut requester = Wire::new(log, 0, Reply::End);
+    let mut server = Wire::new(log, 16, Reply::Fails);
     let outcome = report(
-        &rt,
-        &mut desk,
+        rt,
+        desk,
         &Open,
         &mut requester,
         &mut server,
-        ticket,
+        Ticket::new(ticket_record(peer)),
         PACKET,
     );
     assert_eq!(rt; outcome, Outcome::Failed);
-    assert_logged(&rt, &log, &[Event::Sent(PACKET), Event::Read]);
-    desk.release(&rt, lease(7)?);
-    desk.close(&rt, lease(8)?);
+    assert_logged(rt, log, &[Event::Sent(PACKET), Event::Read]);
+}
+
+fn assert_listed(rt: &impl Abort, desk: &ListDesk<u64>, peer: PeerNo) {
     let calls = [
-        DeskCall::Failed(ticket_record()?),
-        DeskCall::Release(link_record(7)?),
-        DeskCall::Close(link_record(8)?),
+        DeskCall::Failed(ticket_record(peer)),
+        DeskCall::Release(link_record(peer, 7)),
+        DeskCall::Close(link_record(peer, 8)),
     ];
     assert_eq!(rt; desk.calls(), calls.as_slice());
     assert_eq!(rt; desk.streams(), [7u64, 8].as_slice());
+}
+
+// A desk that is a list has each call, and the streams of the leases.
+#[test]
+fn listed_calls(rt: HostRuntime) -> Result<(), Fail> {
+    let peer = PeerNo::new(2).ok_or("no peer 2")?;
+    let mut desk = ListDesk::new(rt.alloc(), 3)?;
+    report_failed(&rt, &mut desk, &Log::new(rt.alloc()), peer);
+    desk.release(&rt, lease(peer, 7));
+    desk.close(&rt, lease(peer, 8));
+    assert_listed(&rt, &desk, peer);
     Ok(())
 }

@@ -1,8 +1,9 @@
 //! Sessions at a real node, over streams of memory: what a client and a server get of one another,
 //! and what the node was told.
+use crate::calls::assert_calls;
 use crate::talk::{Talk, Turn};
 use ini_config::{Group, Settings};
-use locked_node::{CallAnswer, CallKind};
+use locked_node::CallAnswer;
 use node_core::{DatabaseNo, RestartReply};
 use node_threads::{Calling, Open, Opener, serve_connection};
 use pg_ids::{Boot, PeerNo};
@@ -78,54 +79,61 @@ impl Opener for Server {
 }
 
 // Node 1, alone, with one database, one link and two slots.
-#[derive(Drop)]
-struct Node {
-    calling: Calling<Talk>,
+fn calling(alloc: Global, boot: Boot) -> Result<Calling<Talk>, Fail> {
+    let me = PeerNo::new(1).ok_or("no such peer")?;
+    let settings = Settings::plain(alloc, me, Vec::new(alloc), 1, 2)?;
+    let group = Group::check(vec![in alloc; settings]?)?;
+    if group.is_empty() {
+        return Err(Fail::from("no node"));
+    }
+    let group = Arc::new(alloc, group)?;
+    Ok(Calling::new(alloc, &group, 0, [0; 32], boot)?)
 }
 
-impl Node {
-    fn new(alloc: Global, boot: Boot) -> Result<Node, Fail> {
-        let me = PeerNo::new(1).ok_or("no such peer")?;
-        let settings = Settings::plain(alloc, me, Vec::new(alloc), 1, 2)?;
-        let group = Group::check(vec![in alloc; settings]?).map_err(|_| Fail::from("no group"))?;
-        if group.is_empty() {
-            return Err(Fail::from("no node"));
-        }
-        let group = Arc::new(alloc, group)?;
-        let calling = Calling::new(alloc, &group, 0, [0; 32], boot)?;
-        Ok(Node { calling })
-    }
-
-    // A client is served that takes these turns, all of them.
-    #[track_caller]
-    fn serve<R: Wait + Abort>(
-        &mut self,
-        rt: &R,
-        alloc: Global,
-        server: &Server,
-        turns: &'static [Turn],
-    ) {
-        let mut client = Talk::new(turns);
-        serve_connection(rt, alloc, &mut self.calling, server, &Open, &mut client);
-        assert!(rt; client.is_done());
-    }
-
-    // The node is started anew.
-    fn restart<R: Wait>(&mut self, rt: &R) -> RestartReply {
-        self.calling.restart(rt)
-    }
-
-    // How many calls with this answer were counted.
-    fn calls(&self, answer: CallAnswer) -> u128 {
-        self.calling.caller().calls(CallKind::short(answer))
-    }
+// What happens at a node of its own.
+#[derive(Clone, Copy)]
+struct Story {
+    boot: u64,
+    // What its server takes, if it can be reached.
+    server: Option<&'static [Turn]>,
+    // Its clients come one after the other, and each takes all its turns.
+    clients: &'static [&'static [Turn]],
+    // Then it is started anew, with these answers.
+    restarts: &'static [RestartReply],
+    // So many calls with each of these answers are counted in the end.
+    calls: &'static [(CallAnswer, u128)],
 }
 
-// So many calls with each of these answers were counted.
-fn assert_calls(rt: &impl Abort, node: &Node, calls: &[(CallAnswer, u128)]) {
-    for (answer, count) in calls {
-        assert_eq!(rt; node.calls(*answer), *count, "{answer:?}");
+// A client is served that takes these turns, all of them.
+fn serve<R: Wait + Abort>(
+    rt: &R,
+    alloc: Global,
+    calling: &mut Calling<Talk>,
+    server: &Server,
+    turns: &'static [Turn],
+) {
+    let mut client = Talk::new(turns);
+    serve_connection(rt, alloc, calling, server, &Open, &mut client);
+    assert!(rt; client.is_done());
+}
+
+fn tell<R: Wait + Abort>(rt: &R, alloc: Global, calling: &mut Calling<Talk>, story: &Story) {
+    let server = Server {
+        turns: story.server,
+    };
+    for turns in story.clients {
+        serve(rt, alloc, calling, &server, turns);
     }
+    for reply in story.restarts {
+        assert_eq!(rt; calling.restart(rt), *reply);
+    }
+    assert_calls(rt, calling.caller(), story.calls);
+}
+
+fn assert_told<R: Wait + Abort>(rt: &R, alloc: Global, story: &Story) -> Result<(), Fail> {
+    let mut calling = calling(alloc, Boot(story.boot))?;
+    tell(rt, alloc, &mut calling, story);
+    Ok(())
 }
 
 const ASKS: &[Turn] = &[
@@ -146,159 +154,13 @@ const ASKS_SECOND: &[Turn] = &[
 
 const ASKS_IN_VAIN: &[Turn] = &[COMES, GREETED, Turn::Gives(QUERY), Turn::TakesError(LOST)];
 
-// A client's query goes to a new link, which is idle after it and serves the next client.
-#[test]
-fn two_clients_on_one_link(rt: HostRuntime) -> Result<(), Fail> {
-    let server = Server {
-        turns: Some(&[
-            LOGIN_SENT,
-            LOGGED_IN,
-            Turn::Takes(QUERY),
-            Turn::Gives(ROWS),
-            Turn::Takes(QUERY),
-            Turn::Gives(ROWS),
-        ]),
-    };
-    let mut node = Node::new(rt.alloc(), Boot(9))?;
-    node.serve(&rt, rt.alloc(), &server, ASKS);
-    node.serve(&rt, rt.alloc(), &server, ASKS_SECOND);
-    let calls = [
-        (CallAnswer::Joined, 2),
-        (CallAnswer::AcquireOpen, 1),
-        (CallAnswer::WentUp, 1),
-        (CallAnswer::AcquireGot, 1),
-        (CallAnswer::ReleasedIdle, 2),
-        (CallAnswer::Left, 2),
-    ];
-    assert_calls(&rt, &node, &calls);
-    Ok(())
-}
-
-// A server that can't be reached, that refuses the login, or that sends bytes behind it: the place
-// is free again, and the client gets the error of a lost link.
-fn expect_lost<R: Wait + Abort>(
-    rt: &R,
-    alloc: Global,
-    turns: Option<&'static [Turn]>,
-) -> Result<(), Fail> {
-    let server = Server { turns };
-    let mut node = Node::new(alloc, Boot(9))?;
-    node.serve(rt, alloc, &server, ASKS_IN_VAIN);
-    let calls = [
-        (CallAnswer::AcquireOpen, 1),
-        (CallAnswer::UpFailedFreed, 1),
-        (CallAnswer::WentUp, 0),
-        (CallAnswer::Left, 1),
-    ];
-    assert_calls(rt, &node, &calls);
-    Ok(())
-}
-
-#[test]
-fn links_that_do_not_open(rt: HostRuntime) -> Result<(), Fail> {
-    let alloc = rt.alloc();
-    expect_lost(&rt, alloc, None)?;
-    expect_lost(
-        &rt,
-        alloc,
-        Some(&[LOGIN_SENT, Turn::Gives(b"E\0\0\0\x05\0")]),
-    )?;
-    expect_lost(
-        &rt,
-        alloc,
-        Some(&[
-            LOGIN_SENT,
-            Turn::Gives(
-                b"R\0\0\0\x08\0\0\0\0K\0\0\0\x0c\x11\x12\x13\x14\x15\x16\x17\x18Z\0\0\0\x05IZ",
-            ),
-        ]),
-    )?;
-    expect_lost(&rt, alloc, Some(&[LOGIN_SENT]))
-}
-
-// A link that breaks in a reply leaves the pool, and the session ends.
-#[test]
-fn a_link_that_breaks(rt: HostRuntime) -> Result<(), Fail> {
-    let server = Server {
-        turns: Some(&[LOGIN_SENT, LOGGED_IN, Turn::Takes(QUERY)]),
-    };
-    let mut node = Node::new(rt.alloc(), Boot(9))?;
-    node.serve(&rt, rt.alloc(), &server, ASKS_IN_VAIN);
-    let calls = [
-        (CallAnswer::WentUp, 1),
-        (CallAnswer::Closed, 1),
-        (CallAnswer::ReleasedIdle, 0),
-        (CallAnswer::Left, 1),
-    ];
-    assert_calls(&rt, &node, &calls);
-    Ok(())
-}
-
-// After a restart a link from before it is gone, and the next client gets a new one.
-#[test]
-fn a_new_boot(rt: HostRuntime) -> Result<(), Fail> {
-    let server = Server {
-        turns: Some(&[LOGIN_SENT, LOGGED_IN, Turn::Takes(QUERY), Turn::Gives(ROWS)]),
-    };
-    let mut node = Node::new(rt.alloc(), Boot(9))?;
-    node.serve(&rt, rt.alloc(), &server, ASKS);
-    assert_eq!(rt; node.restart(&rt), RestartReply::Restarted);
-    let calls = [
-        (CallAnswer::WentUp, 1),
-        (CallAnswer::ReleasedIdle, 1),
-        (CallAnswer::Restarted, 1),
-    ];
-    assert_calls(&rt, &node, &calls);
-    Ok(())
-}
-
-// A process has 2^32 boots.
-fn expect_restarts<R: Wait + Abort>(
-    rt: &R,
-    alloc: Global,
-    boot: Boot,
-    restarts: u128,
-) -> Result<(), Fail> {
-    let mut node = Node::new(alloc, boot)?;
-    let first = node.restart(rt);
-    let second = node.restart(rt);
-    assert_eq!(rt; first == RestartReply::Restarted, restarts > 0);
-    assert_eq!(rt; second, RestartReply::Exhausted);
-    assert_calls(rt, &node, &[(CallAnswer::Restarted, restarts)]);
-    Ok(())
-}
-
-#[test]
-fn the_last_boot(rt: HostRuntime) -> Result<(), Fail> {
-    expect_restarts(&rt, rt.alloc(), Boot(0x1_ffff_fffe), 1)?;
-    expect_restarts(&rt, rt.alloc(), Boot(0x1_ffff_ffff), 0)?;
-    expect_restarts(&rt, rt.alloc(), Boot(0xffff_ffff_ffff_ffff), 0)
-}
-
-// A database that the settings don't have, and a cancel request with a key that was never given.
-#[test]
-fn others(rt: HostRuntime) -> Result<(), Fail> {
-    let server = Server { turns: None };
-    let mut node = Node::new(rt.alloc(), Boot(9))?;
-    node.serve(
-        &rt,
-        rt.alloc(),
-        &server,
-        &[
-            Turn::Gives(b"\0\0\0\x22\0\x03\0\0user\0plain\0database\0none\0\0"),
-            Turn::TakesError(b"SFATAL\0VFATAL\0C3D000\0"),
-        ],
-    );
-    node.serve(
-        &rt,
-        rt.alloc(),
-        &server,
-        &[Turn::Gives(b"\0\0\0\x10\x04\xd2\x16\x2e\0\x04\0\0\0\0\0\x07")],
-    );
-    let calls = [(CallAnswer::Joined, 0), (CallAnswer::CancelUnknown, 1)];
-    assert_calls(&rt, &node, &calls);
-    Ok(())
-}
+// The calls where no link opens: the place is free again.
+const CALLS_OF_LOST: &[(CallAnswer, u128)] = &[
+    (CallAnswer::AcquireOpen, 1),
+    (CallAnswer::UpFailedFreed, 1),
+    (CallAnswer::WentUp, 0),
+    (CallAnswer::Left, 1),
+];
 
 // What a client of the console is greeted with: it gets no key.
 const CONSOLE_GREETING: &[u8] = b"R\0\0\0\x08\0\0\0\0\
@@ -359,13 +221,138 @@ const CONSOLES: &[&[Turn]] = &[
     ],
 ];
 
+const STORIES: &[Story] = &[
+    // A client's query goes to a new link, which is idle after it and serves the next client.
+    Story {
+        boot: 9,
+        server: Some(&[
+            LOGIN_SENT,
+            LOGGED_IN,
+            Turn::Takes(QUERY),
+            Turn::Gives(ROWS),
+            Turn::Takes(QUERY),
+            Turn::Gives(ROWS),
+        ]),
+        clients: &[ASKS, ASKS_SECOND],
+        restarts: &[],
+        calls: &[
+            (CallAnswer::Joined, 2),
+            (CallAnswer::AcquireOpen, 1),
+            (CallAnswer::WentUp, 1),
+            (CallAnswer::AcquireGot, 1),
+            (CallAnswer::ReleasedIdle, 2),
+            (CallAnswer::Left, 2),
+        ],
+    },
+    // A server that can't be reached, that refuses the login, that sends bytes behind it, or that
+    // ends before it: the client gets the error of a lost link.
+    Story {
+        boot: 9,
+        server: None,
+        clients: &[ASKS_IN_VAIN],
+        restarts: &[],
+        calls: CALLS_OF_LOST,
+    },
+    Story {
+        boot: 9,
+        server: Some(&[LOGIN_SENT, Turn::Gives(b"E\0\0\0\x05\0")]),
+        clients: &[ASKS_IN_VAIN],
+        restarts: &[],
+        calls: CALLS_OF_LOST,
+    },
+    Story {
+        boot: 9,
+        server: Some(&[
+            LOGIN_SENT,
+            Turn::Gives(
+                b"R\0\0\0\x08\0\0\0\0K\0\0\0\x0c\x11\x12\x13\x14\x15\x16\x17\x18Z\0\0\0\x05IZ",
+            ),
+        ]),
+        clients: &[ASKS_IN_VAIN],
+        restarts: &[],
+        calls: CALLS_OF_LOST,
+    },
+    Story {
+        boot: 9,
+        server: Some(&[LOGIN_SENT]),
+        clients: &[ASKS_IN_VAIN],
+        restarts: &[],
+        calls: CALLS_OF_LOST,
+    },
+    // A link that breaks in a reply leaves the pool, and the session ends.
+    Story {
+        boot: 9,
+        server: Some(&[LOGIN_SENT, LOGGED_IN, Turn::Takes(QUERY)]),
+        clients: &[ASKS_IN_VAIN],
+        restarts: &[],
+        calls: &[
+            (CallAnswer::WentUp, 1),
+            (CallAnswer::Closed, 1),
+            (CallAnswer::ReleasedIdle, 0),
+            (CallAnswer::Left, 1),
+        ],
+    },
+    // A node is started anew behind a client.
+    Story {
+        boot: 9,
+        server: Some(&[LOGIN_SENT, LOGGED_IN, Turn::Takes(QUERY), Turn::Gives(ROWS)]),
+        clients: &[ASKS],
+        restarts: &[RestartReply::Restarted],
+        calls: &[
+            (CallAnswer::WentUp, 1),
+            (CallAnswer::ReleasedIdle, 1),
+            (CallAnswer::Restarted, 1),
+        ],
+    },
+    // A process has 2^32 boots.
+    Story {
+        boot: 0x1_ffff_fffe,
+        server: None,
+        clients: &[],
+        restarts: &[RestartReply::Restarted, RestartReply::Exhausted],
+        calls: &[(CallAnswer::Restarted, 1)],
+    },
+    Story {
+        boot: 0x1_ffff_ffff,
+        server: None,
+        clients: &[],
+        restarts: &[RestartReply::Exhausted, RestartReply::Exhausted],
+        calls: &[(CallAnswer::Restarted, 0)],
+    },
+    Story {
+        boot: 0xffff_ffff_ffff_ffff,
+        server: None,
+        clients: &[],
+        restarts: &[RestartReply::Exhausted, RestartReply::Exhausted],
+        calls: &[(CallAnswer::Restarted, 0)],
+    },
+    // A database that the settings don't have, and a cancel request with a key that was never given.
+    Story {
+        boot: 9,
+        server: None,
+        clients: &[
+            &[
+                Turn::Gives(b"\0\0\0\x22\0\x03\0\0user\0plain\0database\0none\0\0"),
+                Turn::TakesError(b"SFATAL\0VFATAL\0C3D000\0"),
+            ],
+            &[Turn::Gives(b"\0\0\0\x10\x04\xd2\x16\x2e\0\x04\0\0\0\0\0\x07")],
+        ],
+        restarts: &[],
+        calls: &[(CallAnswer::Joined, 0), (CallAnswer::CancelUnknown, 1)],
+    },
+    Story {
+        boot: 9,
+        server: None,
+        clients: CONSOLES,
+        restarts: &[],
+        calls: &[(CallAnswer::Joined, 0)],
+    },
+];
+
 #[test]
-fn consoles(rt: HostRuntime) -> Result<(), Fail> {
-    let server = Server { turns: None };
-    let mut node = Node::new(rt.alloc(), Boot(9))?;
-    for turns in CONSOLES {
-        node.serve(&rt, rt.alloc(), &server, turns);
+fn sessions(rt: HostRuntime) -> Result<(), Fail> {
+    for story in STORIES {
+        assert_told(&rt, rt.alloc(), story)?;
     }
-    assert_calls(&rt, &node, &[(CallAnswer::Joined, 0)]);
     Ok(())
 }

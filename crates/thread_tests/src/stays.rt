@@ -3,10 +3,8 @@ ghost use Rattle.std.specs.Prelude.{◌≡◌, IfOk};
 ghost use Rattle.node_threads.specs.Progress.{asking};
 
 use client_state::{Act, Client, DatabaseNo, Request};
-use lease::{Lease, LinkPlace, LinkRecord, Permit, PermitRecord};
-use node_threads::{DeskCall, Link, ListDesk, Open, Stayed, stay, turn};
+use node_threads::{Link, Stayed, stay};
 use pg_frames::{Body, Cutter, Flow, Frame};
-use pg_ids::{LinkNo, PeerNo};
 use std::alloc::{AllocError, Global};
 use std::io;
 use std::io::{ErrorKind, Read, Write};
@@ -25,14 +23,14 @@ const BEGIN: &[u8] = b"Q\0\0\0\x0abegin\0";
 // How a stream is read and written: in these pieces, and then to its end or until a read fails; and
 // until it has taken so many bytes, after which a write fails.
 #[derive(Clone, Copy)]
-struct Script<'a> {
+pub(crate) struct Script<'a> {
     pieces: &'a [&'a [u8]],
     breaks: bool,
     room: usize,
 }
 
 // A stream that is read in these pieces to its end, and takes all.
-fn reads<'a>(pieces: &'a [&'a [u8]]) -> Script<'a> {
+pub(crate) fn reads<'a>(pieces: &'a [&'a [u8]]) -> Script<'a> {
     Script {
         pieces,
         breaks: false,
@@ -42,7 +40,7 @@ fn reads<'a>(pieces: &'a [&'a [u8]]) -> Script<'a> {
 
 // A stream that goes by its script.
 #[derive(Drop)]
-struct Wire<'a> {
+pub(crate) struct Wire<'a> {
     script: Script<'a>,
     piece: usize,
     offset: usize,
@@ -50,7 +48,7 @@ struct Wire<'a> {
 }
 
 impl<'a> Wire<'a> {
-    fn new(alloc: Global, script: Script<'a>) -> Wire<'a> {
+    pub(crate) fn new(alloc: Global, script: Script<'a>) -> Wire<'a> {
         Wire {
             script,
             piece: 0,
@@ -100,7 +98,7 @@ impl Write for Wire<'_> {
 
 // How a stay ends.
 #[derive(Clone, Copy, Debug, PartialEq, Eq)]
-enum Ending<'a> {
+pub(crate) enum Ending<'a> {
     Release,
     Close,
     End(&'a [u8]),
@@ -108,7 +106,7 @@ enum Ending<'a> {
 
 use Ending::{Close, End, Release};
 
-fn ending_of(stayed: &Stayed) -> Ending<'_> {
+pub(crate) fn ending_of(stayed: &Stayed) -> Ending<'_> {
     match stayed {
         Stayed::Release => Release,
         Stayed::Close => Close,
@@ -126,7 +124,7 @@ struct Expected<'a> {
 }
 
 // A client that asks for the begin of a transaction, and its request.
-fn begin(rt: &(impl Abort + AllocGlobal)) -> Result<(Client, Request), AllocError>
+pub(crate) fn begin(rt: &(impl Abort + AllocGlobal)) -> Result<(Client, Request), AllocError>
     ensures { IfOk result (λ made. made.0 ≡ asking made.0.database) }
 {
     let mut client = Client::new(rt.alloc(), DatabaseNo(3));
@@ -171,10 +169,11 @@ fn assert_stay<R: Abort + AllocGlobal + Wait>(
 }
 
 // Replies: a query's, with a row; BEGIN's; COMMIT's.
-const ROW: &[u8] = b"T\0\0\0\x1a\0\x01a\0\0\0\0\0\0\0\0\0\0\x17\0\x04\xff\xff\xff\xff\0\0\
+pub(crate) const ROW: &[u8] =
+    b"T\0\0\0\x1a\0\x01a\0\0\0\0\0\0\0\0\0\0\x17\0\x04\xff\xff\xff\xff\0\0\
     D\0\0\0\x0b\0\x01\0\0\0\x011C\0\0\0\x0dSELECT 1\0Z\0\0\0\x05I";
 
-const BEGUN: &[u8] = b"C\0\0\0\x0aBEGIN\0Z\0\0\0\x05T";
+pub(crate) const BEGUN: &[u8] = b"C\0\0\0\x0aBEGIN\0Z\0\0\0\x05T";
 
 const COMMITTED: &[u8] = b"C\0\0\0\x0bCOMMIT\0Z\0\0\0\x05I";
 
@@ -206,7 +205,7 @@ const BEGIN_DONE: &[u8] = b"C\0\0\0\x0aBEGIN\0";
 const NOTICE: &[u8] = b"N\0\0\0\x05\0";
 
 // What the link gives, how the stay ends, and what the client is told.
-const SINGLE: [(&[&[u8]], Ending<'static>, &[u8]); 11] = [
+const SINGLE: &[(&[&[u8]], Ending<'static>, &[u8])] = &[
     (&[ROW], Release, ROW),
     // A notice behind a ReadyForQuery closes the link.
     (
@@ -235,7 +234,7 @@ const SINGLE: [(&[&[u8]], Ending<'static>, &[u8]); 11] = [
 #[test]
 fn one_request(rt: HostRuntime) -> Result<(), Fail> {
     for (pieces, ending, told) in SINGLE {
-        let expected = comes_of(ending, BEGIN, told);
+        let expected = comes_of(*ending, BEGIN, told);
         assert_stay(&rt, reads(&[]), reads(pieces), &expected)?;
     }
     Ok(())
@@ -263,7 +262,7 @@ fn failures(rt: HostRuntime) -> Result<(), Fail> {
 }
 
 // What the client sends after its first request, what the link gives, and what comes of it.
-const TRANSACTIONS: [(&[&[u8]], &[&[u8]], Expected<'static>); 8] = [
+const TRANSACTIONS: &[(&[&[u8]], &[&[u8]], Expected<'static>)] = &[
     (
         &[COMMIT],
         &[BEGUN, COMMITTED],
@@ -350,7 +349,7 @@ const TRANSACTIONS: [(&[&[u8]], &[&[u8]], Expected<'static>); 8] = [
 #[test]
 fn transactions(rt: HostRuntime) -> Result<(), Fail> {
     for (on_client, on_link, expected) in TRANSACTIONS {
-        assert_stay(&rt, reads(on_client), reads(on_link), &expected)?;
+        assert_stay(&rt, reads(on_client), reads(on_link), expected)?;
     }
     Ok(())
 }
@@ -392,76 +391,5 @@ fn greatest_frame(rt: HostRuntime) -> Result<(), Fail> {
     for size in [1_000, 4_096, 16_384, 2_000_000] {
         assert_passed(&rt, text.as_slice(), size)?;
     }
-    Ok(())
-}
-
-// Where the link of a lease is in its node's pool.
-const AT: LinkPlace = LinkPlace {
-    database: DatabaseNo(3),
-    index: 5,
-};
-
-// The record of a lease of link 7.
-fn link_record() -> Result<LinkRecord, Fail> {
-    Ok(LinkRecord {
-        peer: PeerNo::new(2).ok_or("no peer 2")?,
-        incarnation: 3,
-        link: LinkNo(7),
-        at: AT,
-    })
-}
-
-// The lease of this link.
-fn lease_of<S>(details: LinkRecord, stream: S) -> Lease<S>
-    ensures { result.stream ≡ stream }
-{
-    let permit = Permit::new(PermitRecord {
-        peer: details.peer,
-        incarnation: details.incarnation,
-        number: 4,
-        at: details.at,
-    });
-    permit.up(details.link, stream)
-}
-
-// A turn on such a link ends so, and makes this one call of its desk.
-fn assert_turn<R: Abort + AllocGlobal + Wait>(
-    rt: &R,
-    on_link: Script<'_>,
-    ending: Ending<'_>,
-    call: DeskCall,
-) -> Result<(), Fail> {
-    let (mut session, request) = begin(rt)?;
-    let mut client = Wire::new(rt.alloc(), reads(&[]));
-    let mut cutter = Cutter::new(rt.alloc());
-    let mut desk = ListDesk::new(rt.alloc(), 1)?;
-    let link = Link {
-        stream: Wire::new(rt.alloc(), on_link),
-        flow: Flow::new(rt.alloc())?,
-    };
-    let lease = lease_of(link_record()?, link);
-    let stayed = turn(
-        rt,
-        &mut desk,
-        &Open,
-        &mut session,
-        &mut client,
-        &mut cutter,
-        lease,
-        request,
-    );
-    assert_eq!(rt; ending_of(&stayed), ending);
-    assert_eq!(rt; desk.calls(), [call].as_slice());
-    Ok(())
-}
-
-// The link is given back only after a reply with which it is idle and behind which nothing stands.
-#[test]
-fn leases_handed_in(rt: HostRuntime) -> Result<(), Fail> {
-    let release = DeskCall::Release(link_record()?);
-    let close = DeskCall::Close(link_record()?);
-    assert_turn(&rt, reads(&[ROW]), Release, release)?;
-    assert_turn(&rt, reads(&[b"Z\0\0\0\x05IN"]), Close, close)?;
-    assert_turn(&rt, reads(&[BEGUN]), End(b""), close)?;
     Ok(())
 }

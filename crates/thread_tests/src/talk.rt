@@ -1,4 +1,4 @@
-//! A stream that plays one side of a conversation.
+//! A stream that plays one side of a conversation in one thread.
 use std::io;
 use std::io::{ErrorKind, Read, Write};
 
@@ -55,7 +55,7 @@ impl Talk {
 }
 
 // Whether these bytes are an ErrorResponse whose body begins with these fields.
-fn is_error(bytes: &[u8], fields: &[u8]) -> bool {
+pub(crate) fn is_error(bytes: &[u8], fields: &[u8]) -> bool {
     bytes.len() > 5 && bytes[0] == b'E' && bytes.split_at(5).1.starts_with(fields)
 }
 

@@ -71,11 +71,11 @@ fn published_words(rt: HostRuntime) -> Result<(), Fail> {
 #[test]
 fn connections_in_turn(rt: HostRuntime) {
     let mut front = Front::new(3);
-    for node in [0, 1, 2, 0, 1, 2, 0] {
-        assert_eq!(rt; front.deal(), node);
+    for node in &[0, 1, 2, 0, 1, 2, 0] {
+        assert_eq!(rt; front.deal(), *node);
     }
     let mut alone = Front::new(1);
-    for node in [0, 0, 0] {
-        assert_eq!(rt; alone.deal(), node);
+    for node in &[0, 0, 0] {
+        assert_eq!(rt; alone.deal(), *node);
     }
 }

@@ -2,6 +2,7 @@
 ghost use Rattle.std.specs.Prelude.{◌≡◌};
 ghost use Rattle.std.specs.Thread.{IsSync};
 
+use crate::checks::assert_same;
 use stat_board::{Board, BoardSeat, Counter, NoAllowance};
 use std::test::Fail;
 use std::thread;
@@ -111,7 +112,7 @@ fn by_eight<R: Threads + Sync>(rt: &R, board: &Board, mut seat: BoardSeat) -> Bo
 fn eight_threads(rt: HostRuntime) -> Result<(), Fail> {
     let (board, first) = Board::new(rt.alloc())?;
     let seat = by_eight(&rt, &board, first);
-    assert_eq!(rt; board.close(seat), [0, 8000, 0, 0, 0, 0, 0, 0]);
+    assert_same(&rt, board.close(seat), [0, 8000, 0, 0, 0, 0, 0, 0]);
     Ok(())
 }
 
@@ -123,9 +124,9 @@ fn each_counter(rt: HostRuntime) -> Result<(), Fail> {
         raise(&board, &mut seat, counter, times)?;
     }
     for (counter, times) in TIMES {
-        assert_eq!(rt; seat.read(&board, counter), u64::from(times));
+        assert_same(&rt, seat.read(&board, counter), u64::from(times));
     }
-    assert_eq!(rt; board.close(seat), [1, 2, 3, 4, 5, 6, 7, 8]);
+    assert_same(&rt, board.close(seat), [1, 2, 3, 4, 5, 6, 7, 8]);
     Ok(())
 }
 
@@ -134,8 +135,8 @@ fn another_seat(rt: HostRuntime) -> Result<(), Fail> {
     let (board, mut first) = Board::new(rt.alloc())?;
     let mut second = first.split(&board);
     raise(&board, &mut first, Counter::Sent, 5)?;
-    assert_eq!(rt; second.read(&board, Counter::Sent), 5);
-    assert_eq!(rt; second.read(&board, Counter::Ended), 0);
+    assert_same(&rt, second.read(&board, Counter::Sent), 5);
+    assert_same(&rt, second.read(&board, Counter::Ended), 0);
     Ok(())
 }
 
@@ -146,10 +147,10 @@ fn joined(rt: HostRuntime) -> Result<(), Fail> {
     raise(&board, &mut first, Counter::Spent, 2)?;
     raise(&board, &mut first, Counter::Failed, 1)?;
     raise(&board, &mut second, Counter::Failed, 3)?;
-    assert_eq!(rt; second.read(&board, Counter::Failed), 4);
+    assert_same(&rt, second.read(&board, Counter::Failed), 4);
     first.join(&board, second);
-    assert_eq!(rt; first.read(&board, Counter::Failed), 4);
-    assert_eq!(rt; board.close(first), [2, 0, 0, 0, 0, 0, 0, 4]);
+    assert_same(&rt, first.read(&board, Counter::Failed), 4);
+    assert_same(&rt, board.close(first), [2, 0, 0, 0, 0, 0, 0, 4]);
     Ok(())
 }
 
@@ -170,10 +171,10 @@ fn halves(rt: HostRuntime) -> Result<(), Fail> {
     let (board, first) = Board::new(rt.alloc())?;
     let mut seat = halved(&board, first, 63);
     let mut nothing = seat.split(&board);
-    assert_eq!(rt; nothing.count(&board, Counter::Sent), Err(NoAllowance));
-    assert_eq!(rt; seat.count(&board, Counter::Sent), Ok(()));
-    assert_eq!(rt; seat.count(&board, Counter::Sent), Err(NoAllowance));
-    assert_eq!(rt; nothing.read(&board, Counter::Sent), 1);
-    assert_eq!(rt; NoAllowance.number(), 70);
+    assert_same(&rt, nothing.count(&board, Counter::Sent), Err(NoAllowance));
+    assert_same(&rt, seat.count(&board, Counter::Sent), Ok(()));
+    assert_same(&rt, seat.count(&board, Counter::Sent), Err(NoAllowance));
+    assert_same(&rt, nothing.read(&board, Counter::Sent), 1);
+    assert_same(&rt, NoAllowance.number(), 70);
     Ok(())
 }

@@ -1,5 +1,6 @@
 //! Packets carried over streams that take so many bytes and then stop, and requests finished over
 //! them.
+use crate::checks::{assert_bytes, assert_same};
 use peer_forward::{Outcome, ReadCalls, Verdict, WriteCalls, carry, finish};
 use startup::Packet;
 use std::alloc::{AllocError, Global};
@@ -416,6 +417,20 @@ fn interrupted_calls(rt: HostRuntime) {
     assert_stops(&rt, &PACKETS[2], &calls);
 }
 
+// What was written over the stream, and by how many writes; it isn't read.
+fn assert_finished(
+    rt: &impl Abort,
+    wire: &mut Wire,
+    verdict: Verdict,
+    written: &[u8],
+    writes: usize,
+) {
+    finish(wire, verdict);
+    assert_bytes(rt, wire.held.as_slice(), written);
+    assert_same(rt, wire.writes as usize, writes);
+    assert_same(rt, wire.reads, 0);
+}
+
 // The byte is written, or one write is tried for it, exactly where the request isn't settled.
 #[test]
 fn verdicts(rt: HostRuntime) -> Result<(), Fail> {
@@ -427,14 +442,9 @@ fn verdicts(rt: HostRuntime) -> Result<(), Fail> {
         (Verdict::NoConnect, b"\x45".as_slice()),
     ] {
         let mut wire = Wire::new(rt.alloc(), 16, 16, Full::Fails, Reply::End)?;
-        finish(&mut wire, verdict);
-        assert_eq!(rt; wire.held.as_slice(), byte);
-        assert_eq!(rt; wire.writes as usize, byte.len());
+        assert_finished(&rt, &mut wire, verdict, byte, byte.len());
         let mut closed = Wire::new(rt.alloc(), 16, 0, Full::Fails, Reply::End)?;
-        finish(&mut closed, verdict);
-        assert_eq!(rt; closed.held.as_slice(), b"".as_slice());
-        assert_eq!(rt; closed.writes as usize, byte.len());
-        assert_eq!(rt; closed.reads, 0);
+        assert_finished(&rt, &mut closed, verdict, b"", byte.len());
     }
     Ok(())
 }

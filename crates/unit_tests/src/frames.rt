@@ -1,4 +1,5 @@
 //! Streams cut at every place, the errors at their smallest text, and each call with ample memory.
+use crate::checks::{assert_bytes, assert_same};
 use pg_frames::{
     Body, Cutter, Cutting, Flow, Frame, FrameError, OwnedPiece, Parts, Piece, cut, cut_in_parts,
     put_frame,
@@ -65,7 +66,7 @@ fn single_bytes(rt: HostRuntime) -> Result<(), Fail> {
 }
 
 // A text, the types of its frames, their bodies one after another, and its fault.
-const TEXTS: [(&[u8], &[u8], &[u8], Option<FrameError>); 13] = [
+const TEXTS: &[(&[u8], &[u8], &[u8], Option<FrameError>)] = &[
     (b"X\0\0\0\x04", b"X", b"", None),
     (b"X\0\0\0\x03", b"", b"", Some(FrameError::BadLength)),
     (b"X\0\0\0\0", b"", b"", Some(FrameError::BadLength)),
@@ -128,7 +129,7 @@ fn assert_text(
 #[test]
 fn small_texts(rt: HostRuntime) -> Result<(), Fail> {
     for (text, kinds, bodies, fault) in TEXTS {
-        assert_text(&rt, text, kinds, bodies, fault)?;
+        assert_text(&rt, text, kinds, bodies, *fault)?;
     }
     Ok(())
 }
@@ -179,50 +180,71 @@ fn length_field(rt: HostRuntime) -> Result<(), Fail> {
     Ok(())
 }
 
+fn assert_bad_type(rt: &impl Abort, cutter: &mut Cutter, text: &[u8]) {
+    assert_same(rt, cutter.feed(text), Err(FrameError::BadType));
+}
+
+// The next frame has this type and this body.
+fn assert_next(rt: &impl Abort, cutter: &mut Cutter, kind: u8, body: &[u8]) -> Result<(), Fail> {
+    let frame = cutter.next()?.ok_or("a frame")?;
+    assert_same(rt, frame.kind, kind);
+    assert_same(rt, frame.body.is_empty(), body.is_empty());
+    assert_bytes(rt, frame.body.into_vec().as_slice(), body);
+    Ok(())
+}
+
 // The frames before a fault come out, and the fault stays, whatever is fed then.
 #[test]
 fn fault_stays(rt: HostRuntime) -> Result<(), Fail> {
     let mut cutter = Cutter::new(rt.alloc());
-    assert_eq!(rt;
-        cutter.feed(b"X\0\0\0\x04Z\0\0\0\x05I\0"),
-        Err(FrameError::BadType)
-    );
-    assert_eq!(rt; cutter.pending(), b"X\0\0\0\x04Z\0\0\0\x05I\0".as_slice());
-    assert_eq!(rt; cutter.feed(b"X\0\0\0\x04"), Err(FrameError::BadType));
-    let first = cutter.next()?.ok_or("the first frame")?;
-    assert_eq!(rt; first.kind, b'X');
-    assert!(rt; first.body.is_empty());
-    assert_eq!(rt; cutter.feed(b""), Err(FrameError::BadType));
-    let second = cutter.next()?.ok_or("the second frame")?;
-    assert_eq!(rt; second.kind, b'Z');
-    assert_eq!(rt; second.body.into_vec().as_slice(), b"I".as_slice());
+    let text = b"X\0\0\0\x04Z\0\0\0\x05I\0".as_slice();
+    assert_bad_type(&rt, &mut cutter, text);
+    assert_bytes(&rt, cutter.pending(), text);
+    assert_bad_type(&rt, &mut cutter, b"X\0\0\0\x04");
+    assert_next(&rt, &mut cutter, b'X', b"")?;
+    assert_bad_type(&rt, &mut cutter, b"");
+    assert_next(&rt, &mut cutter, b'Z', b"I")?;
     assert!(rt; cutter.next()?.is_none());
-    assert_eq!(rt; cutter.pending(), b"\0".as_slice());
-    assert_eq!(rt; cutter.feed(b"X\0\0\0\x04"), Err(FrameError::BadType));
+    assert_bytes(&rt, cutter.pending(), b"\0");
+    assert_bad_type(&rt, &mut cutter, b"X\0\0\0\x04");
+    Ok(())
+}
+
+// What comes of writing a frame with this type and this body.
+fn put(
+    rt: &impl AllocGlobal,
+    out: &mut Vec<u8>,
+    kind: u8,
+    body: &[u8],
+) -> Result<Result<(), FrameError>, AllocError> {
+    let body = Body::from_slice(rt.alloc(), body)?;
+    Ok(put_frame(&Frame { kind, body }, out))
+}
+
+// The longest frame is written whole, and nothing of one that is longer.
+fn assert_longest(rt: &(impl Abort + AllocGlobal), out: &mut Vec<u8>) -> Result<(), Fail> {
+    let body = padded(rt.alloc(), b"", 1_048_573)?;
+    let too_long = put(rt, out, b'Q', body.as_slice())?;
+    assert_same(rt, too_long, Err(FrameError::TooLong));
+    let mut longest = Vec::new(rt.alloc());
+    let body = padded(rt.alloc(), b"", 1_048_572)?;
+    put(rt, &mut longest, b'Q', body.as_slice())??;
+    let expected = padded(rt.alloc(), b"Q\0\x10\0\0", 1_048_577)?;
+    assert!(rt; longest.as_slice() == expected.as_slice());
     Ok(())
 }
 
 #[test]
 fn written(rt: HostRuntime) -> Result<(), Fail> {
     let mut out = [7].to_vec(rt.alloc())?;
-    let body = Body::from_slice(rt.alloc(), b"abc\0")?;
-    put_frame(&Frame { kind: b'Q', body }, &mut out)?;
-    let body = Body::from(Vec::new(rt.alloc()));
-    put_frame(&Frame { kind: b'X', body }, &mut out)?;
+    put(&rt, &mut out, b'Q', b"abc\0")??;
+    put(&rt, &mut out, b'X', b"")??;
     let text = b"\x07Q\0\0\0\x08abc\0X\0\0\0\x04".as_slice();
-    assert_eq!(rt; out.as_slice(), text);
-    let body = Body::from_slice(rt.alloc(), b"abc\0")?;
-    let no_type = Frame { kind: b' ', body };
-    assert_eq!(rt; put_frame(&no_type, &mut out), Err(FrameError::BadType));
-    let body = Body::from(padded(rt.alloc(), b"", 1_048_573)?);
-    let too_long = Frame { kind: b'Q', body };
-    assert_eq!(rt; put_frame(&too_long, &mut out), Err(FrameError::TooLong));
-    assert_eq!(rt; out.as_slice(), text);
-    let body = Body::from(padded(rt.alloc(), b"", 1_048_572)?);
-    let mut longest = Vec::new(rt.alloc());
-    put_frame(&Frame { kind: b'Q', body }, &mut longest)?;
-    let expected = padded(rt.alloc(), b"Q\0\x10\0\0", 1_048_577)?;
-    assert!(rt; longest.as_slice() == expected.as_slice());
+    assert_bytes(&rt, out.as_slice(), text);
+    let no_type = put(&rt, &mut out, b' ', b"abc\0")?;
+    assert_same(&rt, no_type, Err(FrameError::BadType));
+    assert_longest(&rt, &mut out)?;
+    assert_bytes(&rt, out.as_slice(), text);
     Ok(())
 }
 

@@ -1,13 +1,18 @@
 //! The tickets of a link, one after the other, up to as many as may be open.
+use crate::checks::assert_same;
 use quarantine::{Busy, Hold, HoldState, MAX_OPEN_TICKETS};
 
 #[test]
 fn three_tickets(rt: HostRuntime) -> Result<(), Busy> {
     let mut hold = Hold::new();
-    assert_eq!(rt; hold.state(), HoldState::Clear);
+    assert_same(&rt, hold.state(), HoldState::Clear);
     for n in 1..4 {
         hold.open_ticket()?;
-        assert_eq!(rt; (hold.state(), hold.tickets()), (HoldState::Waiting(n), n));
+        assert_same(
+            &rt,
+            (hold.state(), hold.tickets()),
+            (HoldState::Waiting(n), n),
+        );
     }
     for left in [
         HoldState::Waiting(2),
@@ -16,9 +21,9 @@ fn three_tickets(rt: HostRuntime) -> Result<(), Busy> {
     ] {
         assert!(rt; hold.tickets() > 0);
         hold.clean_end();
-        assert_eq!(rt; hold.state(), left);
+        assert_same(&rt, hold.state(), left);
     }
-    assert_eq!(rt; hold, Hold::default());
+    assert_same(&rt, hold, Hold::default());
     Ok(())
 }
 
@@ -28,12 +33,24 @@ fn a_ticket_that_failed(rt: HostRuntime) -> Result<(), Busy> {
     hold.open_ticket()?;
     hold.open_ticket()?;
     hold.fail();
-    assert_eq!(rt; (hold.state(), hold.tickets()), (HoldState::Condemned, 1));
+    assert_same(
+        &rt,
+        (hold.state(), hold.tickets()),
+        (HoldState::Condemned, 1),
+    );
     hold.open_ticket()?;
-    assert_eq!(rt; (hold.state(), hold.tickets()), (HoldState::Condemned, 2));
+    assert_same(
+        &rt,
+        (hold.state(), hold.tickets()),
+        (HoldState::Condemned, 2),
+    );
     hold.clean_end();
     hold.clean_end();
-    assert_eq!(rt; (hold.state(), hold.tickets()), (HoldState::Condemned, 0));
+    assert_same(
+        &rt,
+        (hold.state(), hold.tickets()),
+        (HoldState::Condemned, 0),
+    );
     Ok(())
 }
 
@@ -43,13 +60,13 @@ fn as_many_as_may_be_open(rt: HostRuntime) -> Result<(), Busy> {
     for _ in 0..65_535 {
         hold.open_ticket()?;
     }
-    assert_eq!(rt; hold.tickets(), MAX_OPEN_TICKETS);
+    assert_same(&rt, hold.tickets(), MAX_OPEN_TICKETS);
     let full = hold;
-    assert_eq!(rt; hold.open_ticket(), Err(Busy));
-    assert_eq!(rt; hold, full);
+    assert_same(&rt, hold.open_ticket(), Err(Busy));
+    assert_same(&rt, hold, full);
     assert!(rt; hold.tickets() > 0);
     hold.clean_end();
-    assert_eq!(rt; hold.open_ticket(), Ok(()));
-    assert_eq!(rt; Busy.number(), 31);
+    assert_same(&rt, hold.open_ticket(), Ok(()));
+    assert_same(&rt, Busy.number(), 31);
     Ok(())
 }

@@ -1,4 +1,5 @@
 //! The worked keys, by their bytes.
+use crate::checks::{assert_bytes, assert_same};
 use pg_ids::{
     AnyKey, Boot, ClientKey, DatabaseNo, Hops, Identity, Kind, LinkNo, LongPart, PeerNo, Secret,
     Serial, ServerKey, SlotNo,
@@ -31,13 +32,14 @@ fn worked_keys(rt: HostRuntime) {
 fn ranges(rt: HostRuntime) {
     assert!(rt; PeerNo::new(16384).is_none());
     assert!(rt; Hops::new(4).is_none());
-    assert_eq!(rt; SlotNo(65535).get(), 65535);
-    assert_eq!(rt; LinkNo(9).get(), 9);
-    assert_eq!(rt; DatabaseNo(63).get(), 63);
-    assert_eq!(rt; Secret(4294967295).get(), 4294967295);
-    assert_eq!(rt;
+    assert_same(&rt, SlotNo(65535).get(), 65535);
+    assert_same(&rt, LinkNo(9).get(), 9);
+    assert_same(&rt, DatabaseNo(63).get(), 63);
+    assert_same(&rt, Secret(4294967295).get(), 4294967295);
+    assert_same(
+        &rt,
         ServerKey([1, 2, 3, 4, 5, 6, 7, 8]).to_bytes(),
-        [1, 2, 3, 4, 5, 6, 7, 8]
+        [1, 2, 3, 4, 5, 6, 7, 8],
     );
 }
 
@@ -45,7 +47,7 @@ fn ranges(rt: HostRuntime) {
 fn lowered_keys(rt: HostRuntime) {
     let key = ClientKey::from_bytes([0, 8, 0, 0, 0, 0, 0, 7]);
     let lowered = key.lower().expect(&rt, "three hops");
-    assert_eq!(rt; lowered.to_bytes(), [0, 8, 0, 0, 0, 0, 0, 6]);
+    assert_same(&rt, lowered.to_bytes(), [0, 8, 0, 0, 0, 0, 0, 6]);
     assert!(rt;
         ClientKey::from_bytes([0, 8, 0, 0, 0, 0, 0, 4])
             .lower()
@@ -107,10 +109,10 @@ const fn long_bytes(eighth: u8) -> [u8; 24] {
 fn lowered_long_keys(rt: HostRuntime) {
     let key = AnyKey::from_long_bytes(long_bytes(7));
     let lowered = key.lower().expect(&rt, "three hops");
-    assert_eq!(rt; lowered, AnyKey::from_long_bytes(long_bytes(6)));
+    assert_same(&rt, lowered, AnyKey::from_long_bytes(long_bytes(6)));
     let part = LongPart::new(Boot(1), Serial(515));
-    assert_eq!(rt; key.identity(), Identity::Long(0x2000000000001, part));
-    assert_eq!(rt; lowered.identity(), key.identity());
+    assert_same(&rt, key.identity(), Identity::Long(0x2000000000001, part));
+    assert_same(&rt, lowered.identity(), key.identity());
     assert!(rt; AnyKey::from_long_bytes(long_bytes(4)).lower().is_none());
 }
 
@@ -118,12 +120,12 @@ fn lowered_long_keys(rt: HostRuntime) {
 fn short_keys(rt: HostRuntime) {
     let bytes = [0, 8, 0, 4, 0, 0, 0, 0x17];
     let key = AnyKey::from_short_bytes(bytes);
-    assert_eq!(rt; key, AnyKey::new(ClientKey::from_bytes(bytes), None));
-    assert_eq!(rt; key.to_bytes().as_slice(), bytes.as_slice());
-    assert_eq!(rt; key.kind(), Kind::Short);
-    assert_eq!(rt; (key.peer().get(), key.slot().get()), (2, 1));
+    assert_same(&rt, key, AnyKey::new(ClientKey::from_bytes(bytes), None));
+    assert_bytes(&rt, key.to_bytes().as_slice(), bytes.as_slice());
+    assert_same(&rt, key.kind(), Kind::Short);
+    assert_same(&rt, (key.peer().get(), key.slot().get()), (2, 1));
     assert!(rt; key.long_part().is_none());
-    assert_eq!(rt; key.identity(), Identity::Short(0x2000100000005));
+    assert_same(&rt, key.identity(), Identity::Short(0x2000100000005));
     assert!(rt;
         AnyKey::from_short_bytes([0, 8, 0, 0, 0, 0, 0, 4])
             .lower()

@@ -97,7 +97,7 @@ fn keyed(rt: &(impl Abort + AllocGlobal)) -> Result<LinkLogin, AllocError> {
 }
 
 // The head of a message, and what comes of it, at the start and after a key alike.
-const HEADS: [(u8, usize, Result<LoginHead, LinkError>); 16] = [
+const HEADS: &[(u8, usize, Result<LoginHead, LinkError>)] = &[
     (b'R', 8, Ok(LoginHead::Body(4))),
     (b'R', 9, Ok(LoginHead::Body(4))),
     (b'R', 1_048_576, Ok(LoginHead::Body(4))),
@@ -116,11 +116,21 @@ const HEADS: [(u8, usize, Result<LoginHead, LinkError>); 16] = [
     (b'v', 12, Err(LinkError::OutOfProfile)),
 ];
 
+fn assert_login_head(
+    rt: &impl Abort,
+    login: &mut LinkLogin,
+    kind: u8,
+    length: usize,
+    expected: &Result<LoginHead, LinkError>,
+) {
+    assert_eq!(rt; login.on_head(kind, length), *expected);
+}
+
 #[test]
 fn heads(rt: HostRuntime) -> Result<(), Fail> {
     for (kind, length, expected) in HEADS {
-        assert_eq!(rt; login(rt.alloc())?.on_head(kind, length), expected);
-        assert_eq!(rt; keyed(&rt)?.on_head(kind, length), expected);
+        assert_login_head(&rt, &mut login(rt.alloc())?, *kind, *length, expected);
+        assert_login_head(&rt, &mut keyed(&rt)?, *kind, *length, expected);
     }
     Ok(())
 }

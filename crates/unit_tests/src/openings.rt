@@ -369,7 +369,7 @@ fn replies(rt: HostRuntime) -> Result<(), Fail> {
 }
 
 // The errors of a pooler: condition, code, message.
-const ERRORS: [(ErrorCode, &str, &str); 9] = [
+const ERRORS: &[(ErrorCode, &str, &str)] = &[
     (ErrorCode::ProtocolViolation, "08P01", "protocol violation"),
     (
         ErrorCode::FeatureNotSupported,
@@ -409,8 +409,8 @@ fn refusal_texts(rt: HostRuntime) -> Result<(), Fail> {
 #[test]
 fn error_texts(rt: HostRuntime) {
     for (error, code, message) in ERRORS {
-        assert_eq!(rt; error.code(), code);
-        assert_eq!(rt; error.message(), message);
+        assert_eq!(rt; error.code(), *code);
+        assert_eq!(rt; error.message(), *message);
     }
     assert_eq!(rt; Severity::Error.text(), "ERROR");
     assert_eq!(rt;

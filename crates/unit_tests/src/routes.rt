@@ -1,4 +1,5 @@
 //! Each line of the route, at a pooler of which one client holds a link and one waits.
+use crate::checks::assert_same;
 use cancel_router::{Route, RouteRefusal, Standing, TableView, decide};
 use key_table::KeyTable;
 use pg_ids::{AnyKey, Boot, LinkNo, LongPart, PeerNo, Secret, Serial, SlotNo};
@@ -57,14 +58,16 @@ fn each_line(rt: HostRuntime) -> Result<(), Fail> {
         ([0, 8, 0, 0, 0, 0, 0, 7], Route::Send(LinkNo(9))),
     ] {
         let key = AnyKey::from_short_bytes(bytes);
-        assert_eq!(rt; decide(me, &pooler, &peers, key), route, "at {bytes:?}");
+        let found = decide(me, &pooler, &peers, key);
+        assert_same(&rt, (bytes, found), (bytes, route));
     }
     for (last, lowered) in [(7, 6), (6, 5)] {
         let key = AnyKey::from_short_bytes([0, 4, 0, 0, 0, 0, 0, last]);
         let forward = AnyKey::from_short_bytes([0, 4, 0, 0, 0, 0, 0, lowered]);
-        assert_eq!(rt;
+        assert_same(
+            &rt,
             decide(me, &pooler, &peers, key),
-            Route::Forward(other, forward)
+            Route::Forward(other, forward),
         );
     }
     Ok(())
@@ -76,7 +79,7 @@ fn no_links(rt: HostRuntime) -> Result<(), Fail> {
     let mut keys = KeyTable::new(rt.alloc(), me, 1)?;
     let key = keys.issue(Secret(1), None)?;
     let no_link = Route::Refused(RouteRefusal::NoLink);
-    assert_eq!(rt; decide(me, &keys, &[], key), no_link);
+    assert_same(&rt, decide(me, &keys, &[], key), no_link);
     Ok(())
 }
 
@@ -88,7 +91,7 @@ fn numbers(rt: HostRuntime) {
         (RouteRefusal::NoPeer, 62),
         (RouteRefusal::NoLink, 63),
     ] {
-        assert_eq!(rt; refusal.number(), number);
+        assert_same(&rt, refusal.number(), number);
     }
 }
 
@@ -106,28 +109,34 @@ fn long_keys(rt: HostRuntime) -> Result<(), Fail> {
     let other = PeerNo::new(1).ok_or("no peer 1")?;
     let mut keys = KeyTable::new(rt.alloc(), me, 3)?;
     let part = LongPart::new(Boot(0), Serial(0));
-    assert_eq!(rt; keys.issue(Secret(1), Some(part))?, long_key([0, 8], 7));
+    assert_same(&rt, keys.issue(Secret(1), Some(part))?, long_key([0, 8], 7));
     keys.issue(Secret(1), None)?;
     let home = Pooler { keys };
     let away = KeyTable::new(rt.alloc(), other, 1)?;
 
     // Forwards keep the kind, and lower the eighth byte alone.
     let forward = Route::Forward(me, long_key([0, 8], 6));
-    assert_eq!(rt; decide(other, &away, &[me], long_key([0, 8], 7)), forward);
-    assert_eq!(rt;
+    assert_same(
+        &rt,
+        decide(other, &away, &[me], long_key([0, 8], 7)),
+        forward,
+    );
+    assert_same(
+        &rt,
         decide(me, &home, &[other], long_key([0, 8], 6)),
-        Route::Send(LinkNo(9))
+        Route::Send(LinkNo(9)),
     );
 
     // A short request never finds a long key, nor a long one a short key.
     let unknown = Route::Refused(RouteRefusal::Unknown);
     let short = AnyKey::from_short_bytes([0, 8, 0, 0, 0, 0, 0, 7]);
-    assert_eq!(rt; decide(me, &home, &[other], short), unknown);
+    assert_same(&rt, decide(me, &home, &[other], short), unknown);
     let mut second = [0; 24];
     second[..8].copy_from_slice(&[0, 8, 0, 4, 0, 0, 0, 7]);
-    assert_eq!(rt;
+    assert_same(
+        &rt,
         decide(me, &home, &[other], AnyKey::from_long_bytes(second)),
-        unknown
+        unknown,
     );
     Ok(())
 }

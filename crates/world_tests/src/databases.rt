@@ -1,11 +1,12 @@
 //! A node with two databases on two servers, whose links have one key: a cancel strikes a server
 //! process of its own client's server alone.
-use ini_config::{Group, Settings, read_settings};
+use crate::schedules::{group_of, play};
+use ini_config::{Settings, read_settings};
 use node_core::DatabaseNo;
 use pg_ids::{Kind, PeerNo, Secret, ServerKey};
 use std::alloc::{AllocError, Global};
 use std::test::Fail;
-use world::{ArrivalNo, BackendNo, Bytes, ConnectionNo, Event, FlightNo, Interrupt, Label, run};
+use world::{ArrivalNo, BackendNo, Bytes, ConnectionNo, Event, FlightNo, Interrupt, Label};
 
 const SETTINGS: &str = "[pgbouncer]\npool_mode = transaction\nauth_type = trust\n\
     listen_addr = 127.0.0.1\npeer_id = 2\n\
@@ -15,18 +16,10 @@ const SETTINGS: &str = "[pgbouncer]\npool_mode = transaction\nauth_type = trust\
 
 const KEY: ServerKey = ServerKey([0, 0, 0, 1, 0, 0, 0, 2]);
 
-fn settings(alloc: Global) -> Result<Settings, Fail> {
-    match read_settings(alloc, SETTINGS) {
+// The text is a parameter, since the check would work out what a known text says.
+fn settings(alloc: Global, text: &str) -> Result<Settings, Fail> {
+    match read_settings(alloc, text) {
         Ok(settings) => Ok(settings),
-        Err(fault) => Err(Fail::from(fault)),
-    }
-}
-
-fn group(alloc: Global) -> Result<Group, Fail> {
-    let mut nodes = Vec::new(alloc);
-    nodes.push(settings(alloc)?)?;
-    match Group::check(nodes) {
-        Ok(group) => Ok(group),
         Err(fault) => Err(Fail::from(fault)),
     }
 }
@@ -95,12 +88,10 @@ const STRUCK: [Interrupt; 2] = [
 
 #[test]
 fn each_strikes_its_own_server(rt: HostRuntime) -> Result<(), Fail> {
-    let node = settings(rt.alloc())?.peer_id();
-    let events = schedule(rt.alloc(), node)?;
-    let group = group(rt.alloc())?;
-    let Ok((world, _)) = run(rt.alloc(), group, &events) else {
-        return Err(Fail::from(AllocError));
-    };
-    assert_eq!(rt; world.interrupts(), STRUCK.as_slice());
+    let settings = settings(rt.alloc(), SETTINGS)?;
+    let events = schedule(rt.alloc(), settings.peer_id())?;
+    let group = group_of(vec![in rt.alloc(); settings]?)?;
+    let played = play(rt.alloc(), group, &events)?;
+    assert_eq!(rt; played.interrupts.as_slice(), STRUCK.as_slice());
     Ok(())
 }

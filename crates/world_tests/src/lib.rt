@@ -1,4 +1,4 @@
-//! Tests of whole schedules by public calls alone: scripts are read and run, and their outcomes
+//! Tests of worlds by public calls alone: scripts are read, whole schedules run, and outcomes
 //! written. They have a crate of their own, since a crate with tests is proved twice: without them
 //! and with them.
 #![tactic(auto)]
@@ -6,4 +6,8 @@
 #[cfg(test)]
 mod databases;
 #[cfg(test)]
+mod outcomes;
+#[cfg(test)]
 mod schedules;
+#[cfg(test)]
+mod scripts;

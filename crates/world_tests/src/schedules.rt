@@ -1,342 +1,250 @@
 //! Worked schedules, each with its outcome to the byte; they are the scripts of the examples.
-use ini_config::Group;
+use crate::scripts::script_of;
+use ini_config::{Group, Settings};
 use std::alloc::{AllocError, Global};
 use std::process::Abort;
 use std::test::Fail;
-use world::run;
-use world_script::{ScriptError, read_script, write_outcome};
+use world::{Event, Interrupt, Took, run};
+use world_script::{Script, write_outcome};
 
-// The outcome of a script's schedule. Out of memory is returned as `AllocError`.
-fn outcome_of(alloc: Global, text: &str) -> Result<Vec<u8>, Fail> {
-    let script = match read_script(alloc, text) {
-        Ok(script) => script,
-        Err(ScriptError::Memory) => return Err(Fail::from(AllocError)),
-        Err(fault) => return Err(Fail::from(fault)),
-    };
-    let group = match Group::check(script.nodes) {
-        Ok(group) => group,
-        Err(fault) => return Err(Fail::from(fault)),
-    };
-    let Ok((world, took)) = run(alloc, group, &script.events) else {
+// What events brought about: what each took, and whom they interrupted.
+#[derive(Drop)]
+pub struct Played {
+    pub took: Vec<Took>,
+    pub interrupts: Vec<Interrupt>,
+}
+
+// What these events bring about in this group. Out of memory is returned as `AllocError`. Only here
+// a world is owned, and dropped.
+pub(crate) fn play(alloc: Global, group: Group, events: &[Event]) -> Result<Played, Fail> {
+    let Ok((world, took)) = run(alloc, group, events) else {
         return Err(Fail::from(AllocError));
     };
+    let mut interrupts = Vec::new(alloc);
+    interrupts.extend_from_slice(world.interrupts())?;
+    Ok(Played { took, interrupts })
+}
+
+// The outcome of a script's schedule.
+fn outcome_of(alloc: Global, text: &str) -> Result<Vec<u8>, Fail> {
+    let Script { nodes, events } = script_of(alloc, text)?;
+    let played = play(alloc, group_of(nodes)?, &events)?;
+    text_of(alloc, &played)
+}
+
+pub(crate) fn group_of(nodes: Vec<Settings>) -> Result<Group, Fail> {
+    match Group::check(nodes) {
+        Ok(group) => Ok(group),
+        Err(fault) => Err(Fail::from(fault)),
+    }
+}
+
+fn text_of(alloc: Global, played: &Played) -> Result<Vec<u8>, Fail> {
     let mut text = Vec::new(alloc);
-    write_outcome(&took, world.interrupts(), &mut text)?;
+    write_outcome(&played.took, &played.interrupts, &mut text)?;
     Ok(text)
 }
 
-#[track_caller]
-fn expect_outcome(
-    rt: &(impl Abort + Alloc<A = Global>),
-    script: &str,
-    outcome: &str,
-) -> Result<(), Fail> {
-    let found = outcome_of(rt.alloc(), script)?;
-    assert_eq!(rt; found.as_slice(), outcome.as_bytes(), "{script:?}");
+// A script, and the outcome of its schedule.
+struct Schedule {
+    name: &'static str,
+    script: &'static str,
+    outcome: &'static str,
+}
+
+#[test]
+fn schedules(rt: HostRuntime) -> Result<(), Fail> {
+    for schedule in &SCHEDULES {
+        expect_outcome(&rt, schedule)?;
+    }
     Ok(())
 }
 
-// A cancel is on its way when its query ends and its client gives the link back: the link
-// is quarantined until the server has ended the cancel, so the next client is not struck.
-#[test]
-fn late_cancel_is_quarantined(rt: HostRuntime) -> Result<(), Fail> {
-    expect_outcome(
-        &rt,
-        SCRIPT_LATE_CANCEL_IS_QUARANTINED,
-        OUTCOME_LATE_CANCEL_IS_QUARANTINED,
-    )
+fn expect_outcome(rt: &(impl Abort + Alloc<A = Global>), schedule: &Schedule) -> Result<(), Fail> {
+    let found = outcome_of(rt.alloc(), schedule.script)?;
+    assert_eq!(rt;
+        found.as_slice(),
+        schedule.outcome.as_bytes(),
+        "{}",
+        schedule.name
+    );
+    Ok(())
 }
 
-const SCRIPT_LATE_CANCEL_IS_QUARANTINED: &str =
-    "node 2 1 2\nlogin 2 10 1\nlogin 2 11 5\nacquire 10\nup 10 0000000100000002\n\
-    send 10\ntake 0\nput 0000001004d2162e0008000000000007\ndeliver 0 2\nfinish 0\n\
-    ready 10\nrelease 10\nacquire 11\nact 0\nend 0\ntold 0\nacquire 11\n";
-
-const OUTCOME_LATE_CANCEL_IS_QUARANTINED: &str =
-    "1 key 0008000000000007\n2 key 0008000400000017\n3 open\n4 lease 0\n5 ok\n6 ok\n\
-    7 flight 0\n8 serve 0 0\n9 ok\n10 ok\n11 quarantined\n12 waiting\n13 nothing\n\
-    14 ok\n15 freed\n16 got 0\nevents 16 skipped 0 interrupts 0\n";
-
-// A cancel connection breaks, and the server may act on it later: the link is condemned and
-// closed, and the next client gets another one.
-#[test]
-fn broken_cancel_condemns(rt: HostRuntime) -> Result<(), Fail> {
-    expect_outcome(
-        &rt,
-        SCRIPT_BROKEN_CANCEL_CONDEMNS,
-        OUTCOME_BROKEN_CANCEL_CONDEMNS,
-    )
-}
-
-const SCRIPT_BROKEN_CANCEL_CONDEMNS: &str =
-    "node 2 1 2\nlogin 2 10 1\nlogin 2 11 5\nacquire 10\nup 10 0000000100000002\n\
-    put 0000001004d2162e0008000000000007\ndeliver 0 2\nbroken 0\nrelease 10\n\
-    acquire 11\nup 11 0000000300000004\nsend 11\ntake 1\nact 0\n";
-
-const OUTCOME_BROKEN_CANCEL_CONDEMNS: &str =
-    "1 key 0008000000000007\n2 key 0008000400000017\n3 open\n4 lease 0\n5 flight 0\n\
-    6 serve 0 0\n7 condemned\n8 closed\n9 open\n10 lease 1\n11 ok\n12 ok\n13 nothing\n\
-    events 13 skipped 0 interrupts 0\n";
-
-// A node starts anew while a cancel is on its way: its ticket and the lease are stale, and the
-// old key finds nobody.
-#[test]
-fn restart_makes_stale(rt: HostRuntime) -> Result<(), Fail> {
-    expect_outcome(&rt, SCRIPT_RESTART_MAKES_STALE, OUTCOME_RESTART_MAKES_STALE)
-}
-
-const SCRIPT_RESTART_MAKES_STALE: &str =
-    "node 2 1 2\nlogin 2 10 1\nacquire 10\nup 10 0000000100000002\n\
-    put 0000001004d2162e0008000000000007\ndeliver 0 2\nrestart 2\nact 0\nend 0\ntold 0\n\
-    release 10\nlogin 2 11 9\ndeliver 0 2\n";
-
-const OUTCOME_RESTART_MAKES_STALE: &str =
-    "1 key 0008000000000007\n2 open\n3 lease 0\n4 flight 0\n5 serve 0 0\n6 ok\n\
-    7 nothing\n8 ok\n9 stale\n10 stale\n11 key 0008000000000027\n12 refused 1 61\n\
-    events 12 skipped 0 interrupts 0\n";
-
-// Three cancels for one link: it is free only once the last of them has ended.
-#[test]
-fn each_ticket_counts(rt: HostRuntime) -> Result<(), Fail> {
-    expect_outcome(&rt, SCRIPT_EACH_TICKET_COUNTS, OUTCOME_EACH_TICKET_COUNTS)
-}
-
-const SCRIPT_EACH_TICKET_COUNTS: &str =
-    "node 2 1 2\nlogin 2 10 1\nacquire 10\nup 10 0000000100000002\n\
-    put 0000001004d2162e0008000000000007\ndeliver 0 2\ndeliver 0 2\ndeliver 0 2\n\
-    release 10\nact 0\nact 1\nact 2\nend 0\nend 1\nend 2\ntold 0\ntold 1\ntold 2\n";
-
-const OUTCOME_EACH_TICKET_COUNTS: &str =
-    "1 key 0008000000000007\n2 open\n3 lease 0\n4 flight 0\n5 serve 0 0\n6 serve 1 1\n\
-    7 serve 2 2\n8 quarantined\n9 nothing\n10 nothing\n11 nothing\n12 ok\n13 ok\n14 ok\n\
-    15 counted\n16 counted\n17 freed\nevents 17 skipped 0 interrupts 0\n";
-
-// A cancel that comes before its client is logged in is refused. The same bytes, delivered again
-// while the client runs a query, strike it.
-#[test]
-fn own_query_is_struck(rt: HostRuntime) -> Result<(), Fail> {
-    expect_outcome(&rt, SCRIPT_OWN_QUERY_IS_STRUCK, OUTCOME_OWN_QUERY_IS_STRUCK)
-}
-
-const SCRIPT_OWN_QUERY_IS_STRUCK: &str =
-    "node 2 1 2\nput 0000001004d2162e0008000000000007\ndeliver 0 2\nlogin 2 10 1\n\
-    acquire 10\nup 10 0000000100000002\nsend 10\ntake 0\ndeliver 0 2\nact 0\n";
-
-const OUTCOME_OWN_QUERY_IS_STRUCK: &str =
-    "1 flight 0\n2 refused 0 61\n3 key 0008000000000007\n4 open\n5 lease 0\n6 ok\n7 ok\n\
-    8 serve 1 0\n9 struck 0 10\ninterrupt 0 10 1\nevents 9 skipped 0 interrupts 1\n";
-
-// A cancel that no node can serve is forwarded twice, and no more.
-#[test]
-fn hops_run_out(rt: HostRuntime) -> Result<(), Fail> {
-    expect_outcome(&rt, SCRIPT_HOPS_RUN_OUT, OUTCOME_HOPS_RUN_OUT)
-}
-
-const SCRIPT_HOPS_RUN_OUT: &str =
-    "node 1 1 1\nnode 2 1 1\nnode 3 1 1\nput 0000001004d2162e0008000000000007\n\
-    deliver 0 1\ndeliver 1 3\ndeliver 2 1\n";
-
-const OUTCOME_HOPS_RUN_OUT: &str = "1 flight 0\n2 forward 0 1\n3 forward 1 2\n4 refused 2 60\n\
-    events 4 skipped 0 interrupts 0\n";
-
-// Nothing happens.
-#[test]
-fn nothing(rt: HostRuntime) -> Result<(), Fail> {
-    expect_outcome(&rt, SCRIPT_NOTHING, OUTCOME_NOTHING)
-}
-
-const SCRIPT_NOTHING: &str = "";
-
-const OUTCOME_NOTHING: &str = "events 0 skipped 0 interrupts 0\n";
-
-// A client may not give back a link while one of its requests is outstanding.
-#[test]
-fn outstanding_request(rt: HostRuntime) -> Result<(), Fail> {
-    expect_outcome(&rt, SCRIPT_OUTSTANDING_REQUEST, OUTCOME_OUTSTANDING_REQUEST)
-}
-
-const SCRIPT_OUTSTANDING_REQUEST: &str =
-    "node 2 1 2\nlogin 2 10 1\nacquire 10\nup 10 0000000100000002\nsend 10\nrelease 10\n";
-
-const OUTCOME_OUTSTANDING_REQUEST: &str =
-    "1 key 0008000000000007\n2 open\n3 lease 0\n4 ok\n5 skipped\n\
-    events 5 skipped 1 interrupts 0\n";
-
-// A node gives no key twice: a client that would get one given before does not log in.
-#[test]
-fn no_key_twice(rt: HostRuntime) -> Result<(), Fail> {
-    expect_outcome(&rt, SCRIPT_NO_KEY_TWICE, OUTCOME_NO_KEY_TWICE)
-}
-
-const SCRIPT_NO_KEY_TWICE: &str =
-    "node 2 1 1\nlogin 2 10 1\nlogin 2 11 5\nleave 10\nlogin 2 11 1\nlogin 2 11 2\n";
-
-const OUTCOME_NO_KEY_TWICE: &str =
-    "1 key 0008000000000007\n2 refused 30\n3 left\n4 skipped\n5 key 000800000000000b\n\
-    events 5 skipped 1 interrupts 0\n";
-
-// Bytes that are no CancelRequest, and a node that is not there.
-#[test]
-fn empty_flight(rt: HostRuntime) -> Result<(), Fail> {
-    expect_outcome(&rt, SCRIPT_EMPTY_FLIGHT, OUTCOME_EMPTY_FLIGHT)
-}
-
-const SCRIPT_EMPTY_FLIGHT: &str = "node 2 1 1\nput -\ndeliver 0 2\ndeliver 0 3\n";
-
-const OUTCOME_EMPTY_FLIGHT: &str =
-    "1 flight 0\n2 no-cancel\n3 skipped\nevents 3 skipped 1 interrupts 0\n";
-
-// A client that waits for a link is cancelled: it is told so once, and may ask again.
-#[test]
-fn waiting_client_is_cancelled(rt: HostRuntime) -> Result<(), Fail> {
-    expect_outcome(
-        &rt,
-        SCRIPT_WAITING_CLIENT_IS_CANCELLED,
-        OUTCOME_WAITING_CLIENT_IS_CANCELLED,
-    )
-}
-
-const SCRIPT_WAITING_CLIENT_IS_CANCELLED: &str =
-    "node 2 1 2\nlogin 2 10 1\nlogin 2 11 5\nacquire 10\nup 10 0000000100000002\n\
-    acquire 11\nput 0000001004d2162e0008000400000017\ndeliver 0 2\ndeliver 0 2\n\
-    acquire 11\nacquire 11\ndeliver 0 2\n";
-
-const OUTCOME_WAITING_CLIENT_IS_CANCELLED: &str =
-    "1 key 0008000000000007\n2 key 0008000400000017\n3 open\n4 lease 0\n5 waiting\n\
-    6 flight 0\n7 unwait 0\n8 refused 1 63\n9 cancelled\n10 waiting\n11 unwait 2\n\
-    events 11 skipped 0 interrupts 0\n";
-
-// A node starts anew while a client opens a link: the link is nobody's.
-#[test]
-fn restart_while_opening(rt: HostRuntime) -> Result<(), Fail> {
-    expect_outcome(
-        &rt,
-        SCRIPT_RESTART_WHILE_OPENING,
-        OUTCOME_RESTART_WHILE_OPENING,
-    )
-}
-
-const SCRIPT_RESTART_WHILE_OPENING: &str =
-    "node 2 1 2\nlogin 2 10 1\nacquire 10\nrestart 2\nup 10 0000000100000002\ntake 0\n\
-    acquire 10\nleave 10\n";
-
-const OUTCOME_RESTART_WHILE_OPENING: &str =
-    "1 key 0008000000000007\n2 open\n3 ok\n4 stale\n5 skipped\n6 stale\n7 stale\n\
-    events 7 skipped 1 interrupts 0\n";
-
-// A client takes back its own quarantined link, also where others wait. A late cancel strikes its
-// own next query: it is the client who asked.
-#[test]
-fn own_link_taken_back(rt: HostRuntime) -> Result<(), Fail> {
-    expect_outcome(&rt, SCRIPT_OWN_LINK_TAKEN_BACK, OUTCOME_OWN_LINK_TAKEN_BACK)
-}
-
-const SCRIPT_OWN_LINK_TAKEN_BACK: &str =
-    "node 2 1 2\nlogin 2 10 1\nlogin 2 11 5\nacquire 10\nup 10 0000000100000002\n\
-    put 0000001004d2162e0008000000000007\ndeliver 0 2\nrelease 10\nacquire 11\n\
-    acquire 10\nsend 10\ntake 0\nact 0\n";
-
-const OUTCOME_OWN_LINK_TAKEN_BACK: &str =
-    "1 key 0008000000000007\n2 key 0008000400000017\n3 open\n4 lease 0\n5 flight 0\n\
-    6 serve 0 0\n7 quarantined\n8 waiting\n9 got 0\n10 ok\n11 ok\n12 struck 0 10\n\
-    interrupt 0 10 0\nevents 12 skipped 0 interrupts 1\n";
-
-// The next client of the same slot does not get the quarantined link of the one before.
-#[test]
-fn next_client_of_a_slot(rt: HostRuntime) -> Result<(), Fail> {
-    expect_outcome(
-        &rt,
-        SCRIPT_NEXT_CLIENT_OF_A_SLOT,
-        OUTCOME_NEXT_CLIENT_OF_A_SLOT,
-    )
-}
-
-const SCRIPT_NEXT_CLIENT_OF_A_SLOT: &str =
-    "node 2 1 1\nlogin 2 10 1\nacquire 10\nup 10 0000000100000002\n\
-    put 0000001004d2162e0008000000000007\ndeliver 0 2\nrelease 10\nleave 10\n\
-    login 2 12 9\nacquire 12\nact 0\nend 0\ntold 0\nacquire 12\n";
-
-const OUTCOME_NEXT_CLIENT_OF_A_SLOT: &str =
-    "1 key 0008000000000007\n2 open\n3 lease 0\n4 flight 0\n5 serve 0 0\n6 quarantined\n\
-    7 left\n8 key 0008000000000027\n9 waiting\n10 nothing\n11 ok\n12 freed\n13 got 0\n\
-    events 13 skipped 0 interrupts 0\n";
-
-// Longer keys have a boot and a serial, so the secret may come again. A short request never finds
-// a long key.
-#[test]
-fn longer_keys(rt: HostRuntime) -> Result<(), Fail> {
-    expect_outcome(&rt, SCRIPT_LONGER_KEYS, OUTCOME_LONGER_KEYS)
-}
-
-const SCRIPT_LONGER_KEYS: &str =
-    "node 2 1 1\nlogin32 2 10 1\nleave 10\nlogin32 2 11 1\nrestart 2\nlogin32 2 12 1\n\
-    restart 2 1\nlogin 2 13 1\nput 0000001004d2162e0008000000000007\ndeliver 0 2\n";
-
-const OUTCOME_LONGER_KEYS: &str = "1 key 000800000000000700000000000000000000000000000000\n2 left\n\
-    3 key 000800000000000700000000000000000000000000000001\n4 ok\n\
-    5 key 000800000000000700000000000000010000000000000000\n6 skipped\n7 refused 30\n\
-    8 flight 0\n9 refused 0 61\nevents 9 skipped 1 interrupts 0\n";
-
-// A forwarded cancel is settled once its server connection has ended: only then may the
-// node that forwarded it be told so.
-#[test]
-fn clean_forward_is_settled(rt: HostRuntime) -> Result<(), Fail> {
-    expect_outcome(
-        &rt,
-        SCRIPT_CLEAN_FORWARD_IS_SETTLED,
-        OUTCOME_CLEAN_FORWARD_IS_SETTLED,
-    )
-}
-
-const SCRIPT_CLEAN_FORWARD_IS_SETTLED: &str =
-    "node 1 1 1\nnode 2 1 1\nlogin 2 10 1\nacquire 10\nup 10 0000000100000002\n\
-    put 0000001004d2162e0008000000000007\ndeliver 0 1\naccept 1 2\nfend 1\nact 0\n\
-    end 0\ntold 0\nfend 1\nftold 1\n";
-
-const OUTCOME_CLEAN_FORWARD_IS_SETTLED: &str =
-    "1 key 0008000000000007\n2 open\n3 lease 0\n4 flight 0\n5 forward 0 1\n6 serve 1 0\n\
-    7 skipped\n8 nothing\n9 ok\n10 counted\n11 ok\n12 ok\n\
-    events 12 skipped 1 interrupts 0\n";
-
-// A forward connection that breaks says nothing of its cancel, which may still strike.
-#[test]
-fn broken_forward_is_not_settled(rt: HostRuntime) -> Result<(), Fail> {
-    expect_outcome(
-        &rt,
-        SCRIPT_BROKEN_FORWARD_IS_NOT_SETTLED,
-        OUTCOME_BROKEN_FORWARD_IS_NOT_SETTLED,
-    )
-}
-
-const SCRIPT_BROKEN_FORWARD_IS_NOT_SETTLED: &str =
-    "node 1 1 1\nnode 2 1 1\nlogin 2 10 1\nacquire 10\nup 10 0000000100000002\n\
-    put 0000001004d2162e0008000000000007\ndeliver 0 1\naccept 1 2\nfbroken 1\nsend 10\n\
-    take 0\nact 0\n";
-
-const OUTCOME_BROKEN_FORWARD_IS_NOT_SETTLED: &str =
-    "1 key 0008000000000007\n2 open\n3 lease 0\n4 flight 0\n5 forward 0 1\n6 serve 1 0\n\
-    7 ok\n8 ok\n9 ok\n10 struck 0 10\ninterrupt 0 10 1\n\
-    events 10 skipped 0 interrupts 1\n";
-
-// The race that strikes the wrong client in a plain pooler. Ann (10) runs a query and cancels it.
-// The cancel comes to the wrong pooler (1), which forwards it to hers (2), where it is sent on to
-// the server. Meanwhile the query has ended, and Ann gives the link back. A plain pooler would give
-// it to Bob (11) now; the cancel, which names the server process and not the client, would strike
-// his query. Here the link is quarantined. Bob waits until the server has ended the cancel, which
-// found nothing to interrupt; then he gets the link, and his query runs to its end.
-#[test]
-fn the_race(rt: HostRuntime) -> Result<(), Fail> {
-    expect_outcome(&rt, SCRIPT_THE_RACE, OUTCOME_THE_RACE)
-}
-
-const SCRIPT_THE_RACE: &str = "node 1 1 1\nnode 2 1 2\nlogin 2 10 1\nlogin 2 11 5\nacquire 10\n\
-    up 10 0000000100000002\nsend 10\ntake 0\nput 0000001004d2162e0008000000000007\n\
-    deliver 0 1\naccept 1 2\nfinish 0\nready 10\nrelease 10\nacquire 11\nact 0\nend 0\n\
-    told 0\nfend 1\nftold 1\nacquire 11\nsend 11\ntake 0\nfinish 0\nready 11\n\
-    release 11\n";
-
-const OUTCOME_THE_RACE: &str =
-    "1 key 0008000000000007\n2 key 0008000400000017\n3 open\n4 lease 0\n5 ok\n6 ok\n\
-    7 flight 0\n8 forward 0 1\n9 serve 1 0\n10 ok\n11 ok\n12 quarantined\n13 waiting\n\
-    14 nothing\n15 ok\n16 freed\n17 ok\n18 ok\n19 got 0\n20 ok\n21 ok\n22 ok\n23 ok\n\
-    24 idle\nevents 24 skipped 0 interrupts 0\n";
+const SCHEDULES: [Schedule; 18] = [
+    // A cancel is on its way when its query ends and its client gives the link back: the link
+    // is quarantined until the server has ended the cancel, so the next client is not struck.
+    Schedule {
+        name: "late_cancel_is_quarantined",
+        script: "node 2 1 2\nlogin 2 10 1\nlogin 2 11 5\nacquire 10\nup 10 0000000100000002\n\
+            send 10\ntake 0\nput 0000001004d2162e0008000000000007\ndeliver 0 2\nfinish 0\n\
+            ready 10\nrelease 10\nacquire 11\nact 0\nend 0\ntold 0\nacquire 11\n",
+        outcome: "1 key 0008000000000007\n2 key 0008000400000017\n3 open\n4 lease 0\n5 ok\n6 ok\n\
+            7 flight 0\n8 serve 0 0\n9 ok\n10 ok\n11 quarantined\n12 waiting\n13 nothing\n\
+            14 ok\n15 freed\n16 got 0\nevents 16 skipped 0 interrupts 0\n",
+    },
+    // A cancel connection breaks, and the server may act on it later: the link is condemned and
+    // closed, and the next client gets another one.
+    Schedule {
+        name: "broken_cancel_condemns",
+        script: "node 2 1 2\nlogin 2 10 1\nlogin 2 11 5\nacquire 10\nup 10 0000000100000002\n\
+            put 0000001004d2162e0008000000000007\ndeliver 0 2\nbroken 0\nrelease 10\n\
+            acquire 11\nup 11 0000000300000004\nsend 11\ntake 1\nact 0\n",
+        outcome: "1 key 0008000000000007\n2 key 0008000400000017\n3 open\n4 lease 0\n5 flight 0\n\
+            6 serve 0 0\n7 condemned\n8 closed\n9 open\n10 lease 1\n11 ok\n12 ok\n13 nothing\n\
+            events 13 skipped 0 interrupts 0\n",
+    },
+    // A node starts anew while a cancel is on its way: its ticket and the lease are stale, and the
+    // old key finds nobody.
+    Schedule {
+        name: "restart_makes_stale",
+        script: "node 2 1 2\nlogin 2 10 1\nacquire 10\nup 10 0000000100000002\n\
+            put 0000001004d2162e0008000000000007\ndeliver 0 2\nrestart 2\nact 0\nend 0\ntold 0\n\
+            release 10\nlogin 2 11 9\ndeliver 0 2\n",
+        outcome: "1 key 0008000000000007\n2 open\n3 lease 0\n4 flight 0\n5 serve 0 0\n6 ok\n\
+            7 nothing\n8 ok\n9 stale\n10 stale\n11 key 0008000000000027\n12 refused 1 61\n\
+            events 12 skipped 0 interrupts 0\n",
+    },
+    // Three cancels for one link: it is free only once the last of them has ended.
+    Schedule {
+        name: "each_ticket_counts",
+        script: "node 2 1 2\nlogin 2 10 1\nacquire 10\nup 10 0000000100000002\n\
+            put 0000001004d2162e0008000000000007\ndeliver 0 2\ndeliver 0 2\ndeliver 0 2\n\
+            release 10\nact 0\nact 1\nact 2\nend 0\nend 1\nend 2\ntold 0\ntold 1\ntold 2\n",
+        outcome: "1 key 0008000000000007\n2 open\n3 lease 0\n4 flight 0\n5 serve 0 0\n6 serve 1 1\n\
+            7 serve 2 2\n8 quarantined\n9 nothing\n10 nothing\n11 nothing\n12 ok\n13 ok\n14 ok\n\
+            15 counted\n16 counted\n17 freed\nevents 17 skipped 0 interrupts 0\n",
+    },
+    // A cancel that comes before its client is logged in is refused. The same bytes, delivered again
+    // while the client runs a query, strike it.
+    Schedule {
+        name: "own_query_is_struck",
+        script: "node 2 1 2\nput 0000001004d2162e0008000000000007\ndeliver 0 2\nlogin 2 10 1\n\
+            acquire 10\nup 10 0000000100000002\nsend 10\ntake 0\ndeliver 0 2\nact 0\n",
+        outcome: "1 flight 0\n2 refused 0 61\n3 key 0008000000000007\n4 open\n5 lease 0\n6 ok\n7 ok\n\
+            8 serve 1 0\n9 struck 0 10\ninterrupt 0 10 1\nevents 9 skipped 0 interrupts 1\n",
+    },
+    // A cancel that no node can serve is forwarded twice, and no more.
+    Schedule {
+        name: "hops_run_out",
+        script: "node 1 1 1\nnode 2 1 1\nnode 3 1 1\nput 0000001004d2162e0008000000000007\n\
+            deliver 0 1\ndeliver 1 3\ndeliver 2 1\n",
+        outcome: "1 flight 0\n2 forward 0 1\n3 forward 1 2\n4 refused 2 60\n\
+            events 4 skipped 0 interrupts 0\n",
+    },
+    // Nothing happens.
+    Schedule {
+        name: "nothing",
+        script: "",
+        outcome: "events 0 skipped 0 interrupts 0\n",
+    },
+    // A client may not give back a link while one of its requests is outstanding.
+    Schedule {
+        name: "outstanding_request",
+        script: "node 2 1 2\nlogin 2 10 1\nacquire 10\nup 10 0000000100000002\nsend 10\nrelease 10\n",
+        outcome: "1 key 0008000000000007\n2 open\n3 lease 0\n4 ok\n5 skipped\n\
+            events 5 skipped 1 interrupts 0\n",
+    },
+    // A node gives no key twice: a client that would get one given before does not log in.
+    Schedule {
+        name: "no_key_twice",
+        script: "node 2 1 1\nlogin 2 10 1\nlogin 2 11 5\nleave 10\nlogin 2 11 1\nlogin 2 11 2\n",
+        outcome: "1 key 0008000000000007\n2 refused 30\n3 left\n4 skipped\n5 key 000800000000000b\n\
+            events 5 skipped 1 interrupts 0\n",
+    },
+    // Bytes that are no CancelRequest, and a node that is not there.
+    Schedule {
+        name: "empty_flight",
+        script: "node 2 1 1\nput -\ndeliver 0 2\ndeliver 0 3\n",
+        outcome: "1 flight 0\n2 no-cancel\n3 skipped\nevents 3 skipped 1 interrupts 0\n",
+    },
+    // A client that waits for a link is cancelled: it is told so once, and may ask again.
+    Schedule {
+        name: "waiting_client_is_cancelled",
+        script: "node 2 1 2\nlogin 2 10 1\nlogin 2 11 5\nacquire 10\nup 10 0000000100000002\n\
+            acquire 11\nput 0000001004d2162e0008000400000017\ndeliver 0 2\ndeliver 0 2\n\
+            acquire 11\nacquire 11\ndeliver 0 2\n",
+        outcome: "1 key 0008000000000007\n2 key 0008000400000017\n3 open\n4 lease 0\n5 waiting\n\
+            6 flight 0\n7 unwait 0\n8 refused 1 63\n9 cancelled\n10 waiting\n11 unwait 2\n\
+            events 11 skipped 0 interrupts 0\n",
+    },
+    // A node starts anew while a client opens a link: the link is nobody's.
+    Schedule {
+        name: "restart_while_opening",
+        script: "node 2 1 2\nlogin 2 10 1\nacquire 10\nrestart 2\nup 10 0000000100000002\ntake 0\n\
+            acquire 10\nleave 10\n",
+        outcome: "1 key 0008000000000007\n2 open\n3 ok\n4 stale\n5 skipped\n6 stale\n7 stale\n\
+            events 7 skipped 1 interrupts 0\n",
+    },
+    // A client takes back its own quarantined link, also where others wait. A late cancel strikes its
+    // own next query: it is the client who asked.
+    Schedule {
+        name: "own_link_taken_back",
+        script: "node 2 1 2\nlogin 2 10 1\nlogin 2 11 5\nacquire 10\nup 10 0000000100000002\n\
+            put 0000001004d2162e0008000000000007\ndeliver 0 2\nrelease 10\nacquire 11\n\
+            acquire 10\nsend 10\ntake 0\nact 0\n",
+        outcome: "1 key 0008000000000007\n2 key 0008000400000017\n3 open\n4 lease 0\n5 flight 0\n\
+            6 serve 0 0\n7 quarantined\n8 waiting\n9 got 0\n10 ok\n11 ok\n12 struck 0 10\n\
+            interrupt 0 10 0\nevents 12 skipped 0 interrupts 1\n",
+    },
+    // The next client of the same slot does not get the quarantined link of the one before.
+    Schedule {
+        name: "next_client_of_a_slot",
+        script: "node 2 1 1\nlogin 2 10 1\nacquire 10\nup 10 0000000100000002\n\
+            put 0000001004d2162e0008000000000007\ndeliver 0 2\nrelease 10\nleave 10\n\
+            login 2 12 9\nacquire 12\nact 0\nend 0\ntold 0\nacquire 12\n",
+        outcome: "1 key 0008000000000007\n2 open\n3 lease 0\n4 flight 0\n5 serve 0 0\n6 quarantined\n\
+            7 left\n8 key 0008000000000027\n9 waiting\n10 nothing\n11 ok\n12 freed\n13 got 0\n\
+            events 13 skipped 0 interrupts 0\n",
+    },
+    // Longer keys have a boot and a serial, so the secret may come again. A short request never finds
+    // a long key.
+    Schedule {
+        name: "longer_keys",
+        script: "node 2 1 1\nlogin32 2 10 1\nleave 10\nlogin32 2 11 1\nrestart 2\nlogin32 2 12 1\n\
+            restart 2 1\nlogin 2 13 1\nput 0000001004d2162e0008000000000007\ndeliver 0 2\n",
+        outcome: "1 key 000800000000000700000000000000000000000000000000\n2 left\n\
+            3 key 000800000000000700000000000000000000000000000001\n4 ok\n\
+            5 key 000800000000000700000000000000010000000000000000\n6 skipped\n7 refused 30\n\
+            8 flight 0\n9 refused 0 61\nevents 9 skipped 1 interrupts 0\n",
+    },
+    // A forwarded cancel is settled once its server connection has ended: only then may the
+    // node that forwarded it be told so.
+    Schedule {
+        name: "clean_forward_is_settled",
+        script: "node 1 1 1\nnode 2 1 1\nlogin 2 10 1\nacquire 10\nup 10 0000000100000002\n\
+            put 0000001004d2162e0008000000000007\ndeliver 0 1\naccept 1 2\nfend 1\nact 0\n\
+            end 0\ntold 0\nfend 1\nftold 1\n",
+        outcome: "1 key 0008000000000007\n2 open\n3 lease 0\n4 flight 0\n5 forward 0 1\n6 serve 1 0\n\
+            7 skipped\n8 nothing\n9 ok\n10 counted\n11 ok\n12 ok\n\
+            events 12 skipped 1 interrupts 0\n",
+    },
+    // A forward connection that breaks says nothing of its cancel, which may still strike.
+    Schedule {
+        name: "broken_forward_is_not_settled",
+        script: "node 1 1 1\nnode 2 1 1\nlogin 2 10 1\nacquire 10\nup 10 0000000100000002\n\
+            put 0000001004d2162e0008000000000007\ndeliver 0 1\naccept 1 2\nfbroken 1\nsend 10\n\
+            take 0\nact 0\n",
+        outcome: "1 key 0008000000000007\n2 open\n3 lease 0\n4 flight 0\n5 forward 0 1\n6 serve 1 0\n\
+            7 ok\n8 ok\n9 ok\n10 struck 0 10\ninterrupt 0 10 1\n\
+            events 10 skipped 0 interrupts 1\n",
+    },
+    // The race that strikes the wrong client in a plain pooler. Ann (10) runs a query and cancels it.
+    // The cancel comes to the wrong pooler (1), which forwards it to hers (2), where it is sent on to
+    // the server. Meanwhile the query has ended, and Ann gives the link back. A plain pooler would give
+    // it to Bob (11) now; the cancel, which names the server process and not the client, would strike
+    // his query. Here the link is quarantined. Bob waits until the server has ended the cancel, which
+    // found nothing to interrupt; then he gets the link, and his query runs to its end.
+    Schedule {
+        name: "the_race",
+        script: "node 1 1 1\nnode 2 1 2\nlogin 2 10 1\nlogin 2 11 5\nacquire 10\n\
+            up 10 0000000100000002\nsend 10\ntake 0\nput 0000001004d2162e0008000000000007\n\
+            deliver 0 1\naccept 1 2\nfinish 0\nready 10\nrelease 10\nacquire 11\nact 0\nend 0\n\
+            told 0\nfend 1\nftold 1\nacquire 11\nsend 11\ntake 0\nfinish 0\nready 11\n\
+            release 11\n",
+        outcome: "1 key 0008000000000007\n2 key 0008000400000017\n3 open\n4 lease 0\n5 ok\n6 ok\n\
+            7 flight 0\n8 forward 0 1\n9 serve 1 0\n10 ok\n11 ok\n12 quarantined\n13 waiting\n\
+            14 nothing\n15 ok\n16 freed\n17 ok\n18 ok\n19 got 0\n20 ok\n21 ok\n22 ok\n23 ok\n\
+            24 idle\nevents 24 skipped 0 interrupts 0\n",
+    },
+];

@@ -8,16 +8,16 @@ use std::test::Fail;
 const TWO_DATABASES: &str =
     "[pgbouncer]\npool_mode = transaction\nauth_type = trust\nlisten_addr = 127.0.0.1\npeer_id = 1\n[databases]\nshop = host=127.0.0.1 port=7100 user=app pool_size=2\nnews = host=127.0.0.1 port=7101 user=app\n[peers]\n3 = host=127.0.0.1 port=7003\n2 = host=127.0.0.1 port=7002\n";
 
-fn settings(alloc: Global) -> Result<Settings, Fail> {
-    let Ok(settings) = read_settings(alloc, TWO_DATABASES) else {
-        return Err(Fail::from("settings that are in order"));
-    };
-    Ok(settings)
+fn settings_of(alloc: Global, text: &str) -> Result<Settings, Fail> {
+    match read_settings(alloc, text) {
+        Ok(settings) => Ok(settings),
+        Err(fault) => Err(Fail::from(fault)),
+    }
 }
 
 #[test]
 fn a_node_of_a_file(rt: HostRuntime) -> Result<(), Fail> {
-    let settings = settings(rt.alloc())?;
+    let settings = settings_of(rt.alloc(), TWO_DATABASES)?;
     let core = NodeCore::<u32>::new(rt.alloc(), &settings, Boot(3))?;
     assert_eq!(rt; core.me().get(), 1);
     let three = PeerNo::new(3).ok_or("no peer 3")?;

@@ -1,8 +1,9 @@
 //! A client's frame, at the start of a session and in a transaction.
 use super::*;
+use crate::checks::assert_same;
 
 // A client's first frame, and what it asks for.
-const FROM_CLIENT: [(&[u8], Asks); 53] = [
+const FROM_CLIENT: &[(&[u8], Asks)] = &[
     (b"Q\0\0\0\x0dselect 1\0", Asks::Request),
     (b"Q\0\0\0\x05\0", Asks::Request),
     (b"Q\0\0\0\x04", Asks::Violation),
@@ -62,26 +63,31 @@ const FROM_CLIENT: [(&[u8], Asks); 53] = [
     (b"0\0\0\0\x04", Asks::Violation),
 ];
 
-fn assert_first(rt: &impl Abort, client: &mut Client, frame: Frame, asks: Asks, text: &[u8]) {
+fn assert_first(
+    rt: &(impl Abort + AllocGlobal),
+    client: &mut Client,
+    text: &[u8],
+    asks: Asks,
+) -> Result<(), AllocError> {
     let leased = client.holds_lease();
-    assert_client(rt, client, frame, asks.act(leased, text));
+    let expected = asks.act(leased, text);
+    assert_client(rt, client, frame(rt.alloc(), text)?, expected);
     let (holds, asking) = match asks {
         Asks::Request => (true, true),
         Asks::Part => (leased, false),
         Asks::Leave | Asks::Violation | Asks::LeftOut => (false, false),
     };
-    assert_eq!(rt; client.holds_lease(), holds);
-    assert_eq!(rt; client.may_read(), !asking);
-    assert_eq!(rt; client.database().get(), 3);
+    assert_same(rt, client.holds_lease(), holds);
+    assert_same(rt, client.may_read(), !asking);
+    assert_same(rt, client.database().get(), 3);
+    Ok(())
 }
 
 #[test]
 fn from_client(rt: HostRuntime) -> Result<(), Fail> {
     for (text, asks) in FROM_CLIENT {
-        let mut client = new(rt.alloc());
-        assert_first(&rt, &mut client, frame(rt.alloc(), text)?, asks, text);
-        let mut client = in_transaction(&rt)?;
-        assert_first(&rt, &mut client, frame(rt.alloc(), text)?, asks, text);
+        assert_first(&rt, &mut new(rt.alloc()), text, *asks)?;
+        assert_first(&rt, &mut in_transaction(&rt)?, text, *asks)?;
     }
     Ok(())
 }

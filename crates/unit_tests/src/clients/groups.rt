@@ -74,23 +74,38 @@ fn gathered(rt: &(impl Abort + AllocGlobal), size: usize) -> Result<Client, Allo
     Ok(client)
 }
 
+// A frame behind a Parse of this size.
+fn assert_behind(
+    rt: &(impl Abort + AllocGlobal),
+    size: usize,
+    frame: Frame,
+    expected: Done<'_>,
+) -> Result<(), AllocError> {
+    assert_client(rt, &mut gathered(rt, size)?, frame, expected);
+    Ok(())
+}
+
+// A Sync asks for what was gathered, of this size, and for itself.
+fn assert_whole(rt: &impl Abort, client: &mut Client, sync: Frame, size: usize) {
+    assert!(rt; client.may_read());
+    let act = client.on_client(sync);
+    let needed = match done_by(&act) {
+        Need(text) => text.len(),
+        _ => 0,
+    };
+    assert_eq!(rt; needed, size.saturating_add(5));
+}
+
 // A group of 1,048,576 bytes before its Sync is taken, and one byte more isn't; names are judged
 // after that.
 #[test]
 fn limit(rt: HostRuntime) -> Result<(), Fail> {
-    let mut full = gathered(&rt, LIMIT - 6)?;
-    assert_client(&rt, &mut full, parse(rt.alloc(), 6)?, ToClient(b""));
+    assert_behind(&rt, LIMIT - 6, parse(rt.alloc(), 6)?, ToClient(b""))?;
     let named = frame(rt.alloc(), b"P\0\0\0\x06s\0")?;
-    assert_client(&rt, &mut gathered(&rt, LIMIT - 6)?, named, End(VIOLATION));
+    assert_behind(&rt, LIMIT - 6, named, End(VIOLATION))?;
     let longer = parse(rt.alloc(), LIMIT + 1)?;
     assert_client(&rt, &mut new(rt.alloc()), longer, End(VIOLATION));
-    let mut whole = gathered(&rt, LIMIT)?;
-    assert!(rt; whole.may_read());
-    let act = whole.on_client(frame(rt.alloc(), b"S\0\0\0\x04")?);
-    let size = match done_by(&act) {
-        Need(text) => text.len(),
-        _ => 0,
-    };
-    assert_eq!(rt; size, LIMIT + 5);
+    let sync = frame(rt.alloc(), b"S\0\0\0\x04")?;
+    assert_whole(&rt, &mut gathered(&rt, LIMIT)?, sync, LIMIT);
     Ok(())
 }

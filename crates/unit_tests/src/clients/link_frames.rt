@@ -34,7 +34,7 @@ pub(super) fn assert_head(
 }
 
 // A head of the link, and the act on it, with a request outstanding and with none alike.
-const HEADS: [(u8, usize, HeadDone<'static>); 32] = [
+const HEADS: &[(u8, usize, HeadDone<'static>)] = &[
     (b'Z', 4, HeadDone::Close(LOST)),
     (b'Z', 6, HeadDone::Close(LOST)),
     (b'T', 6, HeadDone::PassOn),
@@ -72,8 +72,8 @@ const HEADS: [(u8, usize, HeadDone<'static>); 32] = [
 #[test]
 fn heads(rt: HostRuntime) -> Result<(), Fail> {
     for (kind, length, expected) in HEADS {
-        assert_head(&rt, &mut asking(&rt)?, kind, length, expected);
-        assert_head(&rt, &mut in_transaction(&rt)?, kind, length, expected);
+        assert_head(&rt, &mut asking(&rt)?, *kind, *length, *expected);
+        assert_head(&rt, &mut in_transaction(&rt)?, *kind, *length, *expected);
     }
     Ok(())
 }
@@ -102,16 +102,17 @@ const STATUSES: [(u8, Done<'static>); 6] = [
     (b'A', Close(LOST)),
 ];
 
+fn assert_status(rt: &impl Abort, client: &mut Client, status: u8, expected: Done<'_>) {
+    assert_ready(rt, client, status, expected);
+    assert_eq!(rt; client.holds_lease(), matches!(expected, ToClient(_)));
+    assert!(rt; client.may_read());
+}
+
 #[test]
 fn statuses(rt: HostRuntime) -> Result<(), Fail> {
     for (status, expected) in STATUSES {
-        let mut client = asking(&rt)?;
-        assert_ready(&rt, &mut client, status, expected);
-        assert_eq!(rt; client.holds_lease(), matches!(expected, ToClient(_)));
-        assert!(rt; client.may_read());
-        let mut client = in_transaction(&rt)?;
-        assert_ready(&rt, &mut client, status, Close(LOST));
-        assert!(rt; !client.holds_lease());
+        assert_status(&rt, &mut asking(&rt)?, status, expected);
+        assert_status(&rt, &mut in_transaction(&rt)?, status, Close(LOST));
     }
     Ok(())
 }

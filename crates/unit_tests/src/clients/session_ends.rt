@@ -1,21 +1,25 @@
 //! Streams and links that fail, a request that is dropped, and the texts of errors.
 use super::*;
 
+fn assert_client_fault(rt: &impl Abort, client: &mut Client, expected: Done<'_>) {
+    let act = client.on_client_fault();
+    assert_eq!(rt; done_by(&act), expected);
+    assert!(rt; !client.holds_lease());
+}
+
+fn assert_link_fault(rt: &impl Abort, client: &mut Client, expected: Done<'_>) {
+    assert!(rt; client.holds_lease());
+    let act = client.on_link_fault();
+    assert_eq!(rt; done_by(&act), expected);
+    assert!(rt; client.may_read());
+}
+
 // Streams that aren't cut into frames, and a link that is lost.
 #[test]
 fn faults(rt: HostRuntime) -> Result<(), Fail> {
-    let mut client = new(rt.alloc());
-    let act = client.on_client_fault();
-    assert_eq!(rt; done_by(&act), End(VIOLATION));
-    let mut client = in_transaction(&rt)?;
-    let act = client.on_client_fault();
-    assert_eq!(rt; done_by(&act), Close(VIOLATION));
-    assert!(rt; !client.holds_lease());
-    let mut client = asking(&rt)?;
-    assert!(rt; client.holds_lease());
-    let act = client.on_link_fault();
-    assert_eq!(rt; done_by(&act), Close(LOST));
-    assert!(rt; client.may_read());
+    assert_client_fault(&rt, &mut new(rt.alloc()), End(VIOLATION));
+    assert_client_fault(&rt, &mut in_transaction(&rt)?, Close(VIOLATION));
+    assert_link_fault(&rt, &mut asking(&rt)?, Close(LOST));
     Ok(())
 }
 

@@ -32,8 +32,8 @@ fn four_frames(rt: HostRuntime) -> Result<(), Fail> {
 #[test]
 fn faults(rt: HostRuntime) -> Result<(), Fail> {
     for (text, kinds, bodies, fault) in TEXTS {
-        let parts = cut_in_parts(rt.alloc(), &[text])?;
-        assert_seen(&rt, &parts, kinds, bodies, fault)?;
+        let parts = cut_in_parts(rt.alloc(), &[*text])?;
+        assert_seen(&rt, &parts, kinds, bodies, *fault)?;
     }
     Ok(())
 }

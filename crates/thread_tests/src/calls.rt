@@ -1,11 +1,14 @@
 //! The calls that were counted.
-use crate::node::Caller;
-use locked_node::{CallAnswer, CallKind};
+use locked_node::{CallAnswer, CallKind, Caller};
 use std::process::Abort;
 
 // So many calls with each of these answers were counted. Returns how many the caller counted of all
 // of them.
-pub(crate) fn assert_calls(rt: &impl Abort, caller: &Caller, calls: &[(CallAnswer, u128)]) -> u128 {
+pub(crate) fn assert_calls<S: Drop>(
+    rt: &impl Abort,
+    caller: &Caller<S>,
+    calls: &[(CallAnswer, u128)],
+) -> u128 {
     let mut total = 0u128;
     for (answer, expected) in calls {
         let counted = caller.calls(CallKind::short(*answer));

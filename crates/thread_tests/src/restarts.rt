@@ -40,35 +40,6 @@ const fn session(script: Script, held_at: Where) -> Scene {
     }
 }
 
-// The request runs to its end, the link is closed, and the next request finds the node started anew.
-#[test]
-fn held_at_acquired(rt: HostRuntime) -> Result<(), Fail> {
-    assert_played(
-        &rt,
-        rt.alloc(),
-        &session(OUTLIVES, Where::Point(Point::Acquired)),
-    )
-}
-
-#[test]
-fn held_at_ready(rt: HostRuntime) -> Result<(), Fail> {
-    assert_played(
-        &rt,
-        rt.alloc(),
-        &session(OUTLIVES, Where::Point(Point::Ready)),
-    )
-}
-
-// The session goes on over its link to the end of its transaction, which begins after the restart or,
-// where it is held before its second request, has begun before.
-#[test]
-fn held_in_a_transaction(rt: HostRuntime) -> Result<(), Fail> {
-    for place in [Where::Point(Point::Acquired), Where::Read(2)] {
-        assert_played(&rt, rt.alloc(), &session(OUTLIVES_IN_TRANSACTION, place))?;
-    }
-    Ok(())
-}
-
 // The calls with a cancel request whose end is reported after the restart.
 const CALLS_OF_ENDED: &[(CallAnswer, u128)] = &[
     (CallAnswer::Joined, 3),
@@ -115,38 +86,6 @@ const fn cancel(script: Script, held_at: Where, calls: &'static [(CallAnswer, u1
     }
 }
 
-// The request is carried, and no link is touched that was opened after the restart.
-#[test]
-fn held_at_ordered(rt: HostRuntime) -> Result<(), Fail> {
-    assert_played(
-        &rt,
-        rt.alloc(),
-        &cancel(CANCELS, Where::Point(Point::Ordered), CALLS_OF_ENDED),
-    )
-}
-
-#[test]
-fn held_at_carried(rt: HostRuntime) -> Result<(), Fail> {
-    assert_played(
-        &rt,
-        rt.alloc(),
-        &cancel(CANCELS, Where::Point(Point::Carried), CALLS_OF_ENDED),
-    )
-}
-
-#[test]
-fn held_at_carried_in_vain(rt: HostRuntime) -> Result<(), Fail> {
-    assert_played(
-        &rt,
-        rt.alloc(),
-        &cancel(
-            CANCELS_IN_VAIN,
-            Where::Point(Point::Carried),
-            CALLS_OF_FAILED,
-        ),
-    )
-}
-
 // A client waits for the only link.
 const WAITING: Scene = Scene {
     task: Task::Session,
@@ -173,7 +112,38 @@ const WAITING: Scene = Scene {
     ],
 };
 
+// The request runs to its end, the link is closed, and the next request finds the node started anew.
+// The session goes on over its link to the end of its transaction, which begins after the restart or,
+// where it is held before its second request, has begun before.
 #[test]
-fn waiting_for_a_link(rt: HostRuntime) -> Result<(), Fail> {
-    assert_played(&rt, rt.alloc(), &WAITING)
+fn sessions(rt: HostRuntime) -> Result<(), Fail> {
+    let scenes = [
+        session(OUTLIVES, Where::Point(Point::Acquired)),
+        session(OUTLIVES, Where::Point(Point::Ready)),
+        session(OUTLIVES_IN_TRANSACTION, Where::Point(Point::Acquired)),
+        session(OUTLIVES_IN_TRANSACTION, Where::Read(2)),
+        WAITING,
+    ];
+    for scene in &scenes {
+        assert_played(&rt, rt.alloc(), scene)?;
+    }
+    Ok(())
+}
+
+// The request is carried, and no link is touched that was opened after the restart.
+#[test]
+fn cancels(rt: HostRuntime) -> Result<(), Fail> {
+    let scenes = [
+        cancel(CANCELS, Where::Point(Point::Ordered), CALLS_OF_ENDED),
+        cancel(CANCELS, Where::Point(Point::Carried), CALLS_OF_ENDED),
+        cancel(
+            CANCELS_IN_VAIN,
+            Where::Point(Point::Carried),
+            CALLS_OF_FAILED,
+        ),
+    ];
+    for scene in &scenes {
+        assert_played(&rt, rt.alloc(), scene)?;
+    }
+    Ok(())
 }

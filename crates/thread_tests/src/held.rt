@@ -31,11 +31,6 @@ const CANCEL: Scene = Scene {
     ],
 };
 
-#[test]
-fn a_cancel_is_held_until_a_session_was_served(rt: HostRuntime) -> Result<(), Fail> {
-    assert_played(&rt, rt.alloc(), &CANCEL)
-}
-
 // The same of a request for peer 3.
 const FORWARD: Scene = Scene {
     task: Task::Cancel([0, 12, 0, 0, 0, 0, 0, 7]),
@@ -56,11 +51,6 @@ const FORWARD: Scene = Scene {
         (CallAnswer::Left, 2),
     ],
 };
-
-#[test]
-fn a_forward_is_held_until_a_session_was_served(rt: HostRuntime) -> Result<(), Fail> {
-    assert_played(&rt, rt.alloc(), &FORWARD)
-}
 
 // A session waits at `Acquired` until another, on another link, has passed `Ready`.
 const SESSION: Scene = Scene {
@@ -83,6 +73,9 @@ const SESSION: Scene = Scene {
 };
 
 #[test]
-fn a_session_is_held_until_another_was_served(rt: HostRuntime) -> Result<(), Fail> {
-    assert_played(&rt, rt.alloc(), &SESSION)
+fn held_until_a_session_was_served(rt: HostRuntime) -> Result<(), Fail> {
+    for scene in &[CANCEL, FORWARD, SESSION] {
+        assert_played(&rt, rt.alloc(), scene)?;
+    }
+    Ok(())
 }

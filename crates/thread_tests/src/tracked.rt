@@ -1,4 +1,5 @@
-//! A stream that plays one side of a conversation, and what becomes of such streams.
+//! A stream that plays one side of a conversation in any thread, and what becomes of such streams.
+use crate::talk::{Turn, is_error};
 use node_threads::Opener;
 use pg_ids::{DatabaseNo, PeerNo};
 use std::alloc::{AllocError, Global};
@@ -6,17 +7,6 @@ use std::io;
 use std::io::{ErrorKind, Read, Write};
 use std::sync::atomic::{AtomicU64, Ordering};
 use std::sync::{Arc, Wait};
-
-// What one side does next.
-#[derive(Clone, Copy, Debug)]
-pub(crate) enum Turn {
-    // It takes these bytes, in as many writes as come.
-    Takes(&'static [u8]),
-    // It takes one write of an ErrorResponse that begins with these fields.
-    TakesError(&'static [u8]),
-    // It gives these bytes at one read.
-    Gives(&'static [u8]),
-}
 
 // How many streams there were: made, closed, closed with all their turns taken, and how often one
 // was written what it doesn't take.
@@ -136,11 +126,6 @@ impl Talk {
         self.takes = self.takes.split_at(1).1;
         true
     }
-}
-
-// Whether these bytes are an ErrorResponse whose body begins with these fields.
-fn is_error(bytes: &[u8], fields: &[u8]) -> bool {
-    bytes.len() > 5 && bytes[0] == b'E' && bytes.split_at(5).1.starts_with(fields)
 }
 
 impl Read for Talk {

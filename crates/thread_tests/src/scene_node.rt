@@ -2,7 +2,7 @@
 ghost use Rattle.std.specs.Prelude.{◌≡◌, ◌<◌, length, IfOk};
 
 use crate::messages::Script;
-use crate::talk::{Dialer, Talk, Tracker};
+use crate::tracked::{Dialer, Talk, Tracker};
 use ini_config::Settings;
 use link_pool::Claim;
 use locked_node::{Caller as LockCaller, Journal, Shared};

@@ -1,5 +1,5 @@
 use Rattle.std.proofs.Common.{◌≡◌}
-use Rattle.gate_tests.proofs.scene.await_held.Given as goal
+use Rattle.thread_tests.proofs.scene.await_held.Given as goal
 
 -- the caller is of the same lock
 abbrev pub invariant-loop-look : goal.invariant-loop-look

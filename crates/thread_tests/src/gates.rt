@@ -1,5 +1,5 @@
 //! Where one thread is held until another lets it go.
-use crate::talk::Talk;
+use crate::tracked::Talk;
 use node_threads::{Gate, Point};
 use std::io::{Read, Write};
 use std::sync::Wait;

@@ -18,7 +18,7 @@ fn joined(alloc: Global, parts: &[&str]) -> Result<String, AllocError> {
 }
 
 // The script of a text without a fault. Out of memory is returned as `AllocError`.
-fn script_of(alloc: Global, text: &str) -> Result<Script, Fail> {
+pub(crate) fn script_of(alloc: Global, text: &str) -> Result<Script, Fail> {
     match read_script(alloc, text) {
         Ok(script) => Ok(script),
         Err(ScriptError::Memory) => Err(Fail::from(AllocError)),

@@ -1,10 +1,11 @@
-//! The client at slot 0, which has a link while another is held.
+//! The client at slot 0, which has a link while another is held, and how a client opens a link.
 ghost use Rattle.std.specs.Prelude.{◌≡◌, ◌<◌, length};
 
-use crate::node::{Caller, Lock, PLAIN};
-use crate::talk::{Talk, Tracker};
+use crate::scene_node::{Caller, Lock, PLAIN};
+use crate::tracked::{Talk, Tracker};
 use lease::{Lease, Pass, Permit};
 use link_pool::{AcquireReply, UpReply};
+use locked_node::{Caller as LockCaller, Shared};
 use node_core::LeaveReply;
 use node_threads::Link;
 use pg_frames::Flow;
@@ -66,26 +67,26 @@ fn link(alloc: Global, servers: &Arc<Tracker, Global>) -> Option<Link<Talk>> {
     Some(Link { stream, flow })
 }
 
-// The client of a pass opens a link.
-fn open<R: Wait>(
+// The client of a pass opens a link with this stream.
+pub(crate) fn open<R: Wait, S: Drop>(
     rt: &R,
-    lock: &Lock,
-    caller: &mut Caller,
+    lock: &Shared<S>,
+    caller: &mut LockCaller<S>,
     pass: &Pass,
-    link: Link<Talk>,
-) -> Option<Lease<Link<Talk>>>
+    stream: S,
+) -> Option<Lease<S>>
     requires own { caller.old.lock ≡ lock.now }
     ensures { (caller.new.lock ≡ caller.old.lock) × (caller.new.start ≡ caller.old.start) }
 {
     let permit = opened(lock.acquire(rt, caller, pass))?;
-    went_up(lock.up(rt, caller, permit, link, SERVER))
+    went_up(lock.up(rt, caller, permit, stream, SERVER))
 }
 
-fn opened(reply: AcquireReply<Lease<Link<Talk>>, Permit>) -> Option<Permit> {
+fn opened<S: Drop>(reply: AcquireReply<Lease<S>, Permit>) -> Option<Permit> {
     match reply {
         AcquireReply::Open(permit) => Some(permit),
         AcquireReply::Got(lease) => {
-            let _link = lease.forfeit();
+            let _stream = lease.forfeit();
             None
         }
         AcquireReply::Waiting
@@ -96,13 +97,13 @@ fn opened(reply: AcquireReply<Lease<Link<Talk>>, Permit>) -> Option<Permit> {
     }
 }
 
-fn went_up(reply: UpReply<Lease<Link<Talk>>, Permit, Link<Talk>>) -> Option<Lease<Link<Talk>>> {
+fn went_up<S: Drop>(reply: UpReply<Lease<S>, Permit, S>) -> Option<Lease<S>> {
     match reply {
         UpReply::Up(lease) => Some(lease),
-        UpReply::Exhausted(permit, _link) => {
+        UpReply::Exhausted(permit, _stream) => {
             let _details = permit.forfeit();
             None
         }
-        UpReply::Stale(_link) | UpReply::AtEnd(_link) => None,
+        UpReply::Stale(_stream) | UpReply::AtEnd(_stream) => None,
     }
 }

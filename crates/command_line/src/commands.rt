@@ -1,0 +1,185 @@
+//! The program and its commands, as clap parses them.
+use crate::command_arguments::{arguments_of, parsed_argument};
+use crate::command_name::CommandName;
+use clap::Command;
+use std::alloc::{AllocError, Global};
+
+const COMMANDS: [CommandName; 6] = [
+    CommandName::Key,
+    CommandName::Decide,
+    CommandName::Check,
+    CommandName::World,
+    CommandName::Serve,
+    CommandName::Stub,
+];
+
+/// The program with its commands.
+pub fn program<'a>(alloc: Global) -> Result<Command<'a>, AllocError> {
+    let mut program = bare_program(alloc)?;
+    for name in &COMMANDS {
+        program = program.subcommand(command(alloc, *name)?)?;
+    }
+    Ok(program)
+}
+
+// The program without its commands.
+fn bare_program<'a>(alloc: Global) -> Result<Command<'a>, AllocError> {
+    let program = Command::new(alloc, "pgpeer").bin_name("pgpeer")?;
+    Ok(
+        program
+            .version("0.1.0")
+            .about("A peered group of PostgreSQL connection poolers")
+            .after_help(AFTER_PROGRAM)
+            .no_binary_name(true)
+            .subcommand_required(true)
+            .arg_required_else_help(true),
+    )
+}
+
+/// A command with its arguments.
+pub fn command<'a>(alloc: Global, name: CommandName) -> Result<Command<'a>, AllocError> {
+    let mut command = bare_command(alloc, name)?;
+    for argument in arguments_of(name) {
+        command = command.arg(parsed_argument(alloc, *argument))?;
+    }
+    Ok(command)
+}
+
+// A command without its arguments.
+fn bare_command<'a>(alloc: Global, name: CommandName) -> Result<Command<'a>, AllocError> {
+    let command = Command::new(alloc, word(name)).bin_name(whole_word(name))?;
+    let command = command.about(about(name)).after_help(after(name));
+    match usage_of(name) {
+        Some(usage) => Ok(command.override_usage(usage)),
+        None => Ok(command),
+    }
+}
+
+fn word<'a>(name: CommandName) -> &'a str {
+    match name {
+        CommandName::Key => "key",
+        CommandName::Decide => "decide",
+        CommandName::Check => "check",
+        CommandName::World => "world",
+        CommandName::Serve => "serve",
+        CommandName::Stub => "stub",
+    }
+}
+
+fn whole_word<'a>(name: CommandName) -> &'a str {
+    match name {
+        CommandName::Key => "pgpeer key",
+        CommandName::Decide => "pgpeer decide",
+        CommandName::Check => "pgpeer check",
+        CommandName::World => "pgpeer world",
+        CommandName::Serve => "pgpeer serve",
+        CommandName::Stub => "pgpeer stub",
+    }
+}
+
+fn about<'a>(name: CommandName) -> &'a str {
+    match name {
+        CommandName::Key => "Print the parts of a cancel key",
+        CommandName::Decide => "Print what a pooler does with a cancel request",
+        CommandName::Check => "Check that settings files make a group",
+        CommandName::World => "Print what the events of a script bring about",
+        CommandName::Serve => {
+            "Serve clients and cancel requests as a group of poolers, until stopped"
+        }
+        CommandName::Stub => "Run a stand-in server, for trials without PostgreSQL",
+    }
+}
+
+// The line of usage, where clap doesn't write it.
+fn usage_of<'a>(name: CommandName) -> Option<&'a str> {
+    match name {
+        CommandName::Decide => {
+            Some("pgpeer decide --me <N> [--peers <P,P..>] [--live <C,C..>] <HEX>")
+        }
+        CommandName::Serve => {
+            Some("pgpeer serve --front <PORT> --seed <HEX64> [--boot <N>] <FILE>...")
+        }
+        CommandName::Stub => Some("pgpeer stub [--byte] <PORT>"),
+        CommandName::Key | CommandName::Check | CommandName::World => None,
+    }
+}
+
+// What stands behind a command's arguments in its help.
+fn after<'a>(name: CommandName) -> &'a str {
+    match name {
+        CommandName::Key => AFTER_KEY,
+        CommandName::Decide => AFTER_DECIDE,
+        CommandName::Check => AFTER_CHECK,
+        CommandName::World => AFTER_WORLD,
+        CommandName::Serve => AFTER_SERVE,
+        CommandName::Stub => AFTER_STUB,
+    }
+}
+
+const AFTER_PROGRAM: &str = "\
+Exit status:
+  0  the answer is on standard output
+  1  a file can't be read, an address can't be listened at, the packet is no cancel request, memory
+     ran out, or writing failed
+  2  the arguments, a settings file, a script or the group are refused
+'serve' and 'stub' run until they are stopped, and end by themselves only with status 1 or 2.
+
+Examples:
+  pgpeer key 0008000000000007
+  pgpeer decide --me 1 --peers 2 0000001004d2162e0008000000000007
+  pgpeer check node1.ini node2.ini
+  pgpeer world the_race.script
+  pgpeer serve --front 6432 --seed $(openssl rand -hex 32) node1.ini node2.ini
+  pgpeer stub 7100";
+
+const AFTER_KEY: &str = "\
+Examples:
+  $ pgpeer key 0008000000000007
+  peer 2 slot 0 secret 1 hops 3
+
+  $ pgpeer key 000800000000000700000000000000010000000000000004
+  peer 2 slot 0 secret 1 hops 3 boot 1 serial 4";
+
+const AFTER_DECIDE: &str = "\
+Output, one of:
+  serve KEYHEX     the client's server is asked to cancel, by this key
+  forward P HEX    the request goes on to peer P, as these 16 or 32 bytes
+  refused 60       the request may pass through no more poolers
+  refused 61       no client has the key's slot and secret
+  refused 62       the key's pooler is no peer
+  refused 63       the client has no server connection
+
+Examples:
+  $ pgpeer decide --me 1 --peers 2 0000001004d2162e0008000000000007
+  forward 2 0000001004d2162e0008000000000006
+
+  $ pgpeer decide --me 2 --live 1:1112131415161718 0000001004d2162e0008000000000007
+  serve 1112131415161718";
+
+const AFTER_CHECK: &str = "\
+Example:
+  $ pgpeer check node1.ini node2.ini
+  group of 2 nodes";
+
+const AFTER_WORLD: &str = "\
+Output:
+  NUMBER REPLY                      each event, from 1; one that may not take place is skipped
+  interrupt B L A                   each query that was cancelled: the server process, the client
+                                    and the cancel request
+  events E skipped S interrupts I   how many of each
+
+Example, where login.script has the lines 'node 2 1 1' and 'login 2 10 1':
+  $ pgpeer world login.script
+  1 key 0008000000000007
+  events 1 skipped 0 interrupts 0";
+
+const AFTER_SERVE: &str = "\
+One file is a pooler of a group whose others run elsewhere. Several files are several poolers of a
+group in one process.
+
+Example:
+  $ pgpeer serve --front 6432 --seed $(openssl rand -hex 32) --boot $(date +%s) node1.ini";
+
+const AFTER_STUB: &str = "\
+Example:
+  $ pgpeer stub 7100";
