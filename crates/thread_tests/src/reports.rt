@@ -1,4 +1,6 @@
 //! Requests that are carried and reported, over streams that log what happens to them.
+ghost use Rattle.std.specs.Prelude.{◌≡◌, ◌+◌, ◌<◌};
+
 use crate::log::{Event, Log, LoggedDesk, Marks, Reply, Wire, assert_logged};
 use lease::{Lease, LinkPlace, LinkRecord, Permit, PermitRecord, Ticket, TicketRecord};
 use node_threads::{Desk, DeskCall, ListDesk, Open, Point, relay, report};
@@ -144,7 +146,10 @@ fn relays(rt: HostRuntime) -> Result<(), Fail> {
 }
 
 // A request over a stream that fails, whose requester takes nothing, ends so at this desk.
-fn report_failed<R: Wait + Abort>(rt: &R, desk: &mut ListDesk<u64>, log: &Log, peer: PeerNo) {
+fn report_failed<R: Wait + Abort>(rt: &R, desk: &mut ListDesk<u64>, log: &Log, peer: PeerNo)
+    requires ready { 0 < desk.old.room }
+    ensures room { desk.new.room + 1 ≡ desk.old.room }
+{
     let mut requester = Wire::new(log, 0, Reply::End);
     let mut server = Wire::new(log, 16, Reply::Fails);
     let outcome = report(

@@ -4,7 +4,7 @@ use ini_config::{Group, Settings};
 use std::alloc::{AllocError, Global};
 use std::process::Abort;
 use std::test::Fail;
-use world::{Event, Interrupt, Took, run};
+use world::{Event, Interrupt, Took, World, run};
 use world_script::{Script, write_outcome};
 
 // What events brought about: what each took, and whom they interrupted.
@@ -17,9 +17,14 @@ pub struct Played {
 // What these events bring about in this group. Out of memory is returned as `AllocError`. Only here
 // a world is owned, and dropped.
 pub(crate) fn play(alloc: Global, group: Group, events: &[Event]) -> Result<Played, Fail> {
-    let Ok((world, took)) = run(alloc, group, events) else {
-        return Err(Fail::from(AllocError));
-    };
+    match run(alloc, group, events) {
+        Ok((world, took)) => collect(alloc, &world, took),
+        Err(_) => Err(Fail::from(AllocError)),
+    }
+}
+
+// What was taken, and whom the world has interrupted.
+fn collect(alloc: Global, world: &World, took: Vec<Took>) -> Result<Played, Fail> {
     let mut interrupts = Vec::new(alloc);
     interrupts.extend_from_slice(world.interrupts())?;
     Ok(Played { took, interrupts })
