@@ -5,7 +5,7 @@ ghost use Rattle.std.specs.Arc.{arc_value};
 ghost use Rattle.node_threads.specs.Balance.{Balanced};
 
 use crate::restarting::restart;
-use crate::{Link, Seats, Secrets};
+use crate::{Admission, Link, Seats, Secrets};
 use ini_config::{Group, Settings};
 use link_pool::RestartReply;
 use locked_node::{Caller, Journal, Shared};
@@ -19,6 +19,7 @@ use std::sync::{Arc, Mutex, Wait};
 pub struct Node<L: Drop> {
     pub(crate) shared: Shared<Link<L>>,
     pub(crate) seats: Seats,
+    pub(crate) admission: Admission,
     group: Arc<Group, Global>,
     place: usize,
     secrets: Mutex<Secrets>,
@@ -67,10 +68,12 @@ impl<L: Drop> Calling<L> {
         let (shared, caller) = Shared::new(alloc, Journal::new(alloc, core)?)?;
         let secrets = Secrets::new(seed, settings.peer_id());
         let seats = Seats::new(alloc)?;
+        let admission = Admission::new(alloc, settings)?;
         let group = Arc::try_clone(group)?;
         let node = Node {
             shared,
             seats,
+            admission,
             group,
             place,
             secrets: Mutex::new(secrets),

@@ -4,7 +4,8 @@ ghost use Rattle.node_threads.specs.Balance.{Balanced};
 
 use crate::refusing::refuse;
 use crate::{
-    CONSOLE, Calling, Gate, Opened, Opener, open, serve_cancel, serve_client, serve_console,
+    CONSOLE, Calling, Entrance, Gate, Opened, Opener, open, serve_cancel, serve_client,
+    serve_console,
 };
 use peer_forward::{ReadCalls, WriteCalls};
 use pg_frames::Cutter;
@@ -79,6 +80,10 @@ where
         refuse(alloc, client, ErrorCode::InvalidCatalogName);
         return;
     };
+    let Ok(entrance) = Entrance::new(alloc, &calling.node.admission) else {
+        refuse(alloc, client, ErrorCode::OutOfMemory);
+        return;
+    };
     let secret = calling.node.secret(rt);
     serve_client(
         rt,
@@ -86,6 +91,7 @@ where
         &calling.node.shared,
         &mut calling.caller,
         calling.node.settings(),
+        &entrance,
         opener,
         gate,
         client,

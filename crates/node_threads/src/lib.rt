@@ -2,6 +2,7 @@
 //! and reported, secrets are drawn, connections are dealt.
 #![tactic(auto)]
 
+mod admission;
 mod asking;
 mod calling;
 mod cancelling;
@@ -33,6 +34,7 @@ mod staying;
 mod stream;
 mod turning;
 
+pub use admission::{Admission, Entrance};
 pub use calling::{Calling, Node};
 pub use cancelling::serve_cancel;
 pub use connection::serve_connection;

@@ -1,4 +1,12 @@
 //! A link to a server.
+ghost use Rattle.std.specs.Prelude.{◌≡◌, ◌<◌, ◌≤◌, [], ◌∷◌, ℕ, List, None, true, false, length};
+ghost use Rattle.peer_forward.specs.Calls.{Call, Makes};
+ghost use Rattle.pg_frames.specs.FrameText.{HasFault};
+ghost use Rattle.pg_frames.specs.Passage.{fed, after, HasNoNext};
+ghost use Rattle.node_threads.specs.StreamCalls.{SomeCalls, Read, IsFailedRead};
+
+use crate::stream::read_some;
+use peer_forward::{ReadCalls, WriteCalls};
 use pg_frames::Flow;
 
 /// A stream to a server, and what was read of it and isn't passed on.
@@ -8,4 +16,28 @@ pub struct Link<L> {
     pub stream: L,
     /// What was read of it.
     pub flow: Flow,
+}
+
+/// Reads once more of a link, at most so many bytes, and returns whether more came. It isn't inlined,
+/// so that a thread has its buffer on the stack only while it reads.
+#[inline(never)]
+pub(crate) fn read_up_to<const MOST: usize, L: WriteCalls + ReadCalls>(link: &mut Link<L>) -> bool
+    requires some { 0 < MOST }
+    requires many { MOST ≤ 16384 }
+    requires dry { HasNoNext link.old.flow.left link.old.flow.bytes }
+    requires sound { HasFault (after link.old.flow) None }
+    requires few { length link.old.flow.passed ≤ 8 }
+    ensures more { result ≡ true → SomeCalls L.wrote L.gave link.old.stream link.new.stream
+        (λ reads. (bytes : List ℕ) × Read bytes reads × (link.new.flow ≡ fed link.old.flow bytes)) }
+    ensures none { result ≡ false → (call : Call)
+        × Makes L.wrote L.gave link.old.stream (call ∷ []) link.new.stream × IsFailedRead call }
+{
+    let mut buffer = [0; MOST];
+    let room = link.flow.room().min(MOST);
+    let count = read_some(&mut link.stream, &mut buffer[..room]);
+    if count == 0 {
+        return false;
+    }
+    let _ = link.flow.feed(&buffer[..count]);
+    true
 }

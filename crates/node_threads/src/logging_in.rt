@@ -11,8 +11,9 @@ ghost use Rattle.node_threads.specs.declared.login_place.LoginPlace.TheVariants.
 ghost use Rattle.node_threads.specs.declared.login_place.Mark.TheVariants.{Head, Part};
 
 use crate::Link;
+use crate::link::read_up_to;
 use crate::login_place::{LoginPlace, Mark, Taken};
-use crate::stream::{read_some, write_whole};
+use crate::stream::write_whole;
 use link_state::{LinkAct, LinkLogin, LoginHead, ServerKey};
 use peer_forward::{ReadCalls, WriteCalls};
 use pg_frames::Flow;
@@ -20,7 +21,7 @@ use std::alloc::Global;
 use std::sync::Wait;
 
 // How many bytes are read at once.
-const MAX_READ: usize = 16_384;
+const MAX_READ: usize = 2_048;
 
 /// A link whose login at its server is done.
 #[derive(Drop)]
@@ -208,12 +209,5 @@ fn read_more<L: WriteCalls + ReadCalls>(link: &mut Link<L>) -> bool
     if link.flow.fault().is_some() {
         return false;
     }
-    let mut buffer = [0; MAX_READ];
-    let room = link.flow.room();
-    let count = read_some(&mut link.stream, &mut buffer[..room]);
-    if count == 0 {
-        return false;
-    }
-    let _ = link.flow.feed(&buffer[..count]);
-    true
+    read_up_to::<MAX_READ, L>(link)
 }

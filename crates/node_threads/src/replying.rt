@@ -11,15 +11,18 @@ ghost use Rattle.node_threads.specs.Replying.{EndsStay, Replies};
 ghost use Rattle.node_threads.specs.Progress.{asking, in_transaction, HandedOut, HandedLast, HandsOut, IsDry, KeepsSession, EndsHere, GoesOn, LeavesBehind, HeadMeans, PieceMeans, after_part, after_tail, Refuses, FinishesIdle, FinishesOpen};
 ghost use Rattle.node_threads.specs.declared.stayed.Stayed.{Stayed};
 
+use crate::link::read_up_to;
 use crate::place::{Handed, Place};
-use crate::stream::{read_some, write_whole};
+use crate::stream::write_whole;
 use crate::{Link, Stayed};
 use client_state::{Act, Client, HeadAct, Reply};
 use peer_forward::{ReadCalls, WriteCalls};
 use pg_frames::{Flow, Piece};
 use std::sync::Wait;
 
-// How many bytes are read at once.
+// How many bytes are read at once, at a reply's beginning and behind it.
+const MAX_FIRST_READ: usize = 2_048;
+
 const MAX_READ: usize = 16_384;
 
 /// Passes the reply to a request on to the client. It returns nothing where the reply leaves a
@@ -194,7 +197,8 @@ pub fn lost(session: &mut Client) -> Reply
     }
 }
 
-// Reads more of a link, and returns whether more came.
+// Reads more of a link, and returns whether more came. Most replies are short, so the beginning of one
+// is read by less: what a read may fill is zeroed first.
 fn read_more<L: WriteCalls + ReadCalls>(link: &mut Link<L>) -> bool
     requires dry { HasNoNext link.old.flow.left link.old.flow.bytes }
     requires sound { HasFault (after link.old.flow) None }
@@ -204,14 +208,11 @@ fn read_more<L: WriteCalls + ReadCalls>(link: &mut Link<L>) -> bool
     ensures none { result ≡ false → (call : Call)
         × Makes L.wrote L.gave link.old.stream (call ∷ []) link.new.stream × IsFailedRead call }
 {
-    let mut buffer = [0; MAX_READ];
-    let room = link.flow.room();
-    let count = read_some(&mut link.stream, &mut buffer[..room]);
-    if count == 0 {
-        return false;
+    if link.flow.is_at_start() {
+        read_up_to::<MAX_FIRST_READ, L>(link)
+    } else {
+        read_up_to::<MAX_READ, L>(link)
     }
-    let _ = link.flow.feed(&buffer[..count]);
-    true
 }
 
 // Passes on a reply up to its ReadyForQuery. It returns how the stay ended, unless the reply leaves

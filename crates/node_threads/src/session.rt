@@ -12,7 +12,7 @@ use crate::leasing::{Acquired, acquire};
 use crate::refusing::refuse;
 use crate::replying::lost;
 use crate::stream::write_whole;
-use crate::{Gate, Link, LockDesk, Opener, Point, Stayed, turn};
+use crate::{Entrance, Gate, Link, LockDesk, Opener, Point, Stayed, turn};
 use client_state::{Client, Reply, Request};
 use ini_config::Settings;
 use lease::{Lease, Pass};
@@ -34,6 +34,7 @@ pub fn serve_client<R, O, G, C>(
     shared: &Shared<Link<O::Stream>>,
     caller: &mut Caller<Link<O::Stream>>,
     settings: &Settings,
+    entrance: &Entrance<'_>,
     opener: &O,
     gate: &G,
     client: &mut C,
@@ -57,7 +58,8 @@ where
         return;
     };
     let end = serve_pass(
-        rt, alloc, shared, caller, settings, opener, gate, client, cutter, database, &pass,
+        rt, alloc, shared, caller, settings, entrance, opener, gate, client, cutter, database,
+        &pass,
     );
     leave(rt, shared, caller, pass);
     let _ = write_whole(client, end.as_slice());
@@ -71,6 +73,7 @@ fn serve_pass<R, O, G, C>(
     shared: &Shared<Link<O::Stream>>,
     caller: &mut Caller<Link<O::Stream>>,
     settings: &Settings,
+    entrance: &Entrance<'_>,
     opener: &O,
     gate: &G,
     client: &mut C,
@@ -97,6 +100,7 @@ where
             shared,
             caller,
             settings,
+            entrance,
             opener,
             gate,
             client,
@@ -132,6 +136,7 @@ fn serve_request<R, O, G, C>(
     shared: &Shared<Link<O::Stream>>,
     caller: &mut Caller<Link<O::Stream>>,
     settings: &Settings,
+    entrance: &Entrance<'_>,
     opener: &O,
     gate: &G,
     client: &mut C,
@@ -153,6 +158,41 @@ where
         Ok(request) => request,
         Err(end) => return Some(end),
     };
+    let database = session.database();
+    entrance.enter(rt, database);
+    let end = serve_inside(
+        rt, alloc, shared, caller, settings, opener, gate, client, cutter, pass, session, request,
+    );
+    entrance.leave(rt, database);
+    end
+}
+
+// Serves the transaction of a request whose client was let in. Returns what is to be written to the
+// client where the session ends.
+fn serve_inside<R, O, G, C>(
+    rt: &R,
+    alloc: Global,
+    shared: &Shared<Link<O::Stream>>,
+    caller: &mut Caller<Link<O::Stream>>,
+    settings: &Settings,
+    opener: &O,
+    gate: &G,
+    client: &mut C,
+    cutter: &mut Cutter,
+    pass: &Pass,
+    session: &mut Client,
+    request: Request,
+) -> Option<Reply>
+where
+    R: Wait,
+    O: Opener,
+    G: Gate,
+    C: WriteCalls + ReadCalls,
+    requires own { caller.old.lock ≡ shared.now }
+    requires session { session.old ≡ asking session.old.database }
+    ensures balanced { Balanced caller.old caller.new }
+    ensures session { result ≡ None → session.new ≡ start session.old.database }
+{
     let database = session.database();
     match acquire(rt, alloc, shared, caller, settings, opener, database, pass) {
         Acquired::Lease(lease) => ride(

@@ -19,6 +19,9 @@ use std::alloc::Global;
 // byte.
 const MOST_PARAMETERS: usize = 3330;
 
+// How many parameters a client may send that is read with little stack.
+const FEW_PARAMETERS: usize = 128;
+
 /// The answer to the header of a StartupMessage of this kind and what stands behind it.
 pub fn read_startup(
     alloc: Global,
@@ -70,8 +73,41 @@ impl<'a> Session<'a> {
         ensures found { IfSome result (λ session. IsSessionOf session body.now) }
         ensures none { IfNone result ((ps : List Sent) → AreParameters ps → body.now ≢ body_of ps) }
     {
-        let mut names = [""; MOST_PARAMETERS];
-        let (session, count) = Session::read_all(body, &mut names)?;
+        if body.len() <= 3 * FEW_PARAMETERS + 2 {
+            Session::read_few(body)
+        } else {
+            Session::read_many(body)
+        }
+    }
+
+    // The same of a body of few parameters. Neither this nor the next is inlined, so that only a
+    // client that sends many parameters takes the stack that sorting them needs.
+    #[inline(never)]
+    fn read_few(body: &'a [u8]) -> Option<Session<'a>>
+        requires { length body.now ≤ 386 }
+        ensures found { IfSome result (λ session. IsSessionOf session body.now) }
+        ensures none { IfNone result ((ps : List Sent) → AreParameters ps → body.now ≢ body_of ps) }
+    {
+        Session::read_by(body, &mut [""; FEW_PARAMETERS])
+    }
+
+    // The same of any body.
+    #[inline(never)]
+    fn read_many(body: &'a [u8]) -> Option<Session<'a>>
+        requires { length body.now ≤ 9992 }
+        ensures found { IfSome result (λ session. IsSessionOf session body.now) }
+        ensures none { IfNone result ((ps : List Sent) → AreParameters ps → body.now ≢ body_of ps) }
+    {
+        Session::read_by(body, &mut [""; MOST_PARAMETERS])
+    }
+
+    // The same, with room for so many names.
+    fn read_by(body: &'a [u8], names: &mut [&'a str]) -> Option<Session<'a>>
+        requires { length body.now ≤ 3 * length names.old + 2 }
+        ensures found { IfSome result (λ session. IsSessionOf session body.now) }
+        ensures none { IfNone result ((ps : List Sent) → AreParameters ps → body.now ≢ body_of ps) }
+    {
+        let (session, count) = Session::read_all(body, names)?;
         if are_distinct(&mut names[..count]) {
             Some(session)
         } else {

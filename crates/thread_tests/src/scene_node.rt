@@ -7,7 +7,7 @@ use ini_config::Settings;
 use link_pool::Claim;
 use locked_node::{Caller as LockCaller, Journal, Shared};
 use node_core::NodeCore;
-use node_threads::{Gate, Link, serve_cancel, serve_client};
+use node_threads::{Admission, Entrance, Gate, Link, serve_cancel, serve_client};
 use pg_frames::Cutter;
 use pg_ids::{AnyKey, Boot, DatabaseNo, Kind, PeerNo, Secret};
 use stat_board::Board;
@@ -87,6 +87,13 @@ impl Node {
         requires database { 0 < length caller.old.start.view.pools }
         ensures { (caller.new.lock ≡ caller.old.lock) × (caller.new.start ≡ caller.old.start) }
     {
+        // No other session comes in by this way, so each waits in the node's queue.
+        let Ok(admission) = Admission::new(alloc, &self.settings) else {
+            return;
+        };
+        let Ok(entrance) = Entrance::new(alloc, &admission) else {
+            return;
+        };
         let mut cutter = Cutter::new(alloc);
         serve_client(
             rt,
@@ -94,6 +101,7 @@ impl Node {
             &self.lock,
             caller,
             &self.settings,
+            &entrance,
             &visit.dialer(),
             gate,
             client,

@@ -1,7 +1,7 @@
 use Rattle.std.proofs.Common.{refl}
 use Rattle.std.proofs.lemmas.Bool.{false≢true}
 use Rattle.startup.proofs.SessionLemmas.{session_of_read, none_of_read}
-use Rattle.startup.proofs.session.Session.read.Goals as goal
+use Rattle.startup.proofs.session.Session.read_by.Goals as goal
 
 pub returns-then-are_distinct-clause-found : goal.returns-then-are_distinct-clause-found
 returns-then-are_distinct-clause-found c =
