@@ -103,6 +103,7 @@ where
 }
 
 // Serves a cancel request with this key.
+#[inline(never)]
 fn serve_request<R, O, G, C>(
     rt: &R,
     calling: &mut Calling<O::Stream>,

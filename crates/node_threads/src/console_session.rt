@@ -19,6 +19,7 @@ pub const CONSOLE: &str = "pgbouncer";
 
 /// Serves a session on the console from its login to its end. Its client has no pass, and gets no
 /// key. It is answered by a copy of the node's state, and the node's steps aren't counted.
+#[inline(never)]
 pub fn serve_console<R: Wait, L: Drop, C: WriteCalls + ReadCalls>(
     rt: &R,
     alloc: Global,

@@ -133,7 +133,9 @@ fn decline<C: WriteCalls + ReadCalls>(client: &mut C, text: &mut BytesMut) -> bo
     write_whole(client, b"N")
 }
 
-// Reads more of the client. Where nothing comes, the connection is over, and it returns false.
+// Reads more of the client. Where nothing comes, the connection is over, and it returns false. It
+// isn't inlined, so that a session's stack has no room for its buffer.
+#[inline(never)]
 fn read_more<C: WriteCalls + ReadCalls>(
     alloc: Global,
     client: &mut C,
