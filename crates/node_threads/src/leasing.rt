@@ -5,7 +5,7 @@ ghost use Rattle.node_threads.specs.Balance.{Moves, nothing, a_permit};
 ghost use Rattle.node_threads.specs.Leasing.{hand_of};
 
 use crate::logging_in::{LoggedIn, log_in};
-use crate::{Link, Opener};
+use crate::{Entrance, Link, Opener};
 use ini_config::Settings;
 use lease::{Lease, Pass, Permit};
 use link_pool::{AcquireReply, UpReply};
@@ -36,6 +36,7 @@ pub fn acquire<R: Wait, O: Opener>(
     shared: &Shared<Link<O::Stream>>,
     caller: &mut Caller<Link<O::Stream>>,
     settings: &Settings,
+    entrance: &Entrance<'_>,
     opener: &O,
     database: DatabaseNo,
     pass: &Pass,
@@ -52,7 +53,10 @@ pub fn acquire<R: Wait, O: Opener>(
                     rt, alloc, shared, caller, settings, opener, database, permit,
                 );
             }
-            AcquireReply::Waiting => shared.wait_turn(rt, caller, pass),
+            AcquireReply::Waiting => {
+                entrance.queue(rt, database);
+                shared.wait_turn(rt, caller, pass);
+            }
             AcquireReply::Cancelled => return Acquired::Cancelled,
             AcquireReply::Stale => return Acquired::Refused(ErrorCode::AdminShutdown),
             AcquireReply::Holding | AcquireReply::Exhausted => {

@@ -161,7 +161,8 @@ where
     let database = session.database();
     entrance.enter(rt, database);
     let end = serve_inside(
-        rt, alloc, shared, caller, settings, opener, gate, client, cutter, pass, session, request,
+        rt, alloc, shared, caller, settings, entrance, opener, gate, client, cutter, pass, session,
+        request,
     );
     entrance.leave(rt, database);
     end
@@ -175,6 +176,7 @@ fn serve_inside<R, O, G, C>(
     shared: &Shared<Link<O::Stream>>,
     caller: &mut Caller<Link<O::Stream>>,
     settings: &Settings,
+    entrance: &Entrance<'_>,
     opener: &O,
     gate: &G,
     client: &mut C,
@@ -194,7 +196,11 @@ where
     ensures session { result ≡ None → session.new ≡ start session.old.database }
 {
     let database = session.database();
-    match acquire(rt, alloc, shared, caller, settings, opener, database, pass) {
+    let acquired = acquire(
+        rt, alloc, shared, caller, settings, entrance, opener, database, pass,
+    );
+    entrance.catch_up(rt, database);
+    match acquired {
         Acquired::Lease(lease) => ride(
             rt, shared, caller, gate, client, cutter, session, lease, request,
         ),
