@@ -110,6 +110,35 @@ impl<H: Host> Listening<H> {
     }
 }
 
+/// Binds the addresses of a group, says `listening PORT` on standard output, and serves clients. Fails
+/// if an address can't be listened at or memory is refused, and returns if standard output is closed.
+pub fn serve_group<H: Host + Print>(
+    host: &H,
+    alloc: Global,
+    group: Group,
+    front: u16,
+    seed: [u8; 32],
+    boot: u32,
+) -> Result<(), ListenError> {
+    match Listening::bind(host, alloc, group, front, seed, boot) {
+        Ok(listening) => say_and_serve(host, alloc, listening, front),
+        Err(error) => Err(error),
+    }
+}
+
+// Says that a group listens, and serves its clients.
+fn say_and_serve<H: Host + Print>(
+    host: &H,
+    alloc: Global,
+    listening: Listening<H>,
+    front: u16,
+) -> Result<(), ListenError> {
+    if println!(host; "listening {front}").is_ok() {
+        listening.serve(host, alloc)?;
+    }
+    Ok(())
+}
+
 // Accepts a node's own connections in a thread apart.
 fn accept_apart<H: Host>(
     host: &H,

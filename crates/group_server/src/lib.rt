@@ -10,7 +10,7 @@ mod notices;
 mod serving;
 
 pub use dialer::Dialer;
-pub use group::{ListenError, Listening};
+pub use group::{ListenError, Listening, serve_group};
 pub use host::{Host, Machine};
 pub use notices::{Notice, Notices};
 pub use serving::Serving;

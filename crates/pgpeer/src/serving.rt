@@ -1,5 +1,5 @@
 //! `pgpeer serve`: a group of nodes serves clients, until the process is stopped.
-use group_server::{ListenError, Listening};
+use group_server::{ListenError, serve_group};
 use ini_config::Group;
 use std::alloc::Global;
 use std::io::Eprint;
@@ -21,14 +21,8 @@ pub(crate) fn serve<
         + Sync
         + 'static,
 >(host: &H, alloc: Global, group: Group, front: u16, seed: [u8; 32], boot: u32) -> u8 {
-    match Listening::bind(host, alloc, group, front, seed, boot) {
-        Ok(listening) => {
-            if println!(host; "listening {front}").is_ok()
-                && listening.serve(host, alloc).is_err()
-            {
-                let _ = eprintln!(host; "out of memory");
-            }
-        }
+    match serve_group(host, alloc, group, front, seed, boot) {
+        Ok(()) => {}
         Err(ListenError::Port(port)) => {
             let _ = eprintln!(host; "cannot listen {port}");
         }
