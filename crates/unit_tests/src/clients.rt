@@ -54,17 +54,20 @@ fn frame(alloc: Global, text: &[u8]) -> Result<Frame, AllocError> {
     })
 }
 
+// The act, and the text that it writes.
+fn assert_done(rt: &impl Abort, act: &Act, expected: Done<'_>) {
+    assert_eq!(rt; done_by(act), expected);
+}
+
 // A client that is told this, and what it does.
 fn assert_client(rt: &impl Abort, client: &mut Client, frame: Frame, expected: Done<'_>) {
     assert!(rt; client.may_read());
-    let act = client.on_client(frame);
-    assert_eq!(rt; done_by(&act), expected);
+    assert_done(rt, &client.on_client(frame), expected);
 }
 
 fn assert_ready(rt: &impl Abort, client: &mut Client, status: u8, expected: Done<'_>) {
     assert!(rt; client.holds_lease());
-    let act = client.on_ready(status);
-    assert_eq!(rt; done_by(&act), expected);
+    assert_done(rt, &client.on_ready(status), expected);
 }
 
 const BEGIN: &[u8] = b"Q\0\0\0\x0abegin\0";

@@ -19,11 +19,16 @@ const STREAM: [u8; 40] = [
     b'Q', 0, 0, 0, 8, b'x', b'y', b'z', 0,
 ];
 
+// The frame has this type and this body.
+fn assert_frame(rt: &impl Abort, frame: &Frame, kind: u8, body: &[u8]) {
+    assert_same(rt, frame.kind, kind);
+    assert_bytes(rt, frame.body.as_slice(), body);
+}
+
 fn assert_frames(rt: &impl Abort, frames: &[Frame], expected: &[(u8, &[u8])]) {
-    assert_eq!(rt; frames.len(), expected.len());
+    assert_same(rt, frames.len(), expected.len());
     for (frame, (kind, body)) in frames.iter().zip(expected) {
-        assert_eq!(rt; frame.kind, *kind);
-        assert_eq!(rt; frame.body.as_slice(), *body);
+        assert_frame(rt, frame, *kind, body);
     }
 }
 
@@ -105,8 +110,8 @@ fn assert_found(
         found_kinds.push(frame.kind)?;
         found_bodies.extend_from_slice(frame.body.as_slice())?;
     }
-    assert_eq!(rt; found_kinds.as_slice(), kinds);
-    assert_eq!(rt; found_bodies.as_slice(), bodies);
+    assert_bytes(rt, found_kinds.as_slice(), kinds);
+    assert_bytes(rt, found_bodies.as_slice(), bodies);
     Ok(())
 }
 
@@ -134,6 +139,20 @@ fn small_texts(rt: HostRuntime) -> Result<(), Fail> {
     Ok(())
 }
 
+// The frame with this head and this body, of which nothing is left then.
+fn taken(
+    rt: &(impl Abort + AllocGlobal),
+    (kind, length): (u8, usize),
+    body: &mut Vec<u8>,
+) -> Frame {
+    assert_same(rt, body.len().saturating_add(4), length);
+    let whole = std::mem::replace(body, Vec::new(rt.alloc()));
+    Frame {
+        kind,
+        body: Body::from(whole),
+    }
+}
+
 // The whole frames whose parts these are.
 fn whole_frames(rt: &(impl Abort + AllocGlobal), parts: &Parts) -> Result<Vec<Frame>, AllocError> {
     let mut frames = Vec::new(rt.alloc());
@@ -143,15 +162,7 @@ fn whole_frames(rt: &(impl Abort + AllocGlobal), parts: &Parts) -> Result<Vec<Fr
         match piece {
             OwnedPiece::Head { kind, length } => head = (*kind, *length),
             OwnedPiece::Part(part) => body.extend_from_slice(part.as_slice())?,
-            OwnedPiece::Tail => {
-                let (kind, length) = head;
-                assert_eq!(rt; body.len().saturating_add(4), length);
-                let whole = std::mem::replace(&mut body, Vec::new(rt.alloc()));
-                frames.push(Frame {
-                    kind,
-                    body: Body::from(whole),
-                })?;
-            }
+            OwnedPiece::Tail => frames.push(taken(rt, head, &mut body))?,
         }
     }
     Ok(frames)

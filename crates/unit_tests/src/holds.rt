@@ -1,6 +1,13 @@
 //! The tickets of a link, one after the other, up to as many as may be open.
 use crate::checks::assert_same;
 use quarantine::{Busy, Hold, HoldState, MAX_OPEN_TICKETS};
+use std::process::Abort;
+
+// The link is held so, and has this many open tickets.
+fn assert_hold(rt: &impl Abort, hold: &Hold, state: HoldState, tickets: u16) {
+    assert_same(rt, hold.state(), state);
+    assert_same(rt, hold.tickets(), tickets);
+}
 
 #[test]
 fn three_tickets(rt: HostRuntime) -> Result<(), Busy> {
@@ -8,11 +15,7 @@ fn three_tickets(rt: HostRuntime) -> Result<(), Busy> {
     assert_same(&rt, hold.state(), HoldState::Clear);
     for n in 1..4 {
         hold.open_ticket()?;
-        assert_same(
-            &rt,
-            (hold.state(), hold.tickets()),
-            (HoldState::Waiting(n), n),
-        );
+        assert_hold(&rt, &hold, HoldState::Waiting(n), n);
     }
     for left in [
         HoldState::Waiting(2),
@@ -33,24 +36,12 @@ fn a_ticket_that_failed(rt: HostRuntime) -> Result<(), Busy> {
     hold.open_ticket()?;
     hold.open_ticket()?;
     hold.fail();
-    assert_same(
-        &rt,
-        (hold.state(), hold.tickets()),
-        (HoldState::Condemned, 1),
-    );
+    assert_hold(&rt, &hold, HoldState::Condemned, 1);
     hold.open_ticket()?;
-    assert_same(
-        &rt,
-        (hold.state(), hold.tickets()),
-        (HoldState::Condemned, 2),
-    );
+    assert_hold(&rt, &hold, HoldState::Condemned, 2);
     hold.clean_end();
     hold.clean_end();
-    assert_same(
-        &rt,
-        (hold.state(), hold.tickets()),
-        (HoldState::Condemned, 0),
-    );
+    assert_hold(&rt, &hold, HoldState::Condemned, 0);
     Ok(())
 }
 

@@ -1,6 +1,7 @@
 //! Each change of a value, once.
 ghost use Rattle.std.specs.Prelude.{◌≡◌, IfOk};
 
+use crate::checks::assert_same;
 use lease::{
     IdleLink, Lease, LinkPlace, LinkRecord, Pass, PassRecord, Permit, PermitRecord, TicketRecord,
     Token,
@@ -96,6 +97,11 @@ fn a_ticket(rt: HostRuntime) -> Result<(), Fail> {
     Ok(())
 }
 
+// A link's value says this of it.
+fn assert_link(rt: &impl Abort, found: LinkRecord, said: &LinkRecord) {
+    assert_eq!(rt; found, *said);
+}
+
 #[test]
 fn a_link_in_each_of_its_places(rt: HostRuntime) -> Result<(), Fail> {
     let said = LinkRecord {
@@ -105,19 +111,21 @@ fn a_link_in_each_of_its_places(rt: HostRuntime) -> Result<(), Fail> {
         at: AT,
     };
     let mut lease = permit()?.up(LinkNo(7), 100);
-    assert_eq!(rt; lease.details(), said);
+    assert_link(&rt, lease.details(), &said);
     *lease.stream_mut() += 1;
-    assert_eq!(rt; (lease.details(), *lease.stream()), (said, 101));
+    assert_link(&rt, lease.details(), &said);
+    assert_same(&rt, *lease.stream(), 101);
     let idle = lease.idle();
-    assert_eq!(rt; idle.details(), said);
+    assert_link(&rt, idle.details(), &said);
     let quarantined = idle.hold().quarantine();
-    assert_eq!(rt; quarantined.details(), said);
+    assert_link(&rt, quarantined.details(), &said);
     let quarantined = quarantined.hold().quarantine();
     let idle = quarantined.free();
-    assert_eq!(rt; idle.details(), said);
-    assert_eq!(rt; idle.hold().close(), 101);
-    assert_eq!(rt; permit()?.up(LinkNo(8), 102).quarantine().close(), 102);
-    assert_eq!(rt; permit()?.up(LinkNo(9), 103).forfeit(), 103);
+    assert_link(&rt, idle.details(), &said);
+    assert_same(&rt, idle.hold().close(), 101);
+    let quarantined = permit()?.up(LinkNo(8), 102).quarantine();
+    assert_same(&rt, quarantined.close(), 102);
+    assert_same(&rt, permit()?.up(LinkNo(9), 103).forfeit(), 103);
     Ok(())
 }
 

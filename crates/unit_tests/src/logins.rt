@@ -139,14 +139,10 @@ fn heads(rt: HostRuntime) -> Result<(), Fail> {
 #[test]
 fn other_ready(rt: HostRuntime) -> Result<(), Fail> {
     for length in [4, 6] {
-        assert_eq!(rt;
-            login(rt.alloc())?.on_head(b'Z', length),
-            Err(LinkError::NoKey)
-        );
-        assert_eq!(rt;
-            keyed(&rt)?.on_head(b'Z', length),
-            Err(LinkError::OutOfProfile)
-        );
+        let no_key = Err(LinkError::NoKey);
+        assert_login_head(&rt, &mut login(rt.alloc())?, b'Z', length, &no_key);
+        let out_of_profile = Err(LinkError::OutOfProfile);
+        assert_login_head(&rt, &mut keyed(&rt)?, b'Z', length, &out_of_profile);
     }
     Ok(())
 }
@@ -241,15 +237,21 @@ fn beginnings(rt: HostRuntime) -> Result<(), Fail> {
     Ok(())
 }
 
+// These bytes of a body decide nothing.
+fn assert_body(rt: &impl Abort, login: &mut LinkLogin, bytes: &[u8]) {
+    assert_eq!(rt; login.on_body(bytes), MORE);
+}
+
 // Bytes that no head asked for change nothing, nor does a head while bytes are to come.
 #[test]
 fn out_of_turn(rt: HostRuntime) -> Result<(), Fail> {
     let mut login = login(rt.alloc())?;
-    assert_eq!(rt; login.on_body(b"I"), MORE);
-    assert_eq!(rt; login.on_head(b'K', 12), Ok(LoginHead::Body(8)));
-    assert_eq!(rt; login.on_body(b"\0\0\0\x01"), MORE);
-    assert_eq!(rt; login.on_head(b'E', 4), Ok(LoginHead::Body(8)));
-    assert_eq!(rt; login.on_body(b"\0\0\0\x01\0\0\0\x02"), MORE);
+    let body = Ok(LoginHead::Body(8));
+    assert_body(&rt, &mut login, b"I");
+    assert_login_head(&rt, &mut login, b'K', 12, &body);
+    assert_body(&rt, &mut login, b"\0\0\0\x01");
+    assert_login_head(&rt, &mut login, b'E', 4, &body);
+    assert_body(&rt, &mut login, b"\0\0\0\x01\0\0\0\x02");
     assert_answer(&rt, &mut login, IDLE, &UP);
     Ok(())
 }

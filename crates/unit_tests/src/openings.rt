@@ -1,4 +1,5 @@
 //! Bytes worked out by hand from the PostgreSQL manual's message formats.
+use crate::checks::{assert_bytes, assert_same};
 use pg_ids::{AnyKey, Kind};
 use startup::{
     ErrorCode, First, Opening, Severity, StartupError, write_cancel, write_error, write_login,
@@ -156,9 +157,9 @@ fn longer(first: &[u8; 8]) -> AnyKey {
 fn written_cancel_requests(rt: HostRuntime) {
     let bytes = [0, 8, 0, 0, 0, 0, 0, 7];
     let short = write_cancel(AnyKey::from_short_bytes(bytes));
-    assert_eq!(rt; short.as_slice(), CANCEL.as_slice());
+    assert_bytes(&rt, short.as_slice(), CANCEL.as_slice());
     let long = write_cancel(longer(&bytes));
-    assert_eq!(rt; long.as_slice(), LONG_CANCEL.as_slice());
+    assert_bytes(&rt, long.as_slice(), LONG_CANCEL.as_slice());
 }
 
 // The header of a CancelRequest of this length.
@@ -303,13 +304,19 @@ fn many_names(alloc: Global, last: u16) -> Result<Vec<u8>, AllocError> {
     Ok(text)
 }
 
+// The text is refused with this number before its end is known.
+fn assert_refusal(rt: &impl Abort, opening: &mut Opening, text: &[u8], number: u8) {
+    let answer = opening.read(text, false);
+    assert_same(rt, refusal_of(&answer), number);
+}
+
 #[test]
 fn longest_list_of_names(rt: HostRuntime) -> Result<(), Fail> {
     for (number, last) in [(5, 2496), (4, 2495), (4, 0)] {
         let text = many_names(rt.alloc(), last)?;
-        assert_eq!(rt; text.len(), 10000);
-        let answer = Opening::new(rt.alloc()).read(&text, false);
-        assert_eq!(rt; refusal_of(&answer), number);
+        assert_same(&rt, text.len(), 10000);
+        let mut opening = Opening::new(rt.alloc());
+        assert_refusal(&rt, &mut opening, text.as_slice(), number);
     }
     Ok(())
 }
@@ -322,6 +329,13 @@ const LONG_KEY: [u8; 24] = [
     0, 8, 0, 0, 0, 0, 0, 7, 0, 0, 0, 0, 0, 0, 0, 1, 0, 0, 0, 0, 0, 0, 2, 3,
 ];
 
+// The login is the greeting, and then this.
+fn assert_login(rt: &impl Abort, login: &[u8], ending: &[u8]) {
+    assert!(rt; login.len() >= 84);
+    assert_bytes(rt, &login[..84], GREETING.as_slice());
+    assert_bytes(rt, &login[84..], ending);
+}
+
 // A login with this key ends so.
 fn ends_login(
     rt: &(impl Abort + AllocGlobal),
@@ -330,9 +344,7 @@ fn ends_login(
 ) -> Result<(), StartupError> {
     let mut out = Vec::new(rt.alloc());
     write_login(key, &mut out)?;
-    assert!(rt; out.len() >= 84);
-    assert_eq!(rt; &out[..84], GREETING.as_slice());
-    assert_eq!(rt; &out[84..], ending);
+    assert_login(rt, out.as_slice(), ending);
     Ok(())
 }
 

@@ -1,5 +1,6 @@
 //! Connections over memory and over loopback. The bytes are worked out by hand from the PostgreSQL
 //! manual's message formats.
+use crate::checks::assert_bytes;
 use std::alloc::{AllocError, Global};
 use std::io;
 use std::io::{ErrorKind, Read, Write};
@@ -123,6 +124,22 @@ fn put_query(out: &mut Vec<u8>, text: &[u8]) -> Result<(), AllocError> {
     Ok(())
 }
 
+// What a client is sent that comes with this input, in pieces of this size, and that takes so
+// many bytes.
+fn sent_to<R: Wait + AllocGlobal>(
+    rt: &R,
+    mode: Mode,
+    input: &[u8],
+    size: usize,
+    room: usize,
+) -> io::Result<Vec<u8>> {
+    let server = Server::new(rt.alloc(), mode);
+    let input = Vec::from_slice(rt.alloc(), input)?;
+    let mut wire = Wire::new(rt.alloc(), input, size, room);
+    serve_wire(rt, &server, &mut wire)?;
+    Ok(wire.output)
+}
+
 // A client that comes with this input is sent this, however its bytes come.
 fn assert_sent<R: Wait + Abort + AllocGlobal>(
     rt: &R,
@@ -131,11 +148,8 @@ fn assert_sent<R: Wait + Abort + AllocGlobal>(
     expected: &[u8],
 ) -> Result<(), Fail> {
     for size in [1, 7, 5000] {
-        let server = Server::new(rt.alloc(), mode);
-        let input = Vec::from_slice(rt.alloc(), input)?;
-        let mut wire = Wire::new(rt.alloc(), input, size, usize::MAX);
-        serve_wire(rt, &server, &mut wire)?;
-        assert_eq!(rt; wire.output.as_slice(), expected);
+        let sent = sent_to(rt, mode, input, size, usize::MAX)?;
+        assert_bytes(rt, sent.as_slice(), expected);
     }
     Ok(())
 }
@@ -324,10 +338,8 @@ fn assert_broken<R: Wait + Abort + AllocGlobal>(
     room: usize,
     expected: &[u8],
 ) -> Result<(), Fail> {
-    let server = Server::new(rt.alloc(), Mode::Honest);
-    let mut wire = Wire::new(rt.alloc(), Vec::from_slice(rt.alloc(), input)?, 5000, room);
-    serve_wire(rt, &server, &mut wire)?;
-    assert_eq!(rt; Some(wire.output.as_slice()), expected.get(..room));
+    let sent = sent_to(rt, Mode::Honest, input, 5000, room)?;
+    assert_eq!(rt; Some(sent.as_slice()), expected.get(..room));
     Ok(())
 }
 

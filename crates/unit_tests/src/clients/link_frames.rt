@@ -1,5 +1,6 @@
 //! Frames of a session's link.
 use super::*;
+use crate::checks::assert_same;
 
 // What a session makes of the head of a link's frame.
 #[derive(Clone, Copy, Debug, PartialEq, Eq)]
@@ -17,6 +18,11 @@ fn head_done_by(act: &HeadAct) -> HeadDone<'_> {
     }
 }
 
+// The act on a head, and the text that it writes.
+fn assert_head_done(rt: &impl Abort, act: &HeadAct, expected: HeadDone<'_>) {
+    assert_eq!(rt; head_done_by(act), expected);
+}
+
 pub(super) fn assert_head(
     rt: &impl Abort,
     client: &mut Client,
@@ -26,11 +32,10 @@ pub(super) fn assert_head(
 ) {
     assert!(rt; client.holds_lease());
     let asking = !client.may_read();
-    let act = client.on_link_head(kind, length);
-    assert_eq!(rt; head_done_by(&act), expected);
-    let closed = matches!(act, HeadAct::Close(_));
-    assert_eq!(rt; client.holds_lease(), !closed);
-    assert_eq!(rt; client.may_read(), closed || !asking);
+    assert_head_done(rt, &client.on_link_head(kind, length), expected);
+    let closed = matches!(expected, HeadDone::Close(_));
+    assert_same(rt, client.holds_lease(), !closed);
+    assert_same(rt, client.may_read(), closed || !asking);
 }
 
 // A head of the link, and the act on it, with a request outstanding and with none alike.
@@ -104,8 +109,8 @@ const STATUSES: [(u8, Done<'static>); 6] = [
 
 fn assert_status(rt: &impl Abort, client: &mut Client, status: u8, expected: Done<'_>) {
     assert_ready(rt, client, status, expected);
-    assert_eq!(rt; client.holds_lease(), matches!(expected, ToClient(_)));
-    assert!(rt; client.may_read());
+    assert_same(rt, client.holds_lease(), matches!(expected, ToClient(_)));
+    assert_same(rt, client.may_read(), true);
 }
 
 #[test]

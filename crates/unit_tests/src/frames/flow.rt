@@ -38,6 +38,14 @@ fn faults(rt: HostRuntime) -> Result<(), Fail> {
     Ok(())
 }
 
+// The text has this head here.
+fn assert_head_at(rt: &impl Abort, text: &[u8], at: usize, kind: u8, length: usize) {
+    let field = (length as u64).to_be_bytes();
+    let end = at.saturating_add(5);
+    assert_eq!(rt; text.get(at).copied(), Some(kind));
+    assert_eq!(rt; text.get(at.saturating_add(1)..end), Some(&field[4..]));
+}
+
 // Takes what can be handed out, which are the bytes of the text from here on, and returns where
 // they end.
 fn assert_handed(rt: &impl Abort, flow: &mut Flow, text: &[u8], start: usize) -> usize {
@@ -46,11 +54,8 @@ fn assert_handed(rt: &impl Abort, flow: &mut Flow, text: &[u8], start: usize) ->
         match flow.next() {
             None => return at,
             Some(Piece::Head { kind, length }) => {
-                let field = (length as u64).to_be_bytes();
-                assert_eq!(rt; text.get(at).copied(), Some(kind));
-                let end = at.saturating_add(5);
-                assert_eq!(rt; text.get(at.saturating_add(1)..end), Some(&field[4..]));
-                at = end;
+                assert_head_at(rt, text, at, kind, length);
+                at = at.saturating_add(5);
             }
             Some(Piece::Part(part)) => {
                 let end = at.saturating_add(part.len());

@@ -49,7 +49,7 @@ fn encryption_asked_first(rt: HostRuntime) -> Result<(), Fail> {
 fn asked_as_psycopg(rt: HostRuntime) -> Result<(), Fail> {
     let mut out = Vec::new(rt.alloc());
     write_startup("app", "shop", &mut out)?;
-    assert_eq!(rt; out.as_slice(), PSYCOPG.as_slice());
+    assert_bytes(&rt, out.as_slice(), PSYCOPG.as_slice());
     Ok(())
 }
 
@@ -78,7 +78,7 @@ fn cancels(rt: HostRuntime) -> Result<(), Fail> {
     for (key, ending, request) in &CANCELS {
         is_request(&rt, &mut Opening::new(rt.alloc()), request.as_slice());
         let written = write_cancel(AnyKey::from_short_bytes(*key));
-        assert_eq!(rt; written.as_slice(), request.as_slice());
+        assert_bytes(&rt, written.as_slice(), request.as_slice());
         let login_key = AnyKey::from_short_bytes(*key);
         ends_login(&rt, Some(login_key), ending.as_slice())?;
     }

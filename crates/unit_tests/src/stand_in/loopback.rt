@@ -1,5 +1,6 @@
 //! A server on loopback, with a thread for each connection.
 use super::*;
+use crate::checks::assert_same;
 use std::net::{Net, SocketAddr, TcpListener, TcpStream};
 use std::sync::Arc;
 use std::thread;
@@ -31,18 +32,24 @@ fn start<
     Ok(address)
 }
 
-// Sends a cancel request. Its connection is ended without a byte.
+// Sends a cancel request over this connection, which is ended without a byte.
+fn send_cancel(rt: &impl Abort, stream: &mut TcpStream, request: &[u8]) -> io::Result<()> {
+    stream.set_read_timeout(Some(Duration::from_secs(10)))?;
+    stream.write_all(request)?;
+    let mut byte = [0];
+    let count = stream.read(&mut byte)?;
+    assert_same(rt, count, 0);
+    Ok(())
+}
+
+// Sends a cancel request over a connection of its own.
 fn cancel<R: Net<Stream = TcpStream> + Abort>(
     rt: &R,
     address: SocketAddr,
     request: &[u8],
 ) -> io::Result<()> {
     let mut stream = TcpStream::connect(rt, address)?;
-    stream.set_read_timeout(Some(Duration::from_secs(10)))?;
-    stream.write_all(request)?;
-    let mut byte = [0];
-    assert_eq!(rt; stream.read(&mut byte)?, 0);
-    Ok(())
+    send_cancel(rt, &mut stream, request)
 }
 
 // What a client is sent, until there are so many bytes. The request is made meanwhile.
@@ -90,7 +97,7 @@ fn assert_answered<R: Net<Stream = TcpStream> + AllocGlobal + Abort>(
     client.write_all(input)?;
     let expected = joined(rt.alloc(), answer)?;
     let got = sent(rt, address, client, request, expected.len())?;
-    assert_eq!(rt; got.as_slice(), expected.as_slice());
+    assert_bytes(rt, got.as_slice(), expected.as_slice());
     Ok(())
 }
 
