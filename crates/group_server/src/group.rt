@@ -1,4 +1,7 @@
 //! A group whose addresses are bound.
+ghost use Rattle.std.specs.Prelude.{◌<◌, length};
+ghost use Rattle.std.specs.Arc.{arc_value};
+
 use crate::accepting::accept;
 use crate::{Dialer, Host, Notices, Serving};
 use ini_config::Group;
@@ -71,15 +74,7 @@ impl<H: Host> Listening<H> {
         let mut place = 0;
         for listener in listeners {
             if place < group.len() {
-                let first = Calling::new(alloc, &group, place, seed, Boot((boot as u64) << 32))?;
-                let first = Box::new(alloc, first)?;
-                let dialer = Dialer::new(
-                    *host,
-                    Arc::try_clone(&group)?,
-                    place,
-                    Arc::try_clone(&notices)?,
-                );
-                let serving = Arc::new(alloc, Serving::new(alloc, first, dialer))?;
+                let serving = serving_at(host, alloc, &group, &notices, place, seed, boot)?;
                 nodes.push(ListeningNode { listener, serving })?;
                 place += 1;
             }
@@ -99,12 +94,7 @@ impl<H: Host> Listening<H> {
             nodes,
             notices,
         } = self;
-        let mut all = Vec::with_capacity(alloc, nodes.len())?;
-        for node in nodes {
-            let ListeningNode { listener, serving } = node;
-            all.push(Arc::try_clone(&serving)?)?;
-            accept_apart(host, alloc, serving, listener, &notices)?;
-        }
+        let all = accept_at_each(host, alloc, nodes, &notices)?;
         accept(host, alloc, &all, &notices, &front);
         Ok(())
     }
@@ -137,6 +127,56 @@ fn say_and_serve<H: Host + Print>(
         listening.serve(host, alloc)?;
     }
     Ok(())
+}
+
+// The node at a place of the group, without clients and links.
+fn serving_at<H: Host>(
+    host: &H,
+    alloc: Global,
+    group: &Arc<Group, Global>,
+    notices: &Arc<Notices, Global>,
+    place: usize,
+    seed: [u8; 32],
+    boot: u32,
+) -> Result<Arc<Serving<H>, Global>, AllocError>
+    requires { place < length (arc_value group.now) }
+{
+    let dialer = Dialer::new(
+        *host,
+        Arc::try_clone(group)?,
+        place,
+        Arc::try_clone(notices)?,
+    );
+    let first = Calling::new(alloc, group, place, seed, Boot((boot as u64) << 32))?;
+    let first = Box::new(alloc, first)?;
+    Ok(Arc::new(alloc, Serving::new(alloc, first, dialer))?)
+}
+
+// Accepts the connections of each node in a thread apart. Returns the nodes.
+fn accept_at_each<H: Host>(
+    host: &H,
+    alloc: Global,
+    nodes: Vec<ListeningNode<H>>,
+    notices: &Arc<Notices, Global>,
+) -> Result<Vec<Arc<Serving<H>, Global>>, AllocError> {
+    let mut all = Vec::with_capacity(alloc, nodes.len())?;
+    for node in nodes {
+        all.push(accept_at(host, alloc, node, notices)?)?;
+    }
+    Ok(all)
+}
+
+// Accepts a node's connections in a thread apart. Returns the node.
+fn accept_at<H: Host>(
+    host: &H,
+    alloc: Global,
+    node: ListeningNode<H>,
+    notices: &Arc<Notices, Global>,
+) -> Result<Arc<Serving<H>, Global>, AllocError> {
+    let ListeningNode { listener, serving } = node;
+    let kept = Arc::try_clone(&serving)?;
+    accept_apart(host, alloc, serving, listener, notices)?;
+    Ok(kept)
 }
 
 // Accepts a node's own connections in a thread apart.

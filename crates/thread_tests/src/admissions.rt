@@ -5,6 +5,7 @@ use ini_config::Settings;
 use node_threads::{Admission, Entrance};
 use pg_ids::{DatabaseNo, PeerNo};
 use std::alloc::Global;
+use std::process::Abort;
 use std::sync::Wait;
 use std::test::Fail;
 use std::thread;
@@ -21,14 +22,6 @@ fn admission(alloc: Global, places: u16) -> Result<Admission, Fail> {
     let me = PeerNo::new(2).ok_or("no such peer")?;
     let settings = Settings::plain(alloc, me, Vec::new(alloc), places.max(1), 4)?;
     Ok(Admission::new(alloc, &settings)?)
-}
-
-fn assert_inside<R: Wait>(rt: &R, admission: &Admission, count: usize) -> Result<(), Fail> {
-    if admission.inside(rt, PLAIN) == count {
-        Ok(())
-    } else {
-        Err(Fail::from("another number is inside"))
-    }
 }
 
 fn come_and_go<R: Wait>(rt: &R, entrance: &Entrance<'_>) {
@@ -50,23 +43,29 @@ fn two_come_and_go<R: Threads + Wait + Sync>(rt: &R, one: &Entrance<'_>, other: 
     );
 }
 
+// The first two find a place, and the third comes in once it has lost patience.
+fn come_one_by_one<R: Wait + Abort>(rt: &R, admission: &Admission, entrances: &[Entrance<'_>]) {
+    for (before, entrance) in entrances.iter().enumerate() {
+        assert_eq!(rt; admission.inside(rt, PLAIN), before);
+        entrance.enter(rt, PLAIN);
+    }
+    assert_eq!(rt; admission.inside(rt, PLAIN), entrances.len());
+    for entrance in entrances {
+        entrance.leave(rt, PLAIN);
+    }
+    assert_eq!(rt; admission.inside(rt, PLAIN), 0);
+}
+
 #[test]
 fn whoever_finds_no_place_comes_in_once_patience_is_lost(rt: HostRuntime) -> Result<(), Fail> {
     let alloc = rt.alloc();
     let admission = admission(alloc, 2)?;
-    let first = Entrance::new(alloc, &admission)?;
-    let second = Entrance::new(alloc, &admission)?;
-    let third = Entrance::new(alloc, &admission)?;
-    first.enter(&rt, PLAIN);
-    second.enter(&rt, PLAIN);
-    assert_inside(&rt, &admission, 2)?;
-    third.enter(&rt, PLAIN);
-    assert_inside(&rt, &admission, 3)?;
-    first.leave(&rt, PLAIN);
-    second.leave(&rt, PLAIN);
-    assert_inside(&rt, &admission, 1)?;
-    third.leave(&rt, PLAIN);
-    assert_inside(&rt, &admission, 0)
+    let mut entrances = Vec::new(alloc);
+    for _i in 0..3 {
+        entrances.push(Entrance::new(alloc, &admission)?)?;
+    }
+    come_one_by_one(&rt, &admission, entrances.as_slice());
+    Ok(())
 }
 
 #[test]
@@ -76,5 +75,6 @@ fn nobody_is_left_inside(rt: HostRuntime) -> Result<(), Fail> {
     let one = Entrance::new(alloc, &admission)?;
     let other = Entrance::new(alloc, &admission)?;
     two_come_and_go(&rt, &one, &other);
-    assert_inside(&rt, &admission, 0)
+    assert_eq!(rt; admission.inside(&rt, PLAIN), 0);
+    Ok(())
 }
