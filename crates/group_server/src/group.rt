@@ -100,8 +100,9 @@ impl<H: Host> Listening<H> {
     }
 }
 
-/// Binds the addresses of a group, says `listening PORT` on standard output, and serves clients. Fails
-/// if an address can't be listened at or memory is refused, and returns if standard output is closed.
+/// Binds the addresses of a group, says `listening PORT` on standard output, and serves clients.
+/// Fails if an address can't be listened at or memory is refused, and returns if standard output is
+/// closed.
 pub fn serve_group<H: Host + Print>(
     host: &H,
     alloc: Global,

@@ -1,11 +1,11 @@
 //! How many clients may ask a node for a link of a database at a time: as many as it has places.
 //!
-//! A node's queue gives a freed link to the first that waits in it and to nobody before that one has
-//! asked again, so each hand-over would wait for a thread to wake up, and the next hand-over for this
-//! one. So clients wait here first, where whoever is done lets the next one in, and those that are let
-//! in ask as their threads wake up, in any order. While one waits in the queue all the same, nobody is
-//! let in, since the queue would only grow. This only delays when a client asks: no claim of a node
-//! rests on it.
+//! A node's queue gives a freed link to the first that waits in it and to nobody before that one
+//! has asked again, so each hand-over would wait for a thread to wake up, and the next hand-over for
+//! this one. So clients wait here first, where whoever is done lets the next one in, and those that
+//! are let in ask as their threads wake up, in any order. While one waits in the queue all the same,
+//! nobody is let in, since the queue would only grow. This only delays when a client asks: no claim
+//! of a node rests on it.
 use ini_config::Settings;
 use pg_ids::DatabaseNo;
 use std::alloc::{AllocError, Global};
@@ -14,12 +14,12 @@ use std::sync::atomic::{AtomicU64, Ordering};
 use std::sync::{Arc, Mutex, Wait};
 use std::time::Duration;
 
-// How many milliseconds a client waits here at most. Then it asks for a link all the same, and waits
-// in the node's queue, where it is shown as waiting and can be cancelled.
+// How many milliseconds a client waits here at most. Then it asks for a link all the same, and
+// waits in the node's queue, where it is shown as waiting and can be cancelled.
 const PATIENCE: u64 = 20;
 
-// What a client's word says: it waits here to be let in, it doesn't, or it was let in and waits in the
-// node's queue.
+// What a client's word says: it waits here to be let in, it doesn't, or it was let in and waits in
+// the node's queue.
 const WAITING: u64 = 0;
 
 const CALLED: u64 = 1;
@@ -181,8 +181,8 @@ impl<'a> Entrance<'a> {
         }
     }
 
-    /// The client, which was let in, waits in the node's queue: nobody is let in until it has caught
-    /// up.
+    /// The client, which was let in, waits in the node's queue: nobody is let in until it has
+    /// caught up.
     pub fn queue<R: Wait>(&self, rt: &R, database: DatabaseNo) {
         let Some(line) = self.line(database) else {
             return;

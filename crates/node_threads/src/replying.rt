@@ -197,8 +197,8 @@ pub fn lost(session: &mut Client) -> Reply
     }
 }
 
-// Reads more of a link, and returns whether more came. Most replies are short, so the beginning of one
-// is read by less: what a read may fill is zeroed first.
+// Reads more of a link, and returns whether more came. Most replies are short, so the beginning of
+// one is read by less: what a read may fill is zeroed first.
 fn read_more<L: WriteCalls + ReadCalls>(link: &mut Link<L>) -> bool
     requires dry { HasNoNext link.old.flow.left link.old.flow.bytes }
     requires sound { HasFault (after link.old.flow) None }
