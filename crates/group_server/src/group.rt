@@ -2,7 +2,7 @@
 ghost use Rattle.std.specs.Prelude.{◌<◌, length};
 ghost use Rattle.std.specs.Arc.{arc_value};
 
-use crate::accepting::accept;
+use crate::accepting::{Acceptor, keep_accepting};
 use crate::{Dialer, Host, Notices, Serving};
 use ini_config::Group;
 use node_threads::Calling;
@@ -95,7 +95,8 @@ impl<H: Host> Listening<H> {
             notices,
         } = self;
         let all = accept_at_each(host, alloc, nodes, &notices)?;
-        accept(host, alloc, &all, &notices, &front);
+        let acceptor = Arc::new(alloc, Acceptor::new(front, all, notices))?;
+        keep_accepting(host, alloc, &acceptor);
         Ok(())
     }
 }
@@ -191,10 +192,9 @@ fn accept_apart<H: Host>(
     let mut nodes = Vec::with_capacity(alloc, 1)?;
     nodes.push(serving)?;
     let notices = Arc::try_clone(notices)?;
+    let acceptor = Arc::new(alloc, Acceptor::new(listener, nodes, notices))?;
     let own = *host;
-    thread::spawn(host, move || {
-        accept(&own, alloc, &nodes, &notices, &listener);
-    })?;
+    thread::spawn(host, move || keep_accepting(&own, alloc, &acceptor))?;
     Ok(())
 }
 

@@ -1,5 +1,5 @@
-//! A group of nodes on sockets: connections are accepted and served, each in a thread of its own, and
-//! servers and peers are connected to.
+//! A group of nodes on sockets: threads accept connections and serve them, one at a time each, and
+//! connect to servers and peers.
 #![tactic(auto)]
 
 mod accepting;

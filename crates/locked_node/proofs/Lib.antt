@@ -1,4 +1,5 @@
 pub mod Sums
+pub mod Cells
 pub mod Widths
 pub mod Tallies
 pub mod Growing

@@ -1,5 +1,5 @@
 -- A kind fixes how many numbers its calls have.
-use Rattle.std.proofs.Common.{◌≡◌, ℕ, ◌+◌, ◌*◌, ◌≤◌, Bool, true, false, List, [], ◌∷◌, length, Ok, Err, refl, ap, ◌∙◌, arith}
+use Rattle.std.proofs.Common.{◌≡◌, ℕ, ◌+◌, ◌*◌, ◌<◌, ◌≤◌, Bool, true, false, List, [], ◌∷◌, length, Ok, Err, refl, ap, ◌∙◌, arith}
 use Rattle.std.specs.Prelude.{slice_index, ◌==◌, if◌then◌else◌}
 use Rattle.std.proofs.lemmas.List.{length-append}
 use Rattle.pg_ids.specs.AnyKey.{any_key, any_lowered, kind_of, short_of, peer_of, slot_of}
@@ -35,7 +35,10 @@ use Rattle.node_core.specs.declared.exchange.Order.TheVariants as order
 use Rattle.node_core.specs.declared.exchange.Exchange.{Exchange}
 use Rattle.node_core.specs.declared.exchange.Exchange.TheVariants.{Join, Leave, Acquire, Up, UpFailed, Release, Close, Cancel, Ended, Failed, Restart}
 use Rattle.locked_node.specs.declared.call_kind.TheConstants.{REST, KEYS}
-use Rattle.locked_node.specs.CallNumbers.{WIDEST, answer_of, answer_index, asked_of, key_width, key_numbers, key_number, packet_numbers, numbers_of}
+use Rattle.locked_node.specs.CallNumbers.{answer_of, answer_index, asked_of, index_of, key_index, key_width, key_numbers, key_number, packet_numbers, numbers_of}
+use Rattle.locked_node.specs.CallNumbers as counted
+use Rattle.locked_node.specs.Totals.{ROOMS}
+use Rattle.locked_node.proofs.Cells.{room_is}
 
 -- how many numbers a key has
 key_wide : (k : AnyKey) → length (key_numbers k) ≡ key_width (kind_of k)
@@ -173,29 +176,73 @@ wide old new (Failed ticket failed.Condemned) step = refl
 wide old new (Restart boot restart.Restarted) step = refl
 wide old new call step = refl
 
--- no call has more than the widest
-pub narrow : (call : Exchange) → length (numbers_of call) ≤ WIDEST
-narrow (Join database secret asked (Ok pass)) =
+-- and how many a call with its answer can have
+abbrev most : Exchange → ℕ
+most call =
+    slice_index REST (answer_index (answer_of call))
+    + slice_index KEYS (answer_index (answer_of call)) * key_width Long
+
+le_same : (a b : ℕ) → a ≡ b → a ≤ b
+le_same a b e = omega (arith, e)
+
+fewer : (call : Exchange) → length (numbers_of call) ≤ most call
+fewer (Join database secret asked (Ok pass)) =
     let k = key_most pass.key in omega (arith, k)
-narrow (Leave pass (leave.Holding again)) =
+fewer (Join database secret asked (Err join.Full)) = omega arith
+fewer (Join database secret asked (Err join.Exhausted)) = omega arith
+fewer (Leave pass (leave.Holding again)) =
     let k = key_most pass.key in
     let other = key_most again.key in
     let joined = length-append (key_numbers pass.key) (key_numbers again.key) in
     omega (arith, k, other, joined)
-narrow (Leave pass reply) = let k = key_most pass.key in omega (arith, k)
-narrow (Acquire pass (acquire.Got lease)) = let k = key_most pass.key in omega (arith, k)
-narrow (Acquire pass (acquire.Open permit)) = let k = key_most pass.key in omega (arith, k)
-narrow (Acquire pass reply) = let k = key_most pass.key in omega (arith, k)
-narrow (Cancel asked (order.Serve ticket database server)) =
+fewer (Leave pass leave.Left) = let k = key_most pass.key in omega (arith, k)
+fewer (Leave pass leave.Stale) = let k = key_most pass.key in omega (arith, k)
+fewer (Leave pass leave.Exhausted) = let k = key_most pass.key in omega (arith, k)
+fewer (Acquire pass (acquire.Got lease)) = let k = key_most pass.key in omega (arith, k)
+fewer (Acquire pass (acquire.Open permit)) = let k = key_most pass.key in omega (arith, k)
+fewer (Acquire pass acquire.Waiting) = let k = key_most pass.key in omega (arith, k)
+fewer (Acquire pass acquire.Cancelled) = let k = key_most pass.key in omega (arith, k)
+fewer (Acquire pass acquire.Holding) = let k = key_most pass.key in omega (arith, k)
+fewer (Acquire pass acquire.Exhausted) = let k = key_most pass.key in omega (arith, k)
+fewer (Acquire pass acquire.Stale) = let k = key_most pass.key in omega (arith, k)
+fewer (Cancel asked (order.Serve ticket database server)) =
     let k = key_most asked in
     let joined = length-append (key_numbers asked) (key_number server ∷ []) in
     omega (arith, k, joined)
-narrow (Cancel asked (order.Forward to packet)) =
+fewer (Cancel asked (order.Forward to packet)) =
     let k = key_most asked in
     let sent = packet_most packet in
     let joined = length-append (key_numbers asked) (packet_numbers packet) in
     omega (arith, k, sent, joined)
-narrow (Cancel asked (order.Unwait slot)) = let k = key_most asked in omega (arith, k)
-narrow (Cancel asked (order.Refused refusal)) = let k = key_most asked in omega (arith, k)
-narrow (Up permit key (up.Up lease)) = omega arith
-narrow call = omega arith
+fewer (Cancel asked (order.Unwait slot)) = let k = key_most asked in omega (arith, k)
+fewer (Cancel asked (order.Refused (cancel.Route lost.Spent))) =
+    let k = key_most asked in omega (arith, k)
+fewer (Cancel asked (order.Refused (cancel.Route lost.Unknown))) =
+    let k = key_most asked in omega (arith, k)
+fewer (Cancel asked (order.Refused (cancel.Route lost.NoPeer))) =
+    let k = key_most asked in omega (arith, k)
+fewer (Cancel asked (order.Refused (cancel.Route lost.NoLink))) =
+    let k = key_most asked in omega (arith, k)
+fewer (Cancel asked (order.Refused cancel.Busy)) = let k = key_most asked in omega (arith, k)
+fewer (Cancel asked (order.Refused cancel.Exhausted)) = let k = key_most asked in omega (arith, k)
+fewer (Up permit key (up.Up lease)) = le_same _ _ refl
+fewer (UpFailed permit failing.Freed) = le_same _ _ refl
+fewer (Release lease release.Idle) = le_same _ _ refl
+fewer (Close lease (close.Closed stream)) = le_same _ _ refl
+fewer (Ended ticket ended.Freed) = le_same _ _ refl
+fewer (Failed ticket failed.Condemned) = le_same _ _ refl
+fewer (Restart boot restart.Restarted) = le_same _ _ refl
+fewer call = le_same _ _ refl
+
+key_index_few : (asked : Kind) → key_index asked < 2
+key_index_few Short = omega arith
+key_index_few Long = omega arith
+
+-- no call has more numbers than there are sums of its kind
+pub narrow : (call : Exchange) → index_of (counted.kind_of call) < 96
+    → length (numbers_of call) ≤ slice_index ROOMS (index_of (counted.kind_of call))
+narrow call h =
+    let some = fewer call in
+    let which = key_index_few (asked_of call) in
+    let room = room_is (answer_index (answer_of call)) (key_index (asked_of call)) (omega (arith, h, which)) which in
+    omega (arith, some, room)

@@ -135,7 +135,7 @@ no_journal = record {
       next_ticket = 0;
     };
   };
-  log = record { tail = []; trimmed = record { rows = [] } };
+  log = record { tail = []; trimmed = record { cells = [] } };
 }
 
 -- what is left of a caller that was joined to another

@@ -24,7 +24,6 @@ use crate::shared::Shared;
 use crate::steps::{
     Acquire, Cancel, Close, Ended, Failed, Join, Leave, Release, Restart, Up, UpFailed,
 };
-use crate::turn::{Turn, Woken};
 use node_core::{
     AcquireReply, CloseReply, DatabaseNo, EndedReply, FailedReply, JoinRefusal, Lease, LeaveReply,
     Order, Pass, Permit, ReleaseReply, RestartReply, Ticket, UpFailedReply, UpReply,
@@ -35,31 +34,6 @@ use std::sync::Wait;
 impl<S: Drop> Shared<S> {
     ghost use Rattle.locked_node.specs.Lock.{Counted, Somewhere};
 
-    // Makes a call of any step. Returns whom it wakes as well.
-    #[inline(always)]
-    fn step<R: Wait, C: Call<S>>(&self, rt: &R, caller: &mut Caller<S>, call: C) -> (C::Reply, Turn)
-        requires own { caller.old.lock ≡ self.now }
-        requires can { C.can_make caller.old.start.view.pools call }
-        ensures counted { Counted (C.exchange (C.handed call) result.0) result.0 (C.at_end call)
-            caller.old caller.new }
-        ensures streams { Somewhere (C.streams call result.0) }
-    {
-        if caller.allowance == 0 {
-            let nobody = Turn {
-                incarnation: 0,
-                woken: Woken::Nobody,
-            };
-            return (call.forfeit(), nobody);
-        }
-        let details = call.details();
-        self.take(rt, &mut caller.seat);
-        let (reply, turn) = self.make(&mut caller.seat, call, &details);
-        self.give(&mut caller.seat);
-        caller.allowance -= 1;
-        caller.tally.count(&C::record(&details, &reply));
-        (reply, turn)
-    }
-
     // Makes a call of any step, and then wakes whoever's turn it is.
     #[inline(always)]
     fn call<R: Wait, C: Call<S>>(&self, rt: &R, caller: &mut Caller<S>, call: C) -> C::Reply
@@ -69,7 +43,15 @@ impl<S: Drop> Shared<S> {
             caller.old caller.new }
         ensures streams { Somewhere (C.streams call result) }
     {
-        let (reply, turn) = self.step(rt, caller, call);
+        if caller.allowance == 0 {
+            return call.forfeit();
+        }
+        let details = call.details();
+        self.take(rt, &mut caller.seat);
+        let (reply, turn) = self.make(&mut caller.seat, call, &details);
+        self.give(&mut caller.seat);
+        caller.allowance -= 1;
+        caller.tally.count(&C::record(&details, &reply));
         self.wake(rt, caller, &turn);
         reply
     }

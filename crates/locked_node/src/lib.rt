@@ -28,5 +28,5 @@ pub use shared::Shared;
 pub use steps::{
     Acquire, Cancel, Close, Ended, Failed, Join, Leave, Release, Restart, Up, UpFailed,
 };
-pub use tally::{Row, Tally};
+pub use tally::Tally;
 pub use turn::Woken;

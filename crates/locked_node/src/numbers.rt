@@ -5,7 +5,6 @@ ghost use Rattle.locked_node.specs.CallNumbers.{WIDEST, numbers_of};
 ghost use Rattle.locked_node.specs.Totals.{with_number, with_numbers};
 ghost use Rattle.node_core.specs.declared.exchange.Exchange.{Exchange};
 
-use crate::tally::Row;
 use byteorder::{BigEndian, ByteOrder};
 use node_core::{
     AcquireReply, Exchange, LeaveReply, LinkPlace, LinkRecord, Order, PassRecord, PermitRecord,
@@ -26,237 +25,248 @@ fn eight_from(bytes: &[u8], place: usize) -> u64
     BigEndian::read_u64(bytes.split_at(place).1)
 }
 
-// Each adds to the sums from a position on, and returns the position behind.
-impl Row {
-    /// Adds the numbers of a call, each to its sum.
-    #[inline(always)]
-    pub(crate) fn add(&mut self, call: &Exchange)
-        ensures { self.new ≡ with_numbers self.old 0 (numbers_of call.now) }
-    {
-        match call {
-            Exchange::Join(database, secret, _, Ok(pass)) => {
-                let at = self.pass(0, pass);
-                let at = self.number(at, u64::from(database.get()));
-                let at = self.number(at, u64::from(secret.get()));
-                self.any_key(at, &pass.key);
-            }
-            Exchange::Join(database, secret, _, Err(_)) => {
-                let at = self.number(0, u64::from(database.get()));
-                self.number(at, u64::from(secret.get()));
-            }
-            Exchange::Leave(pass, reply) => self.leave(pass, reply),
-            Exchange::Acquire(pass, reply) => {
-                let at = self.pass(0, pass);
-                let at = match reply {
-                    AcquireReply::Got(lease) => self.link(at, lease),
-                    AcquireReply::Open(permit) => self.permit(at, permit),
-                    _ => at,
-                };
-                self.any_key(at, &pass.key);
-            }
-            Exchange::Up(permit, key, reply) => self.up(permit, &key.to_bytes(), reply),
-            Exchange::UpFailed(permit, _) => {
-                self.permit(0, permit);
-            }
-            Exchange::Release(lease, _) | Exchange::Close(lease, _) => {
-                self.link(0, lease);
-            }
-            Exchange::Cancel(key, order) => self.cancel(key, order),
-            Exchange::Ended(ticket, _) | Exchange::Failed(ticket, _) => {
-                self.ticket(0, ticket);
-            }
-            Exchange::Restart(boot, _) => {
-                self.number(0, boot.get());
-            }
+// Each of these adds to the sums from a position on, and returns the position behind.
+
+/// Adds the numbers of a call, each to its sum.
+#[inline(always)]
+pub(crate) fn add_call(sums: &mut [u128], call: &Exchange)
+    requires { WIDEST ≤ length sums.old }
+    ensures { sums.new ≡ with_numbers sums.old 0 (numbers_of call.now) }
+{
+    match call {
+        Exchange::Join(database, secret, _, Ok(pass)) => {
+            let at = add_pass(sums, 0, pass);
+            let at = add_number(sums, at, u64::from(database.get()));
+            let at = add_number(sums, at, u64::from(secret.get()));
+            add_any_key(sums, at, &pass.key);
+        }
+        Exchange::Join(database, secret, _, Err(_)) => {
+            let at = add_number(sums, 0, u64::from(database.get()));
+            add_number(sums, at, u64::from(secret.get()));
+        }
+        Exchange::Leave(pass, reply) => add_leave(sums, pass, reply),
+        Exchange::Acquire(pass, reply) => {
+            let at = add_pass(sums, 0, pass);
+            let at = match reply {
+                AcquireReply::Got(lease) => add_link(sums, at, lease),
+                AcquireReply::Open(permit) => add_permit(sums, at, permit),
+                _ => at,
+            };
+            add_any_key(sums, at, &pass.key);
+        }
+        Exchange::Up(permit, key, reply) => add_up(sums, permit, &key.to_bytes(), reply),
+        Exchange::UpFailed(permit, _) => {
+            add_permit(sums, 0, permit);
+        }
+        Exchange::Release(lease, _) | Exchange::Close(lease, _) => {
+            add_link(sums, 0, lease);
+        }
+        Exchange::Cancel(key, order) => add_cancel(sums, key, order),
+        Exchange::Ended(ticket, _) | Exchange::Failed(ticket, _) => {
+            add_ticket(sums, 0, ticket);
+        }
+        Exchange::Restart(boot, _) => {
+            add_number(sums, 0, boot.get());
         }
     }
+}
 
-    #[inline(always)]
-    #[tactic(auto, unfolding(crate::specs::Totals::with_number))]
-    fn number(&mut self, at: usize, number: u64) -> usize
-        requires { at < WIDEST }
-        ensures sums { self.new ≡ with_number self.old at number }
-        ensures next { result ≡ at + 1 }
-    {
-        self.sums[at] = self.sums[at].wrapping_add(u128::from(number));
-        at + 1
-    }
+#[inline(always)]
+#[tactic(auto, unfolding(crate::specs::Totals::with_number))]
+fn add_number(sums: &mut [u128], at: usize, number: u64) -> usize
+    requires { at < length sums.old }
+    ensures added { sums.new ≡ with_number sums.old at number }
+    ensures same { length sums.new ≡ length sums.old }
+    ensures next { result ≡ at + 1 }
+{
+    sums[at] = sums[at].wrapping_add(u128::from(number));
+    at + 1
+}
 
-    // Eight key bytes.
-    #[inline(always)]
-    fn key(&mut self, at: usize, bytes: &[u8; 8]) -> usize
-        requires { at < WIDEST }
-        ensures sums { self.new ≡ with_number self.old at (call.key_number bytes.now) }
-        ensures next { result ≡ at + 1 }
-    {
-        self.number(at, BigEndian::read_u64(bytes))
-    }
+// Eight key bytes.
+#[inline(always)]
+fn add_key(sums: &mut [u128], at: usize, bytes: &[u8; 8]) -> usize
+    requires { at < length sums.old }
+    ensures added { sums.new ≡ with_number sums.old at (call.key_number bytes.now) }
+    ensures same { length sums.new ≡ length sums.old }
+    ensures next { result ≡ at + 1 }
+{
+    add_number(sums, at, BigEndian::read_u64(bytes))
+}
 
-    // The key of a client: its first eight bytes and, if it is long, its boot and its serial.
-    #[inline(always)]
-    fn any_key(&mut self, at: usize, key: &AnyKey) -> usize
-        requires { at + 3 ≤ WIDEST }
-        ensures sums { self.new ≡ with_numbers self.old at (call.key_numbers key.now) }
-        ensures next { result ≡ at + length (call.key_numbers key.now) }
-    {
-        match key {
-            AnyKey::Short(short) => self.key(at, &short.to_bytes()),
-            AnyKey::Long(short, part) => {
-                let at = self.key(at, &short.to_bytes());
-                let at = self.number(at, part.boot.get());
-                self.number(at, part.serial.get())
-            }
+// The key of a client: its first eight bytes and, if it is long, its boot and its serial.
+#[inline(always)]
+fn add_any_key(sums: &mut [u128], at: usize, key: &AnyKey) -> usize
+    requires { at + 3 ≤ length sums.old }
+    ensures added { sums.new ≡ with_numbers sums.old at (call.key_numbers key.now) }
+    ensures same { length sums.new ≡ length sums.old }
+    ensures next { result ≡ at + length (call.key_numbers key.now) }
+{
+    match key {
+        AnyKey::Short(short) => add_key(sums, at, &short.to_bytes()),
+        AnyKey::Long(short, part) => {
+            let at = add_key(sums, at, &short.to_bytes());
+            let at = add_number(sums, at, part.boot.get());
+            add_number(sums, at, part.serial.get())
         }
     }
+}
 
-    // The key of a CancelRequest, which follows its length and its code, of four bytes each.
-    #[inline(always)]
-    fn packet(&mut self, at: usize, packet: &Packet)
-        requires { at + 3 ≤ WIDEST }
-        ensures { self.new ≡ with_numbers self.old at (call.packet_numbers packet.now) }
-    {
-        match packet {
-            Packet::Short(bytes) => {
-                self.number(at, eight_from(bytes, 8));
-            }
-            Packet::Long(bytes) => {
-                let at = self.number(at, eight_from(bytes, 8));
-                let at = self.number(at, eight_from(bytes, 16));
-                self.number(at, eight_from(bytes, 24));
-            }
+// The key of a CancelRequest, which follows its length and its code, of four bytes each.
+#[inline(always)]
+fn add_packet(sums: &mut [u128], at: usize, packet: &Packet)
+    requires { at + 3 ≤ length sums.old }
+    ensures { sums.new ≡ with_numbers sums.old at (call.packet_numbers packet.now) }
+{
+    match packet {
+        Packet::Short(bytes) => {
+            add_number(sums, at, eight_from(bytes, 8));
+        }
+        Packet::Long(bytes) => {
+            let at = add_number(sums, at, eight_from(bytes, 8));
+            let at = add_number(sums, at, eight_from(bytes, 16));
+            add_number(sums, at, eight_from(bytes, 24));
         }
     }
+}
 
-    // A place of the pools.
-    #[inline(always)]
-    fn place(&mut self, at: usize, place: &LinkPlace) -> usize
-        requires { at + 2 ≤ WIDEST }
-        ensures sums { self.new ≡ with_numbers self.old at (call.place_numbers place.now) }
-        ensures next { result ≡ at + 2 }
-    {
-        let at = self.number(at, u64::from(place.database.get()));
-        self.number(at, u64::from(place.index))
-    }
+// A place of the pools.
+#[inline(always)]
+fn add_place(sums: &mut [u128], at: usize, place: &LinkPlace) -> usize
+    requires { at + 2 ≤ length sums.old }
+    ensures added { sums.new ≡ with_numbers sums.old at (call.place_numbers place.now) }
+    ensures same { length sums.new ≡ length sums.old }
+    ensures next { result ≡ at + 2 }
+{
+    let at = add_number(sums, at, u64::from(place.database.get()));
+    add_number(sums, at, u64::from(place.index))
+}
 
-    #[inline(always)]
-    fn pass(&mut self, at: usize, pass: &PassRecord) -> usize
-        requires { at + 3 ≤ WIDEST }
-        ensures sums { self.new ≡ with_numbers self.old at (call.pass_numbers pass.now) }
-        ensures next { result ≡ at + 3 }
-    {
-        let at = self.number(at, u64::from(pass.key.peer().get()));
-        let at = self.number(at, pass.incarnation);
-        self.number(at, pass.number)
-    }
+#[inline(always)]
+fn add_pass(sums: &mut [u128], at: usize, pass: &PassRecord) -> usize
+    requires { at + 3 ≤ length sums.old }
+    ensures added { sums.new ≡ with_numbers sums.old at (call.pass_numbers pass.now) }
+    ensures same { length sums.new ≡ length sums.old }
+    ensures next { result ≡ at + 3 }
+{
+    let at = add_number(sums, at, u64::from(pass.key.peer().get()));
+    let at = add_number(sums, at, pass.incarnation);
+    add_number(sums, at, pass.number)
+}
 
-    #[inline(always)]
-    fn permit(&mut self, at: usize, permit: &PermitRecord) -> usize
-        requires { at + 5 ≤ WIDEST }
-        ensures sums { self.new ≡ with_numbers self.old at (call.permit_numbers permit.now) }
-        ensures next { result ≡ at + 5 }
-    {
-        let at = self.number(at, u64::from(permit.peer.get()));
-        let at = self.number(at, permit.incarnation);
-        let at = self.number(at, permit.number);
-        self.place(at, &permit.at)
-    }
+#[inline(always)]
+fn add_permit(sums: &mut [u128], at: usize, permit: &PermitRecord) -> usize
+    requires { at + 5 ≤ length sums.old }
+    ensures added { sums.new ≡ with_numbers sums.old at (call.permit_numbers permit.now) }
+    ensures same { length sums.new ≡ length sums.old }
+    ensures next { result ≡ at + 5 }
+{
+    let at = add_number(sums, at, u64::from(permit.peer.get()));
+    let at = add_number(sums, at, permit.incarnation);
+    let at = add_number(sums, at, permit.number);
+    add_place(sums, at, &permit.at)
+}
 
-    #[inline(always)]
-    fn link(&mut self, at: usize, lease: &LinkRecord) -> usize
-        requires { at + 5 ≤ WIDEST }
-        ensures sums { self.new ≡ with_numbers self.old at (call.link_numbers lease.now) }
-        ensures next { result ≡ at + 5 }
-    {
-        let at = self.number(at, u64::from(lease.peer.get()));
-        let at = self.number(at, lease.incarnation);
-        let at = self.number(at, lease.link.get());
-        self.place(at, &lease.at)
-    }
+#[inline(always)]
+fn add_link(sums: &mut [u128], at: usize, lease: &LinkRecord) -> usize
+    requires { at + 5 ≤ length sums.old }
+    ensures added { sums.new ≡ with_numbers sums.old at (call.link_numbers lease.now) }
+    ensures same { length sums.new ≡ length sums.old }
+    ensures next { result ≡ at + 5 }
+{
+    let at = add_number(sums, at, u64::from(lease.peer.get()));
+    let at = add_number(sums, at, lease.incarnation);
+    let at = add_number(sums, at, lease.link.get());
+    add_place(sums, at, &lease.at)
+}
 
-    #[inline(always)]
-    fn ticket(&mut self, at: usize, ticket: &TicketRecord) -> usize
-        requires { at + 6 ≤ WIDEST }
-        ensures sums { self.new ≡ with_numbers self.old at (call.ticket_numbers ticket.now) }
-        ensures next { result ≡ at + 6 }
-    {
-        let at = self.number(at, u64::from(ticket.peer.get()));
-        let at = self.number(at, ticket.incarnation);
-        let at = self.number(at, ticket.number);
-        let at = self.number(at, ticket.link.get());
-        self.place(at, &ticket.at)
-    }
+#[inline(always)]
+fn add_ticket(sums: &mut [u128], at: usize, ticket: &TicketRecord) -> usize
+    requires { at + 6 ≤ length sums.old }
+    ensures added { sums.new ≡ with_numbers sums.old at (call.ticket_numbers ticket.now) }
+    ensures same { length sums.new ≡ length sums.old }
+    ensures next { result ≡ at + 6 }
+{
+    let at = add_number(sums, at, u64::from(ticket.peer.get()));
+    let at = add_number(sums, at, ticket.incarnation);
+    let at = add_number(sums, at, ticket.number);
+    let at = add_number(sums, at, ticket.link.get());
+    add_place(sums, at, &ticket.at)
+}
 
-    // A client that leaves, or stays.
-    #[inline(always)]
-    fn leave(&mut self, pass: &PassRecord, reply: &LeaveReply<PassRecord>)
-        ensures { self.new
-            ≡ with_numbers self.old 0 (numbers_of (Exchange.Leave pass.now reply.now)) }
-    {
-        let at = self.pass(0, pass);
-        match reply {
-            LeaveReply::Holding(again) => {
-                let at = self.pass(at, again);
-                let at = self.any_key(at, &pass.key);
-                self.any_key(at, &again.key);
-            }
-            LeaveReply::Left | LeaveReply::Stale | LeaveReply::Exhausted => {
-                self.any_key(at, &pass.key);
-            }
+// A client that leaves, or stays.
+#[inline(always)]
+fn add_leave(sums: &mut [u128], pass: &PassRecord, reply: &LeaveReply<PassRecord>)
+    requires { WIDEST ≤ length sums.old }
+    ensures { sums.new
+        ≡ with_numbers sums.old 0 (numbers_of (Exchange.Leave pass.now reply.now)) }
+{
+    let at = add_pass(sums, 0, pass);
+    match reply {
+        LeaveReply::Holding(again) => {
+            let at = add_pass(sums, at, again);
+            let at = add_any_key(sums, at, &pass.key);
+            add_any_key(sums, at, &again.key);
+        }
+        LeaveReply::Left | LeaveReply::Stale | LeaveReply::Exhausted => {
+            add_any_key(sums, at, &pass.key);
         }
     }
+}
 
-    // The report of an open link.
-    #[inline(always)]
-    fn up(
-        &mut self,
-        permit: &PermitRecord,
-        key: &[u8; 8],
-        reply: &UpReply<LinkRecord, PermitRecord, ()>,
-    )
-        ensures { self.new
-            ≡ with_numbers self.old 0 (numbers_of (Exchange.Up permit.now key.now reply.now)) }
-    {
-        let at = self.permit(0, permit);
-        match reply {
-            UpReply::Up(lease) => {
-                let at = self.link(at, lease);
-                self.key(at, key);
-            }
-            UpReply::Exhausted(again, ()) => {
-                let at = self.permit(at, again);
-                self.key(at, key);
-            }
-            UpReply::Stale(()) | UpReply::AtEnd(()) => {
-                self.key(at, key);
-            }
+// The report of an open link.
+#[inline(always)]
+fn add_up(
+    sums: &mut [u128],
+    permit: &PermitRecord,
+    key: &[u8; 8],
+    reply: &UpReply<LinkRecord, PermitRecord, ()>,
+)
+    requires { WIDEST ≤ length sums.old }
+    ensures { sums.new
+        ≡ with_numbers sums.old 0 (numbers_of (Exchange.Up permit.now key.now reply.now)) }
+{
+    let at = add_permit(sums, 0, permit);
+    match reply {
+        UpReply::Up(lease) => {
+            let at = add_link(sums, at, lease);
+            add_key(sums, at, key);
+        }
+        UpReply::Exhausted(again, ()) => {
+            let at = add_permit(sums, at, again);
+            add_key(sums, at, key);
+        }
+        UpReply::Stale(()) | UpReply::AtEnd(()) => {
+            add_key(sums, at, key);
         }
     }
+}
 
-    // A cancel request.
-    #[inline(always)]
-    fn cancel(&mut self, key: &AnyKey, order: &Order<TicketRecord>)
-        ensures { self.new
-            ≡ with_numbers self.old 0 (numbers_of (Exchange.Cancel key.now order.now)) }
-    {
-        match order {
-            Order::Serve(ticket, database, server) => {
-                let at = self.ticket(0, ticket);
-                let at = self.number(at, u64::from(database.get()));
-                let at = self.any_key(at, key);
-                self.key(at, &server.to_bytes());
-            }
-            Order::Forward(peer, packet) => {
-                let at = self.number(0, u64::from(peer.get()));
-                let at = self.any_key(at, key);
-                self.packet(at, packet);
-            }
-            Order::Unwait(slot) => {
-                let at = self.number(0, u64::from(slot.get()));
-                self.any_key(at, key);
-            }
-            Order::Refused(_) => {
-                self.any_key(0, key);
-            }
+// A cancel request.
+#[inline(always)]
+fn add_cancel(sums: &mut [u128], key: &AnyKey, order: &Order<TicketRecord>)
+    requires { WIDEST ≤ length sums.old }
+    ensures { sums.new
+        ≡ with_numbers sums.old 0 (numbers_of (Exchange.Cancel key.now order.now)) }
+{
+    match order {
+        Order::Serve(ticket, database, server) => {
+            let at = add_ticket(sums, 0, ticket);
+            let at = add_number(sums, at, u64::from(database.get()));
+            let at = add_any_key(sums, at, key);
+            add_key(sums, at, &server.to_bytes());
+        }
+        Order::Forward(peer, packet) => {
+            let at = add_number(sums, 0, u64::from(peer.get()));
+            let at = add_any_key(sums, at, key);
+            add_packet(sums, at, packet);
+        }
+        Order::Unwait(slot) => {
+            let at = add_number(sums, 0, u64::from(slot.get()));
+            add_any_key(sums, at, key);
+        }
+        Order::Refused(_) => {
+            add_any_key(sums, 0, key);
         }
     }
 }

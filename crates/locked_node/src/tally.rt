@@ -1,55 +1,46 @@
 //! Calls counted by their kind, with the sums of their numbers.
-ghost use Rattle.std.specs.Prelude.{◌≡◌, ◌+◌, ◌^◌, ◌<◌};
-ghost use Rattle.locked_node.specs.CallNumbers.{numbers_of};
-ghost use Rattle.locked_node.specs.Totals.{SumsUp};
+ghost use Rattle.std.specs.Prelude.{◌≡◌, ◌+◌, ◌^◌, ◌<◌, slice_index};
+ghost use Rattle.locked_node.specs.CallNumbers.{KINDS};
+ghost use Rattle.locked_node.specs.declared.tally.TheConstants.{START};
 
 use crate::call_kind::{CallKind, KINDS};
-use crate::numbers::WIDEST;
+use crate::numbers::{WIDEST, add_call};
 use node_core::Exchange;
 
-/// The calls of one kind.
-#[derive(Clone, Copy, Debug, PartialEq, Eq)]
-pub struct Row {
-    /// How many they are.
-    pub calls: u128,
-    /// The sums of their numbers, by position, modulo 2^128.
-    pub sums: [u128; WIDEST],
+// Where the cells of each kind begin, by the kind's place: one for the count of its calls, and then
+// one for each number that a call with its answer can have. Those of the last kind end at the end.
+const START: [usize; KINDS + 1] = [
+    0, 9, 18, 21, 24, 27, // Join
+    30, 37, 44, 57, 70, 77, 84, 91, // Leave
+    98, 110, 122, 134, 146, 153, 160, 167, 174, 181, 188, 195, 202, 209, // Acquire
+    216, 228, 240, 252, 264, 271, 278, 285, // Up
+    292, 298, 304, 310, 316, 322, // UpFailed
+    328, 334, 340, 346, 352, 358, 364, 370, 376, 382, // Release
+    388, 394, 400, 406, 412, 418, // Close
+    424, 436, 448, 456, 464, 469, 474, 478, 482, 486, 490, 494, 498, 502, 506, 510, 514, 518, // Cancel
+    522, 529, 536, 543, 550, 557, 564, 571, // Ended
+    578, 585, 592, 599, 606, 613, 620, 627, // Failed
+    634, 636, 638, 640, // Restart
+    642, // the end
+];
+
+// Behind the last kind's cells there is room for the numbers of any call.
+const CELLS: usize = 642 + WIDEST;
+
+// Where the cells of a kind begin.
+#[inline(always)]
+fn start_of(kind: usize) -> usize
+    requires { kind < KINDS }
+    ensures place { result ≡ slice_index START kind }
+    ensures within { result < 642 }
+{
+    START[kind]
 }
 
-/// The calls of each kind, by the kind's place.
+/// The calls of each kind, with the sums of their numbers modulo 2^128.
 #[derive(Clone, Copy, Debug, PartialEq, Eq)]
 pub struct Tally {
-    rows: [Row; KINDS],
-}
-
-const NO_CALL: Row = Row {
-    calls: 0,
-    sums: [0; WIDEST],
-};
-
-impl Row {
-    // One more call.
-    #[inline(always)]
-    fn count(&mut self, call: &Exchange)
-        requires { self.old.calls + 1 < 2 ^ 128 }
-        ensures calls { self.new.calls ≡ self.old.calls + 1 }
-        ensures sums { SumsUp self.old.sums (numbers_of call.now) self.new.sums }
-    {
-        self.add(call);
-        self.calls += 1;
-    }
-
-    // The calls of another row besides.
-    fn merge(&mut self, other: &Row)
-        requires { self.old.calls + other.now.calls < 2 ^ 128 }
-        ensures calls { self.new.calls ≡ self.old.calls + other.now.calls }
-        ensures sums { SumsUp self.old.sums other.now.sums self.new.sums }
-    {
-        self.calls += other.calls;
-        for i in 0..WIDEST {
-            self.sums[i] = self.sums[i].wrapping_add(other.sums[i]);
-        }
-    }
+    cells: [u128; CELLS],
 }
 
 impl Tally {
@@ -60,23 +51,23 @@ impl Tally {
     pub const fn new() -> Tally
         ensures { IsEmpty result }
     {
-        Tally {
-            rows: [NO_CALL; KINDS],
-        }
+        Tally { cells: [0; CELLS] }
     }
 
     /// How many calls of this kind there are.
     pub fn calls(&self, kind: CallKind) -> u128
         ensures { result ≡ calls_at self.now (index_of kind) }
     {
-        self.rows[kind.index()].calls
+        self.cells[start_of(kind.index())]
     }
 
-    /// The sums of the numbers of the calls of this kind, by position, modulo 2^128.
-    pub fn sums(&self, kind: CallKind) -> [u128; WIDEST]
-        ensures { result ≡ (row_at self.now (index_of kind)).sums }
+    /// The sums of the numbers of the calls of this kind, by position, modulo 2^128: as many as a call
+    /// with this answer can have.
+    pub fn sums(&self, kind: CallKind) -> &[u128]
+        ensures { result.now ≡ (row_at self.now (index_of kind)).sums }
     {
-        self.rows[kind.index()].sums
+        let kind = kind.index();
+        &self.cells[START[kind] + 1..START[kind + 1]]
     }
 
     /// Counts one more call.
@@ -85,9 +76,9 @@ impl Tally {
         requires { all_calls self.old < 2 ^ 127 }
         ensures { Counts self.old call.now self.new }
     {
-        let kind = CallKind::of(call);
-        let row = &mut self.rows[kind.index()];
-        row.count(call);
+        let start = start_of(CallKind::of(call).index());
+        add_call(&mut self.cells[start + 1..], call);
+        self.cells[start] += 1;
     }
 
     /// Counts the calls of another tally too.
@@ -95,9 +86,8 @@ impl Tally {
         requires { all_calls self.old + all_calls other.now < 2 ^ 128 }
         ensures { AddsUp self.old other.now self.new }
     {
-        for i in 0..KINDS {
-            let row = &mut self.rows[i];
-            row.merge(&other.rows[i]);
+        for i in 0..CELLS {
+            self.cells[i] = self.cells[i].wrapping_add(other.cells[i]);
         }
     }
 }

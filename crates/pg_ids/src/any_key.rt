@@ -6,8 +6,8 @@ ghost use Rattle.pg_ids.specs.declared.any_key.KeyBytes.TheVariants.{Short, Long
 
 use crate::client_key::ClientKey;
 use crate::long_part::LongPart;
+use crate::numbers::SlotNo;
 use crate::peer_no::PeerNo;
-use crate::slot_no::SlotNo;
 use byteorder::{BigEndian, ByteOrder};
 
 /// The kind of a cancel key, by the protocol version that its client asked for.

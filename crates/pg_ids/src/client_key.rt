@@ -3,9 +3,9 @@ ghost use Rattle.std.specs.Prelude.{◌≡◌, ◌↔◌, ◌+◌, ◌<◌, ◌^
 ghost use Rattle.pg_ids.specs.Key.{number_of, key_bytes, identity_of, lowered, IsKey};
 
 use crate::hops::Hops;
+use crate::numbers::SlotNo;
 use crate::peer_no::PeerNo;
 use crate::secret::Secret;
-use crate::slot_no::SlotNo;
 use byteorder::{BigEndian, ByteOrder};
 
 // What one of a peer, of a slot and of a secret adds to the key's number.

@@ -2,8 +2,7 @@
 ghost use Rattle.std.specs.Prelude.{◌≡◌};
 ghost use Rattle.pg_ids.specs.AnyKey.{long_part_bytes, IsLongPart};
 
-use crate::boot::Boot;
-use crate::serial::Serial;
+use crate::numbers::{Boot, Serial};
 use byteorder::{BigEndian, ByteOrder};
 
 /// What a long key has behind the eight bytes of a short one (own layout): the run of the pooler
