@@ -96,7 +96,12 @@ pub fn keep_accepting<H: Host>(host: &H, alloc: Global, acceptor: &Arc<Acceptor<
         let waiting = acceptor.waiting.load(Ordering::SeqCst);
         if waiting >= FEWEST {
             acceptor.waiting.park(host, (waiting % (1 << 32)) as u32);
-        } else if let Err(error) = start(host, alloc, acceptor) {
+            continue;
+        }
+        for node in &acceptor.nodes {
+            node.stock(host, alloc, FEWEST as usize);
+        }
+        if let Err(error) = start(host, alloc, acceptor) {
             if acceptor.notices.may_give(host, Notice::Serve) {
                 let _ = eprintln!(host; "cannot start a thread: {error}");
             }

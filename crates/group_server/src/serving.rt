@@ -29,6 +29,23 @@ impl<M: Machine> Serving<M> {
         if let Some(calling) = self.free.lock(rt).pop() {
             return Some(calling);
         }
+        self.make(rt, alloc)
+    }
+
+    /// Makes callers until so many are free, or there is no memory for more. Whoever serves
+    /// connections then finds one, and has no room on its stack for making it.
+    pub fn stock<R: Wait>(&self, rt: &R, alloc: Global, callers: usize) {
+        let free = self.free.lock(rt).len();
+        for _ in free..callers {
+            let Some(calling) = self.make(rt, alloc) else {
+                return;
+            };
+            self.give_back(rt, calling);
+        }
+    }
+
+    #[inline(never)]
+    fn make<R: Wait>(&self, rt: &R, alloc: Global) -> Option<Box<Calling<TcpStream>>> {
         let calling = self.first.lock(rt).split()?;
         Box::new(alloc, calling).ok()
     }
