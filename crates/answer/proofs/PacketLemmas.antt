@@ -23,7 +23,7 @@ goes_on packet key known begins long =
           ∙ ap (λ front. front ++ drop (length request) packet) begins;
     }
 
--- it is told as a fault of the arguments, unless memory ran out
+-- that is reported as a fault of the arguments, unless memory ran out
 pub told_more : (packet : List ℕ) (fault : Fault) → IsUsage fault → HasMore packet
     → IsPacketFault packet fault
 told_more packet (Usage text) is more = more

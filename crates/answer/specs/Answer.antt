@@ -86,7 +86,7 @@ IsPacketFault packet NotACancel = AsksElse packet
 IsPacketFault packet Memory = ⊤
 IsPacketFault packet _ = ⊥
 
--- why there is no order: by the packet, or the node gave an answer that isn't expected
+-- why there is no order: a fault of the packet, or an unexpected reply of the node
 abbrev pub IsDecideFault : Decision → Fault → Type 0
 IsDecideFault given (Unexpected reply) = Gives (settings_in given) reply
 IsDecideFault given fault = IsPacketFault given.packet fault

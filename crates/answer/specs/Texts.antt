@@ -53,8 +53,7 @@ unwait_text slot = codes "unwait " ++ decimal slot ++ codes "\n"
 abbrev pub refused_text : ℕ → List ℕ
 refused_text number = codes "refused " ++ decimal number ++ codes "\n"
 
--- an order; no client among the arguments waits for a link, so none of them is told to wait no
--- longer
+-- an order; no client among the arguments waits for a link, so none of them gets an `Unwait`
 abbrev pub order_text : Order TicketRecord → List ℕ
 order_text (Serve ticket database key) = serve_text key
 order_text (Forward peer packet) = forward_text peer packet

@@ -22,8 +22,8 @@ use std::sync::Wait;
 
 /// Writes the answer to these arguments to `out`, or why there is none to `err`, and nothing else.
 /// Returns the status that the program ends with: 0 for an answer, 1 for a fault in running, 2 for
-/// arguments, settings, a script or a group that are refused. Where memory runs out the fault says so, and
-/// where a writer fails the status is 1.
+/// arguments, settings, a script or a group that are refused. Where memory runs out the fault says
+/// so, and where a writer fails the status is 1.
 pub fn answer<R: Wait, O: Opener, W: Write, E: Write>(
     rt: &R,
     alloc: Global,

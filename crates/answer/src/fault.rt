@@ -63,8 +63,8 @@ pub enum Reply {
 }
 
 impl Fault {
-    /// The status that the program ends with: 2 for its arguments and for settings or a script that are
-    /// refused, 1 for a fault in running.
+    /// The status that the program ends with: 2 for its arguments and for settings or a script that
+    /// are refused, 1 for a fault in running.
     pub fn status(&self) -> u8
         ensures { result ≡ status_of self.now }
     {

@@ -4,8 +4,8 @@ ghost use Rattle.cancel_router.specs.Refusals.{number_of};
 
 use thiserror::Error;
 
-/// Why a cancel request goes nowhere. Nobody is told: the requester's connection is closed all the
-/// same.
+/// Why a cancel request goes nowhere. The requester gets no reply: its connection is closed without
+/// a byte.
 #[derive(Clone, Copy, Debug, PartialEq, Eq, Hash, Error)]
 pub enum RouteRefusal {
     /// The request has passed through as many poolers as it may.

@@ -43,7 +43,7 @@ part_fits gathered frame is =
     (is_one_of (codes "HFdcf") frame.kind) (by_kind frame.kind frame.body) is in
     grind (arith, nat_tests, fits)
 
--- with so many zero bytes at its front, a text has at least as many strings
+-- a text with this many zero bytes at its front has at least as many strings
 zeros_shown : (count : ℕ) (body : List ℕ) → count ≤ length body
     → list_all is_zero (take count body) ≡ true → count ≤ count_by is_zero body
 zeros_shown zero body there zeros = omega arith

@@ -33,7 +33,7 @@ text_of Links = codes "SHOW LINKS"
 text_of Clients = codes "SHOW CLIENTS"
 text_of Cancels = codes "SHOW CANCELS"
 
--- both texts are the same, but for the case of their ASCII letters
+-- both texts are the same, except for the case of their ASCII letters
 abbrev pub IsSameInAnyCase : List ℕ → List ℕ → Type 0
 IsSameInAnyCase a b = map to_ascii_lowercase a ≡ map to_ascii_lowercase b
 
@@ -48,8 +48,8 @@ Asks text query = IsSameInAnyCase text (text_of query)
 abbrev pub frame : ℕ → List ℕ → Frame
 frame kind body = record { kind = kind; body = body }
 
--- what describes a column besides its name: of no table, and of no column there; of the type `text`,
--- with a length of any size and without a modifier; in text format
+-- what describes a column besides its name: of no table, and of no column there; of the type
+-- `text`, with a length of any size and without a modifier; in text format
 abbrev pub text_column : List ℕ
 text_column = big_bytes 4 0 ++ big_bytes 2 0 ++ big_bytes 4 25 ++ big_bytes 2 65535
     ++ big_bytes 4 4294967295 ++ big_bytes 2 0
@@ -151,8 +151,8 @@ abbrev pub yes_or_no : Bool → List ℕ
 yes_or_no true = codes "yes"
 yes_or_no false = codes "no"
 
--- a link by its number: its database, where it is, how many of its tickets are open, and whether it is
--- condemned
+-- a link by its number: its database, where it is, how many of its tickets are open, and whether it
+-- is condemned
 abbrev pub link_row : NodeSettings → Link → List (List ℕ)
 link_row settings link = decimal link.details.link
     ∷ database_name settings link.details.at.database
@@ -231,8 +231,8 @@ abbrev pub frames_of : Query → List Frame → List Frame
 frames_of query rows =
     row_description (columns_of query) ∷ (rows ++ command_complete ∷ ready_for_query ∷ [])
 
--- These messages answer a text, by a node's view, the eight words of its board and its settings: the
--- rows of a query, or, where the text is no query, that it isn't in this profile.
+-- These messages are the reply to a text, by a node's view, the eight words of its board and its
+-- settings: the rows of a query, or, where the text is no query, that it isn't in this profile.
 abbrev pub Answers : List ℕ → NodeView → List ℕ → NodeSettings → List Frame → Type 0
 Answers text view words settings frames =
     ((query : Query) × (rows : List Frame) × Asks text query

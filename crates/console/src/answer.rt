@@ -14,7 +14,7 @@ use node_core::View;
 use pg_frames::Frame;
 use std::alloc::{AllocError, Global};
 
-/// What the console answers to a query's text: by a copy of the node's state, the eight words of its
+/// The console's reply to a query's text, by a copy of the node's state, the eight words of its
 /// board and its settings. Fails if memory runs out, or for a host or a name of 4 GiB or more.
 pub fn rows<S: Drop>(
     alloc: Global,

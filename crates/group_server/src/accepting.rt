@@ -8,8 +8,8 @@ use std::sync::{Arc, Mutex, Wait};
 use std::time::Duration;
 use std::{io, thread};
 
-// How many milliseconds it takes until a connection is accepted or a thread is started again after a
-// fault, which would come again at once if no descriptor or no thread is left.
+// How many milliseconds pass after a fault until a connection is accepted or a thread is started
+// again. The fault would come again at once if no descriptor or no thread is left.
 const REST: u64 = 10;
 
 // How large the stack of a thread is that serves connections.
@@ -22,9 +22,9 @@ const FEWEST: u64 = 2;
 // How many threads wait for a connection, at most: whoever is done with one and finds as many ends.
 const MOST: u64 = 8;
 
-/// A listener, and the nodes that serve its connections in turn. The thread that accepts a connection
-/// serves it, and waits for another one after that: so no thread is started for each connection, and
-/// none has to be woken up by another.
+/// A listener, and the nodes that serve its connections in turn. The thread that accepts a
+/// connection serves it, and waits for another one after that: so no thread is started for each
+/// connection, and none has to be woken up by another.
 #[derive(Drop)]
 pub struct Acceptor<M: Machine> {
     listener: TcpListener,

@@ -43,8 +43,8 @@ struct ListeningNode<H: Host> {
 }
 
 impl<H: Host> Listening<H> {
-    /// Binds port `front` of 127.0.0.1 and the address of each node. The nodes have no clients and no
-    /// links, and boot with this number.
+    /// Binds port `front` of 127.0.0.1 and the address of each node. The nodes have no clients and
+    /// no links, and boot with this number.
     pub fn bind(
         host: &H,
         alloc: Global,
@@ -86,8 +86,8 @@ impl<H: Host> Listening<H> {
         })
     }
 
-    /// Accepts connections and serves them. Fails if a node can't accept connections for want of a
-    /// thread or of memory.
+    /// Accepts connections and serves them. Fails if a node can't accept connections because no
+    /// thread can be started or memory ran out.
     pub fn serve(self, host: &H, alloc: Global) -> Result<(), AllocError> {
         let Listening {
             front,

@@ -32,8 +32,8 @@ impl<M: Machine> Serving<M> {
         self.make(rt, alloc)
     }
 
-    /// Makes callers until so many are free, or there is no memory for more. Whoever serves
-    /// connections then finds one, and has no room on its stack for making it.
+    /// Makes callers until this many are free, or no more can be made. Whoever serves connections
+    /// then finds one, and needs no room on its stack for making it.
     pub fn stock<R: Wait>(&self, rt: &R, alloc: Global, callers: usize) {
         let free = self.free.lock(rt).len();
         for _ in free..callers {

@@ -26,8 +26,8 @@ pub(crate) struct Running {
 }
 
 impl Running {
-    // Starts a server of this mode at this listener, and nodes before it whose entries for peers lead
-    // as `leads` says.
+    // Starts a server of this mode at this listener, and nodes before it whose entries for peers
+    // lead as `leads` says.
     pub(crate) fn start<R: TestHost>(
         rt: &R,
         listener: TcpListener,

@@ -1,7 +1,8 @@
 //! Messages of the protocol, worked out by hand from the PostgreSQL manual's message formats.
 use std::alloc::{AllocError, Global};
 
-// StartupMessage of a client that asks for the database `shop`, and of one that asks for the console.
+// StartupMessage of a client that asks for the database `shop`, and of one that asks for the
+// console.
 pub(crate) const STARTUP: &[u8] = b"\0\0\0\x20\0\x03\0\0user\0ann\0database\0shop\0\0";
 
 pub(crate) const CONSOLE_STARTUP: &[u8] = b"\0\0\0\x25\0\x03\0\0user\0ann\0database\0pgbouncer\0\0";

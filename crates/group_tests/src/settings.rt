@@ -12,8 +12,8 @@ default_pool_size = 1
 max_client_conn = 4
 ";
 
-// The group of nodes 1, 2 and so on, which listen at these ports, before the server at this port. The
-// entries of the node at a place lead, for peers 1, 2 and so on, to the nodes at the places of
+// The group of nodes 1, 2 and so on, which listen at these ports, before the server at this port.
+// The entries of the node at a place lead, for peers 1, 2 and so on, to the nodes at the places of
 // `leads`.
 pub(crate) fn group(
     alloc: Global,

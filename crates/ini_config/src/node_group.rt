@@ -28,8 +28,8 @@ impl Model for Group {
 }
 
 impl Group {
-    /// The nodes as a group, or the first refusal of 42, 40 and 41 that applies. A refusal drops the
-    /// settings.
+    /// The nodes as a group, or the first refusal of 42, 40 and 41 that applies. A refusal drops
+    /// the settings.
     pub fn check(nodes: Vec<Settings>) -> Result<Group, GroupError>
         ensures accepted { IsOk result ↔ IsGroup nodes.items }
         ensures nodes { IfOk result (λ group. group ≡ nodes.items) }

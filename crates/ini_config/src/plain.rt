@@ -19,9 +19,9 @@ const SERVER_PORT: u16 = 5432;
 const PEER_PORT: u16 = 6432;
 
 impl Settings {
-    /// The settings of a node with one database, whose host and port are the same for all such nodes: a
-    /// `pool` of 1 to 65535 links, 1 to 65536 `clients`, at most 64 `peers`, each from 1 and none twice.
-    /// The only error is out of memory.
+    /// The settings of a node with one database, whose host and port are the same for all such
+    /// nodes: a `pool` of 1 to 65535 links, 1 to 65536 `clients`, at most 64 `peers`, each from 1
+    /// and none twice. The only error is out of memory.
     pub fn plain(
         alloc: Global,
         peer: PeerNo,

@@ -24,8 +24,8 @@ const MAX_CLIENTS: u32 = 100;
 
 const MAX_LINKS: u32 = 65535;
 
-/// The settings of the text, or its first fault: lines in order, then what is missing or too much in
-/// the whole text. Any other error is out of memory.
+/// The settings of the text, or its first fault: lines in order, then what is missing or too much
+/// in the whole text. Any other error is out of memory.
 pub fn read_settings(alloc: Global, text: &str) -> Result<Settings, IniError>
     ensures { MatchResult result
         (λ settings. settings_of text.now ≡ Ok settings)

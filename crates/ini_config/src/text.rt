@@ -108,8 +108,8 @@ fn value_of(text: &str) -> Option<u32>
     text.parse().ok()
 }
 
-/// Parses a number from `low` to `high`: decimal digits, without leading zeros. Fails with `BadNumber`
-/// for a text that is no number, and with `OutOfRange` for any other number.
+/// Parses a number from `low` to `high`: decimal digits, without leading zeros. Fails with
+/// `BadNumber` for a text that is no number, and with `OutOfRange` for any other number.
 #[tactic(auto, unfolding(crate::specs::Text::number_in))]
 pub fn number_in(low: u32, high: u32, text: &str) -> Result<u32, IniCode>
     ensures value { result ≡ number_in low high text.now }

@@ -7,8 +7,8 @@ use Rattle.pg_ids.specs.declared.long_part.LongPart.{LongPart}
 use Rattle.key_table.specs.declared.entry.Entry.{Entry}
 use Rattle.key_table.specs.declared.entry.Entry.TheVariants.{Short, Long}
 
--- A pooler's number; by slot number, where the slot is live, its secret and, if its key is long, the
--- key's boot and serial; the slot that is given next.
+-- A pooler's number; by slot number, where the slot is live, its secret and, if its key is long,
+-- the key's boot and serial; the slot that is given next.
 pub record Slots : Type 0 where
   pub peer : ℕ
   pub entries : List (Option Entry)
@@ -58,8 +58,8 @@ names t key =
 abbrev pub first_key : ℕ → ℕ → ℕ → ClientKey
 first_key peer slot secret = record { peer = peer; slot = slot; secret = secret; hops = 3 }
 
--- from old, a client is given this key with this secret and, if it is long, this part: the next slot
--- becomes live, and no other changes
+-- from old, a client is given this key with this secret and, if it is long, this part: the next
+-- slot becomes live, and no other changes
 pub record Issues (old : Slots) (secret : ℕ) (long : Option LongPart) (issued : AnyKey) (new : Slots) : Type 0 where
   pub slot : old.next ≡ Some (slot_of issued)
   pub key : issued ≡ any_key (first_key old.peer (slot_of issued) secret) long

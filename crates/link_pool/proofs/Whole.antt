@@ -62,7 +62,8 @@ agree_changed {K} {V} {R} f g look new_look claim new_claim key slot agree keys 
     (slots s))
     (keys k)
 
--- what a claim says of a place: that the client has the link, that it has the permit, that it gave the link back
+-- what a claim says of a place: that the client has the link, that it has the permit, that it gave
+-- the link back
 abbrev pub says : LinkPlace → Option Claim → Bool × Bool × Bool
 says at o = (has_link at o, has_permit at o, has_given at o)
 
@@ -156,7 +157,7 @@ next_in (Some pool) i stack h = free_place (slice_get pool.places i) (of_top is_
 pub next_is_free : (v : PoolView) (at : LinkPlace) → IsPool v → top (free_at v at.database) ≡ Some at.index → place_at v at ≡ Some place.Free
 next_is_free v at whole h = next_in (slice_get v.pools at.database) at.index (whole.stacks at.database) h
 
--- a place that wasn't free is put on the stack, if it is free now; and the next free one is taken off
+-- a place that wasn't free is put on the stack, if it is free now; the next free one is taken off
 put_back : (v : PoolView) (at : LinkPlace) (old p : Place) → IsPool v → place_at v at ≡ Some old → is_free (Some old) ≡ false → Restacks v at p (put_on (is_free (Some p)) at.index)
 put_back v at old p whole there out pool is =
     relisted is_free pool.places pool.free at.index old p (ap (λ (o : Option DatabasePool). place_in o at.index) (sym is) ∙ there) out (subst IsStacked is (whole.stacks at.database))

@@ -42,8 +42,8 @@ fn assert_trimmed(rt: &impl Abort, journal: &Journal) {
     assert_short(rt, &totals, ALL);
 }
 
-// The tail keeps 4,096 calls, and what leaves it is counted: 5,000 requests for peer 2, each sent on
-// with a key that ends in 6 for one that ends in 7.
+// The tail keeps 4,096 calls, and what leaves it is counted: 5,000 requests for peer 2, each sent
+// on with a key that ends in 6 for one that ends in 7.
 #[test]
 fn trims(rt: HostRuntime) -> Result<(), Fail> {
     let mut journal = node(rt.alloc(), 1)?;

@@ -1,5 +1,5 @@
-//! Tests of a node behind its lock, by one thread and by several: replies, counts and sums, which no
-//! clause fixes.
+//! Tests of a node behind its lock, by one thread and by several: replies, counts and sums, which
+//! no clause fixes.
 #![tactic(auto)]
 
 #[cfg(test)]

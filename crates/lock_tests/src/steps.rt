@@ -72,7 +72,7 @@ pub(crate) fn waits(reply: AcquireReply<Lease<Stream>, Permit>) -> bool {
     }
 }
 
-// Whether the client was told that its wait was cancelled.
+// Whether the reply says that the client's wait was cancelled.
 pub(crate) fn is_cancelled(reply: AcquireReply<Lease<Stream>, Permit>) -> bool {
     match reply {
         AcquireReply::Cancelled => true,

@@ -44,7 +44,8 @@ impl Replies {
     }
 }
 
-// Four calls: a client joins, two cancel requests come, and the client leaves, or a third one comes.
+// Four calls: a client joins, two cancel requests come, and the client leaves or, if it couldn't
+// join, a third request comes.
 fn round<R: Wait>(rt: &R, shared: &Shared, caller: &mut Caller, replies: &mut Replies)
     requires own { caller.old.lock ≡ shared.now }
     requires database { 0 < length caller.old.start.view.pools }

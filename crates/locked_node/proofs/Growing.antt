@@ -1,4 +1,4 @@
--- A step keeps what the settings fix, and the incarnation and the next numbers grow by what it makes.
+-- A step keeps what the settings fix; the incarnation and the next numbers grow by what it makes.
 use Rattle.std.proofs.Common.{◌≡◌, ◌≢◌, ℕ, ◌+◌, ◌≤◌, List, Option, Some, None, Ok, Err, refl, ap, ◌∙◌, ◌*◌, ⊎_elim, arith}
 use Rattle.std.specs.Prelude.{if◌then◌else◌, ◌==◌, slice_get}
 use Rattle.std.proofs.Common.{eq-eqb, ne_eqb}
@@ -74,7 +74,8 @@ pub record Numbers : Type 0 where
 abbrev pub numbers : PoolView → Numbers
 numbers v = record { permit = v.next_permit; link = v.next_link; ticket = v.next_ticket; incarnation = v.incarnation }
 
--- so many passes, permits, links, tickets and incarnations were made, at most, and what the settings fix stays
+-- the next numbers of passes, permits, links and tickets, and the incarnation, grow by at least the
+-- given numbers, and what the settings fix stays
 pub record Grows (pass permit link ticket incarnation : ℕ) (old new : NodeView) : Type 0 where
   pub fixed : fixed_of new ≡ fixed_of old
   pub passes : pass + old.next_pass ≤ new.next_pass

@@ -84,7 +84,8 @@ pub journal_step : (old : JournalView) (call : Exchange) (new : JournalView) →
     → NodeStep old.view call new.view → Appends old.log call new.log → JournalStep old call new
 journal_step old call new short whole step appends = record { whole = whole; step = step; appended = appends; base = base_moves old call new short step appends }
 
--- where each call with an answer raises a number of the node, and no call lowers it, the journal has at most as many
+-- where each call with an answer raises a number of the node, and no call lowers it, the journal
+-- has at most that number of such calls
 log_counts : (answer : CallAnswer) (number : NodeView → ℕ)
     → ((old : NodeView) (call : Exchange) (new : NodeView) → NodeStep old call new → one answer call + number old ≤ number new)
     → (journal : JournalView) → HasHistory journal → answers_in (log_calls journal.log) answer ≤ number journal.view

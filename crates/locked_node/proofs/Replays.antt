@@ -21,7 +21,8 @@ replay_more first (c ∷ cs) last call next replay step = (replay.0, replay.1, r
 abbrev pub answers_in : CallAnswer → List Exchange → ℕ
 answers_in answer calls = calls_in (index_of (short answer)) calls + calls_in (index_of (long answer)) calls
 
--- where each call with an answer raises a number of the node, and no call lowers it, there are at most as many
+-- where each call with an answer raises a number of the node, and no call lowers it, the number
+-- grows by at least how many such calls there are
 pub replay_counts : (answer : CallAnswer) (number : NodeView → ℕ)
     → ((old : NodeView) (call : Exchange) (new : NodeView) → NodeStep old call new → one answer call + number old ≤ number new)
     → (first : NodeView) (calls : List Exchange) (last : NodeView) → Replay first calls last → answers_in answer calls + number first ≤ number last

@@ -160,8 +160,7 @@ answer_index kind.FailedExhausted = 45
 answer_index kind.Restarted = 46
 answer_index kind.RestartExhausted = 47
 
--- whether the key that a call names is short or long, or that a login asked for, and short where there
--- is none
+-- the kind of the key that a call names, or that a login asked for; short where there is none
 abbrev pub asked_of : Exchange → Kind
 asked_of (Join database secret asked reply) = asked
 asked_of (Leave pass reply) = any.kind_of pass.key
@@ -230,8 +229,8 @@ packet_numbers (packet.Short bytes) = key_number (drop 8 bytes) ∷ []
 packet_numbers (packet.Long bytes) =
     key_number (drop 8 bytes) ∷ key_number (drop 16 bytes) ∷ key_number (drop 24 bytes) ∷ []
 
--- The numbers of a call, in their order: of each value handed in or out its own, then each peer, slot,
--- database, secret and boot, then each key.
+-- The numbers of a call, in their order: those of each value handed in or out, then each peer,
+-- slot, database, secret and boot, then each key.
 abbrev pub numbers_of : Exchange → List ℕ
 numbers_of (Join database secret asked (Ok pass)) =
     pass_numbers pass ++ database ∷ secret ∷ key_numbers pass.key

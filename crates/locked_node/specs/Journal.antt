@@ -105,12 +105,12 @@ pub record HasHistory (journal : JournalView) : Type 0 where
   pub after : Replay base journal.log.tail journal.view
   pub totals : IsTallyOf past journal.log.trimmed
 
--- how many calls have this answer, with keys of both kinds, where so many are of each kind
+-- how many calls have this answer, with keys of both kinds, by how many calls each kind has
 abbrev pub answers_in : (ℕ → ℕ) → CallAnswer → ℕ
 answers_in calls answer = calls (index_of (short answer)) + calls (index_of (long answer))
 
 -- the view's incarnation and its next numbers are at least the counts of the calls that made them,
--- where so many calls are of each kind
+-- by how many calls each kind has
 pub record CountsWithin (calls : ℕ → ℕ) (view : NodeView) : Type 0 where
   pub passes : answers_in calls Joined ≤ view.next_pass
   pub permits : answers_in calls AcquireOpen ≤ view.links.next_permit

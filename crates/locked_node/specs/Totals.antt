@@ -27,8 +27,8 @@ pub record Row : Type 0 where
   pub calls : ℕ
   pub sums : List ℕ
 
--- How many sums there are of each kind: as many as a call with its answer has numbers at most. For each
--- answer the first list says how many it has besides its keys', and the second how many keys.
+-- How many sums there are of each kind: as many as a call with its answer has numbers at most. For
+-- each answer the first list says how many it has besides its keys', and the second how many keys.
 abbrev pub rooms : List ℕ → List ℕ → List ℕ
 rooms [] keys = []
 rooms (rest ∷ rests) [] = []

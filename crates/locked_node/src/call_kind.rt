@@ -6,7 +6,7 @@ use crate::call_answer::{ANSWERS, CallAnswer};
 use node_core::Exchange;
 use pg_ids::Kind;
 
-/// How many kinds there are: each answer with a key of each kind.
+/// How many kinds there are: one for each answer and each kind of key.
 pub const KINDS: usize = 96;
 
 // How many numbers a call with each answer has besides its keys', by the answer's place.

@@ -185,9 +185,9 @@ impl<S: Drop> Shared<S> {
         self.call(rt, caller, Failed(ticket))
     }
 
-    /// Starts the node anew, with this boot. It is the one step whose work under the lock grows with
-    /// the node: each slot is freed, and the streams of links that nobody holds are dropped. Whoever
-    /// waits for a turn is woken. Returns `Exhausted` without allowance.
+    /// Starts the node anew, with this boot. It is the one step whose work under the lock grows
+    /// with the node: each slot is freed, and the streams of links that nobody holds are dropped.
+    /// Whoever waits for a turn is woken. Returns `Exhausted` without allowance.
     pub fn restart<R: Wait>(&self, rt: &R, caller: &mut Caller<S>, boot: Boot) -> RestartReply
         requires own { caller.old.lock ≡ self.now }
         ensures counted { Counted (call.Restart boot result) result restart.Exhausted

@@ -7,8 +7,8 @@ use std::collections::LinkedList;
 use std::snapshot::Snapshot;
 
 /// What a caller knows: how many calls it may still make, the journal with which it began, if it is
-/// the first caller, the calls that it made, their places in the lock's history, the journal that it
-/// found, and the journal with which the lock began.
+/// the first caller, the calls that it made, their places in the lock's history, the journal that
+/// it found, and the journal with which the lock began.
 pub struct Share {
     pub allowance: u128,
     pub begun: LinkedList<Locked<()>>,

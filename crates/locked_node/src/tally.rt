@@ -61,8 +61,8 @@ impl Tally {
         self.cells[start_of(kind.index())]
     }
 
-    /// The sums of the numbers of the calls of this kind, by position, modulo 2^128: as many as a call
-    /// with this answer can have.
+    /// The sums of the numbers of the calls of this kind, by position, modulo 2^128: as many as a
+    /// call with this answer can have numbers.
     pub fn sums(&self, kind: CallKind) -> &[u128]
         ensures { result.now ≡ (row_at self.now (index_of kind)).sums }
     {

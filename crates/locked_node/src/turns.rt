@@ -1,9 +1,9 @@
 //! Clients that sleep until it is their turn to get a link.
 //!
-//! Each slot has a word of the lock's table, behind the lock's own. It has an incarnation of the node
-//! and what its client does there, so that a client of an earlier incarnation, which may still sleep
-//! on the word, is never taken for the one that has the slot now. The lock's rule speaks of its own
-//! word alone.
+//! Each slot has a word of the lock's table, behind the lock's own. It has an incarnation of the
+//! node and what its client does there, so that a client of an earlier incarnation, which may still
+//! sleep on the word, is never taken for the one that has the slot now. The lock's rule speaks of
+//! its own word alone.
 ghost use Rattle.std.specs.Prelude.{◌≡◌, ◌≢◌, ◌<◌, IfSome};
 
 use crate::caller::Caller;
@@ -14,8 +14,8 @@ use lease::Pass;
 use pg_ids::SlotNo;
 use std::sync::Wait;
 
-// What a slot's word says of its client: it was called since it last waited, or it sleeps; otherwise
-// neither.
+// What a slot's word says of its client: it was called since it last waited, or it sleeps;
+// otherwise neither.
 const CALLED: u64 = 1;
 
 const ASLEEP: u64 = 2;
@@ -106,9 +106,9 @@ impl<S: Drop> Shared<S> {
     }
 
     /// Sleeps until it may be the turn of the client of a pass: a link is idle or a place is free
-    /// and nobody waits before it, its wait was cancelled, or the node was started anew. It may also
-    /// return for no reason, so ask for a link again, and wait again if there is none. It is no call
-    /// of the node: it takes no lock and isn't counted.
+    /// and nobody waits before it, its wait was cancelled, or the node was started anew. It may
+    /// also return for no reason, so ask for a link again, and wait again if there is none. It is
+    /// no call of the node: it takes no lock and isn't counted.
     ///
     /// A client that asks and then waits misses no turn that came in between. Steps that make it
     /// somebody's turn wake that client alone.
@@ -123,8 +123,8 @@ impl<S: Drop> Shared<S> {
         self.sleep(rt, &mut caller.seat, word, pass.incarnation);
     }
 
-    // Sleeps on a slot's word until its client of this incarnation is called, or another incarnation
-    // has begun.
+    // Sleeps on a slot's word until its client of this incarnation is called, or another
+    // incarnation has begun.
     fn sleep<R: Wait>(&self, rt: &R, seat: &mut Place<S>, word: usize, incarnation: u64)
         requires own { seat.old.table_id ≡ self.now }
         requires word { (word ≢ 0) × (word < self.now.words) }

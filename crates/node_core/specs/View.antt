@@ -11,9 +11,9 @@ use Rattle.node_core.specs.declared.client.Client.{Client}
 
 -- A node's own number and its peers; the pool size of each database, by its place; the slots, with
 -- the secret of each live one and, if its key is long, boot and serial, and the next; by slot the
--- client of each live one, with its database and its pass's number; the number of the next pass; the
--- boot, and the serial of the next long key; and the links: the incarnation, each place, who has it,
--- who waits, who is owed `Cancelled`, and the next numbers.
+-- client of each live one, with its database and its pass's number; the number of the next pass;
+-- the boot, and the serial of the next long key; and the links: the incarnation, each place, who
+-- has it, who waits, who is owed `Cancelled`, and the next numbers.
 pub record NodeView : Type 0 where
   pub me : ℕ
   pub peers : List ℕ

@@ -158,9 +158,9 @@ impl<S: Drop> NodeCore<S> {
         &self.links
     }
 
-    /// A new start: the next incarnation, in which nobody is logged in and no link is open. Its long
-    /// keys have this boot, which no other start of the node may have had, and serials from 0. The
-    /// streams of idle and quarantined links are dropped; other numbers go on.
+    /// A new start: the next incarnation, in which nobody is logged in and no link is open. Its
+    /// long keys have this boot, which no other start of the node may have had, and serials from 0.
+    /// The streams of idle and quarantined links are dropped; other numbers go on.
     pub fn restart(&mut self, boot: Boot) -> RestartReply
         ensures step { IsStep (call.Restart boot result) self.old self.new }
         ensures streams { RestartStreams result self.old.stored self.new.stored }

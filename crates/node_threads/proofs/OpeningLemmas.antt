@@ -74,7 +74,7 @@ wrote_error wrote gave old new code told text false is text_is whole some =
       ),
     )
 
--- an answer that refuses the connection is a reason for it
+-- where the first packets are refused with this error, the connection is refused for it
 pub refused_for : (seen : Seen) (text : List ℕ) (at_end : Bool) (error : StartupError)
     → Answers seen text at_end (Err error) → IsRefusedFor seen text error
 refused_for seen text at_end error answer = elim answer.told [

@@ -12,7 +12,7 @@ abbrev pub answered : Tally → List CallAnswer → ℕ
 answered tally [] = 0
 answered tally (answer ∷ more) = answers_in (calls_at tally) answer + answered tally more
 
--- the answers that make a pass, and those that spend one
+-- the answers by which a pass is made, and those by which one is spent
 abbrev pub passes_made : List CallAnswer
 passes_made = answer.Joined ∷ []
 
@@ -73,8 +73,8 @@ a_lease = record { passes = 0; permits = 0; leases = 1; tickets = 0 }
 abbrev pub a_ticket : Hand
 a_ticket = record { passes = 0; permits = 0; leases = 0; tickets = 1 }
 
--- With so many values in hand before, and these calls that make one or spend one counted between two
--- tallies, so many are in hand after.
+-- With `before` values in hand at the old tally, `after` are in hand at the new one: each call that
+-- was counted in between makes one if its answer is in `made`, and spends one if it is in `spent`.
 abbrev pub Leads : List CallAnswer → List CallAnswer → ℕ → Tally → ℕ → Tally → Type 0
 Leads made spent before old after new = before + (answered new made + answered old spent)
     ≡ after + (answered new spent + answered old made)

@@ -63,7 +63,8 @@ IsVerdict (order.Forward peer packet) end told = IsCarried end told
 IsVerdict (order.Unwait slot) end told = told ≡ verdict.Unwaited
 IsVerdict (order.Refused reason) end told = told ≡ verdict.Refused
 
--- of an order to serve, the node is told how its ticket's request has ended; of others nothing
+-- for an order to serve, the end of its ticket's request is reported to the node; for any other,
+-- nothing changes
 abbrev pub Settles : Order TicketRecord → Outcome → CallerView → CallerView → Type 0
 Settles (order.Serve ticket database server) end old new = Tells (reported end ticket) old new
 Settles (order.Forward peer packet) end old new = new ≡ old

@@ -1,4 +1,4 @@
--- What desks are told (own).
+-- The calls of a desk, and what they do (own).
 use Rattle.std.specs.Prelude.{ℕ, ◌≡◌, ◌+◌, List, [], ◌∷◌, ◌++◌}
 use Rattle.lease.specs.declared.ticket.TicketRecord.{TicketRecord}
 use Rattle.link_pool.specs.declared.replies.EndedReply.{EndedReply}
@@ -16,13 +16,14 @@ use Rattle.peer_forward.specs.declared.outcome.Outcome.TheVariants as outcome
 use Rattle.node_threads.specs.declared.desk_call.DeskCall.{DeskCall}
 use Rattle.node_threads.specs.declared.desk_call.DeskCall.TheVariants.{Ended, Failed, Release, Close}
 
--- how the carrying of a ticket's request is told: as ended exactly after a clean end
+-- the call that reports how a ticket's request was carried: as ended exactly after a clean end
 abbrev pub reported : Outcome → TicketRecord → DeskCall
 reported outcome.Ended ticket = Ended ticket
 reported outcome.Failed ticket = Failed ticket
 
--- A node behind its lock was told: the caller made the one step of this name, with what was handed
--- in, and it was counted with its reply; or the caller had no allowance, and nothing changed.
+-- A node behind its lock got this call: the caller made the one step of this name, with what was
+-- handed in, and it was counted with its reply; or the caller had no allowance, and nothing
+-- changed.
 abbrev pub Tells : DeskCall → CallerView → CallerView → Type 0
 Tells (Ended ticket) old new =
     (reply : EndedReply) × Counted (step.Ended ticket reply) reply ended.Exhausted old new
@@ -33,8 +34,8 @@ Tells (Release lease) old new = (reply : ReleaseReply (Unit {0}))
 Tells (Close lease) old new = (reply : CloseReply (Unit {0}))
     × Counted (step.Close lease reply) reply (close.Exhausted tt) old new
 
--- A desk that is a list: what it was told, in order, the streams of the leases among it, and how
--- many calls it can still be told.
+-- A desk that is a list: its calls so far, in order, the streams of the leases that they handed in,
+-- and how many more calls it has room for.
 pub record ListView (S : Type 0) : Type 0 where
   pub calls : List DeskCall
   pub streams : List S

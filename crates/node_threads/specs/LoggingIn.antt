@@ -39,8 +39,8 @@ pub record LogsIn (user database key : List ℕ) (calls : List Call) : Type 0 wh
 abbrev pub frame_of : ℕ → List ℕ → Frame
 frame_of kind body = record { kind = kind; body = body }
 
--- of a message this head and this beginning of its body were handed out, which is this text, and
--- so many bytes of its body are to come
+-- this head of a message and this beginning of its body were handed out, which is this text, and
+-- this many bytes of its body are to come
 pub record IsOpen (kind size : ℕ) (body : List ℕ) (shown : List ℕ) (left : Option ℕ) : Type 0 where
   pub head : IsHead kind size
   pub shown_is : shown ≡ head_text kind size ++ body
@@ -53,8 +53,8 @@ abbrev pub OfEach : ℕ → ℕ → List ℕ → (Frame → Type 0) → Type 0
 OfEach kind size body P =
     (rest : List ℕ) → 4 + length (body ++ rest) ≡ size → P (frame_of kind (body ++ rest))
 
--- How far a login is at this place, which has read these messages, and of the next this text. So
--- much is to come of its body, and this of what was handed out is kept.
+-- How far a login is at this place, which has read these messages, and this text of the next one.
+-- This many bytes of its body are to come, and this part of what was handed out is kept.
 abbrev pub IsAt : LoginPlace → Login → List Frame → List ℕ → Option ℕ → List ℕ → Type 0
 IsAt Between login frames shown left kept =
     HasRead login frames × (shown ≡ []) × (left ≡ None) × (kept ≡ [])

@@ -41,8 +41,8 @@ withheld Inside = []
 withheld AtReady = head_text 90 5
 withheld (Status status) = ready_text status
 
--- what of the frame at this place is passed on before it is whole, where so many bytes of its body
--- are to come
+-- what of the frame at this place is passed on before it is whole, where this many bytes of its
+-- body are to come
 abbrev pub IsShown : Place → Option ℕ → List ℕ → Type 0
 IsShown Between left shown = (left ≡ None) × (shown ≡ [])
 IsShown Inside left shown = (kind : ℕ) × (size : ℕ) × (body : List ℕ) × (more : ℕ)
@@ -51,8 +51,8 @@ IsShown Inside left shown = (kind : ℕ) × (size : ℕ) × (body : List ℕ) ×
 IsShown AtReady left shown = (left ≡ Some 1) × (shown ≡ [])
 IsShown (Status status) left shown = (left ≡ Some 0) × (shown ≡ [])
 
--- `stream` was read of a reply and `written` written of it to the client. The rest is at this place,
--- and in this passage.
+-- Of a reply, `stream` was read, and `written` was written to the client. The rest is at this
+-- place, and in this passage.
 pub record HandedOut (stream written : List ℕ) (place : Place) (passage : Passage) : Type 0 where
   pub frames : List Frame
   pub each : AllByRecursion IsPassedOn frames

@@ -1,11 +1,11 @@
 //! How many clients may ask a node for a link of a database at a time: as many as it has places.
 //!
 //! A node's queue gives a freed link to the first that waits in it and to nobody before that one
-//! has asked again, so each hand-over would wait for a thread to wake up, and the next hand-over for
-//! this one. So clients wait here first, where whoever is done lets the next one in, and those that
-//! are let in ask as their threads wake up, in any order. While one waits in the queue all the same,
-//! nobody is let in, since the queue would only grow. This only delays when a client asks: no claim
-//! of a node rests on it.
+//! has asked again, so each hand-over would wait for a thread to wake up, and the next hand-over
+//! for this one. So clients wait here first, where whoever is done lets the next one in, and those
+//! that are let in ask as their threads wake up, in any order. While one waits in the queue all the
+//! same, nobody is let in, since the queue would only grow. This only delays when a client asks: no
+//! claim of a node rests on it.
 use ini_config::Settings;
 use pg_ids::DatabaseNo;
 use std::alloc::{AllocError, Global};

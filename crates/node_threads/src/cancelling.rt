@@ -42,8 +42,8 @@ where
     Q: WriteCalls,
     requires own { caller.old.lock ≡ shared.now }
     requires board { seat.old.board ≡ board.now }
-    // One order for this key, which is carried out, reported if it has a ticket, counted, and told
-    // to the requester.
+    // One order for this key, which is carried out, reported if it has a ticket, and counted. The
+    // requester's connection is finished by its verdict.
     ensures served { ServesCancel key caller.old caller.new seat.old seat.new
         (λ verdict. Finishes Q.wrote requester.old verdict requester.new) }
     // Each ticket that was made was spent, and nothing else was made or spent.
@@ -72,8 +72,8 @@ where
     }
 }
 
-// Carries the request of a ticket to the server of its database, and tells the node how that ended:
-// as failed if the server can't be connected to.
+// Carries the request of a ticket to the server of its database, and reports to the node how that
+// ended: as failed if the server can't be connected to.
 fn serve<R, S, O, G, Q>(
     rt: &R,
     shared: &Shared<S>,

@@ -15,8 +15,8 @@ use std::alloc::Global;
 use std::sync::Wait;
 
 /// Serves a connection from its first packet to its end: a client's session on the database that it
-/// asks for or on the console, or a cancel request. A database that isn't in the settings is refused.
-/// A cancel request for which no seat at the board is free is given up without an order.
+/// asks for or on the console, or a cancel request. A database that isn't in the settings is
+/// refused. A cancel request for which no seat at the board is free is given up without an order.
 pub fn serve_connection<R, O, G, C>(
     rt: &R,
     alloc: Global,

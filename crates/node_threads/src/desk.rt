@@ -9,10 +9,10 @@ use std::sync::Wait;
 /// Where a cancel request's ticket is spent once it was carried, and a client's lease once its
 /// request was answered. `S` is the stream of a lease.
 pub trait Desk<S> {
-    /// The desk can be told a call.
+    /// The desk can take a call.
     ghost ready: { Self → Type 0 };
 
-    /// What it makes of a desk to be told this call.
+    /// How this call changes a desk.
     ghost told: { Self → DeskCall → Self → Type 0 };
 
     /// The cancel request of this ticket has ended cleanly.

@@ -1,4 +1,4 @@
-//! What is told a desk.
+//! The calls of a desk.
 use lease::{LinkRecord, TicketRecord};
 
 /// A call of a desk, with what the value that it spends says.

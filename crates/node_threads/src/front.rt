@@ -24,7 +24,7 @@ impl Model for Front {
 impl Front {
     ghost use Rattle.node_threads.specs.Front.{HasDealt};
 
-    /// A front of so many nodes that has dealt no connection.
+    /// A front of this many nodes that has dealt no connection.
     pub const fn new(nodes: usize) -> Front
         requires some { 0 < nodes }
         ensures nodes { result.nodes ≡ nodes }

@@ -18,7 +18,7 @@ pub struct Link<L> {
     pub flow: Flow,
 }
 
-/// Reads once more of a link, at most so many bytes, and returns whether more came. It isn't
+/// Reads from a link once more, at most `MOST` bytes, and returns whether more came. It isn't
 /// inlined, so that a thread has its buffer on the stack only while it reads.
 #[inline(never)]
 pub(crate) fn read_up_to<const MOST: usize, L: WriteCalls + ReadCalls>(link: &mut Link<L>) -> bool

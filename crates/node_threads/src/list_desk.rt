@@ -1,4 +1,4 @@
-//! A desk that lists what it is told.
+//! A desk that lists its calls.
 ghost use Rattle.std.specs.Prelude.{◌≡◌, IfOk, []};
 
 use crate::{Desk, DeskCall};
@@ -7,8 +7,8 @@ use std::alloc::{AllocError, Global};
 use std::marker::Model;
 use std::sync::Wait;
 
-/// A desk that lists what it is told, and keeps the streams of the leases that are handed in. It
-/// makes no step of a node: tickets and leases are spent without one.
+/// A desk that lists its calls, and keeps the streams of the leases that are handed in. It makes no
+/// step of a node: tickets and leases are spent without one.
 #[derive(Drop)]
 pub struct ListDesk<S> {
     calls: Vec<DeskCall>,
@@ -32,7 +32,7 @@ impl<S> Model for ListDesk<S> {
 }
 
 impl<S> ListDesk<S> {
-    /// A desk that was told nothing, with room for so many calls.
+    /// A desk without calls so far, and with room for this many.
     pub fn new(alloc: Global, room: usize) -> Result<ListDesk<S>, AllocError>
         ensures calls { IfOk result (λ desk. desk.calls ≡ []) }
         ensures streams { IfOk result (λ desk. desk.streams ≡ []) }
@@ -43,7 +43,7 @@ impl<S> ListDesk<S> {
         Ok(ListDesk { calls, streams })
     }
 
-    /// What it was told, in order.
+    /// Its calls so far, in order.
     pub fn calls(&self) -> &[DeskCall]
         ensures { result.now ≡ self.now.calls }
     {

@@ -6,8 +6,8 @@ use lease::{Lease, Ticket};
 use locked_node::{Caller, Shared};
 use std::sync::Wait;
 
-/// A node behind its lock, with a caller of that lock: what it is told is a step of the node. The
-/// stream that a step hands back is dropped, which closes it.
+/// A node behind its lock, with a caller of that lock: each call of the desk is a step of the node.
+/// The stream that a step hands back is dropped, which closes it.
 #[derive(Drop)]
 pub struct LockDesk<'a, S> {
     /// The node.

@@ -108,8 +108,8 @@ fn begin<C: WriteCalls + ReadCalls>(
     Opened::Session { database, kind }
 }
 
-// Whether bytes weren't taken for want of memory. Bytes that are no frames are taken, and are the
-// session's to refuse.
+// Whether bytes weren't taken because memory ran out. Bytes that are no frames are taken, and are
+// the session's to refuse.
 fn lacks_memory(fed: &Result<(), FrameError>) -> bool
     ensures { result ≡ false → fed.now ≢ Err FrameError.Memory }
 {

@@ -129,7 +129,7 @@ fn after_tail(place: Place) -> Handed
     }
 }
 
-// Writes what was handed out to the client, but for the last bytes, this many, and forgets what was
+// Writes to the client what was handed out, except the last `withheld` bytes, and forgets what was
 // written. It returns whether the client took it.
 fn pass_on<C: WriteCalls + ReadCalls>(client: &mut C, flow: &mut Flow, withheld: usize) -> bool
     requires { withheld ≤ length flow.old.passed }
@@ -279,7 +279,7 @@ fn finish_in_transaction<C: WriteCalls + ReadCalls>(
     }
 }
 
-// Passes on what was handed out, but for the last bytes, this many, and ends with an error.
+// Passes on what was handed out, except the last `withheld` bytes, and ends with an error.
 fn refuse<C: WriteCalls + ReadCalls>(
     client: &mut C,
     flow: &mut Flow,

@@ -1,4 +1,4 @@
-//! A cancel request is carried on, and whoever has to know of its end is told.
+//! A cancel request is carried on, and its end is reported to whoever has to know of it.
 ghost use Rattle.std.specs.Prelude.{◌≡◌};
 ghost use Rattle.startup.specs.CancelPacket.{packet_bytes};
 ghost use Rattle.peer_forward.specs.Carrying.{Carried};
@@ -12,9 +12,9 @@ use peer_forward::{Outcome, ReadCalls, Verdict, WriteCalls, carry, finish};
 use startup::Packet;
 use std::sync::Wait;
 
-/// Carries the request of a ticket to the link's server, tells the desk how that ended, and
+/// Carries the request of a ticket to the link's server, reports to the desk how that ended, and
 /// finishes the connection that the request came on. The gate is passed at `Carried` before the
-/// desk is told.
+/// desk is called.
 pub fn report<R, S, D, G, Q, T>(
     rt: &R,
     desk: &mut D,

@@ -12,8 +12,8 @@ use std::sync::Wait;
 const BOOTS: u64 = 1 << 32;
 
 /// Starts a node anew with its next boot. What was given out before is stale from then on, and
-/// whoever waits for a link is woken. It returns `Exhausted`, and nothing changes, where the process
-/// has no boot left.
+/// whoever waits for a link is woken. It returns `Exhausted`, and nothing changes, where the
+/// process has no boot left.
 pub fn restart<R: Wait, S: Drop>(
     rt: &R,
     shared: &Shared<S>,

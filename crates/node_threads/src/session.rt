@@ -114,8 +114,8 @@ where
     unreachable!()
 }
 
-// Writes the messages of a login. Returns what is to be written to the client where the session ends
-// so.
+// Writes the messages of a login. Returns what is to be written to the client if this ends the
+// session.
 fn greet<C: WriteCalls + ReadCalls>(alloc: Global, client: &mut C, pass: &Pass) -> Option<Reply> {
     let mut login = Vec::new(alloc);
     if write_login(Some(pass.key()), &mut login).is_err() {
@@ -212,8 +212,8 @@ where
     }
 }
 
-// Serves a transaction on the link of a lease. Returns what is to be written to the client where the
-// session ends.
+// Serves a transaction on the link of a lease. Returns what is to be written to the client where
+// the session ends.
 fn ride<R, G, C, L>(
     rt: &R,
     shared: &Shared<Link<L>>,

@@ -169,7 +169,7 @@ fault_at-more (kind ∷ after) more fault stands =
           (some_fault fault (sym (fault_at_header kind after is whole enough fits) ∙ stands))
     ]
 
--- so does the cutting, but for its rest
+-- the cutting stays the same too, except that its rest grows
 pub cuts-fault : (stream more : List ℕ) (frames : List Frame) (rest : List ℕ) (fault : FrameError)
     → Cuts stream frames rest → fault_at rest ≡ Some fault
     → Cuts (stream ++ more) frames (rest ++ more)
@@ -339,7 +339,7 @@ bytes-append [] ys p q i = q i
 bytes-append (x ∷ xs) ys p q zero = p 0
 bytes-append (x ∷ xs) ys p q (suc i) = bytes-append xs ys (λ k. p (suc k)) q i
 
--- the fault is told
+-- the result is the fault that was found
 Tells-fault : (found : Option FrameError) (fault : FrameError) → found ≡ Some fault
     → Tells (Err fault) found
 Tells-fault found BadLength is = is
@@ -359,7 +359,7 @@ judged_ever old more fault has =
     } in
     (Some fault, stays, Tells-fault (Some fault) fault refl)
 
--- want of memory tells nothing
+-- out of memory says nothing about the fault, so it fits any stream
 pub judged_memory : (old more : List ℕ) → IsBytes old → IsBytes more
     → IsJudged (old ++ more) (Err Memory)
 judged_memory old more small small' =
@@ -379,7 +379,7 @@ pub ready_fault : (stream : List ℕ) (ready : ℕ) → IsReady stream ready
 ready_fault stream ready is =
     record { frames = is.frames; rest = drop ready stream; cuts = is.cuts; stands = refl }
 
--- no want of memory stands in a stream
+-- out of memory is no fault of a stream
 pub no_memory : (bytes : List ℕ) → fault_at bytes ≡ Some Memory → ⊥
 no_memory [] e = some_fault Memory (sym fault_at_nothing ∙ e)
 no_memory (kind ∷ after) e =
@@ -485,7 +485,7 @@ pub record IsCutSoFar (stream : List ℕ) (frames : List Frame) (rest : List ℕ
   pub cuts : Cuts stream frames rest
   pub none : fault_at rest ≡ None
 
--- an answer that isn't want of memory tells the fault
+-- an error other than out of memory is the fault that was found
 pub told_fault : (fault : FrameError) (found : Option FrameError) → (fault ≡ Memory → ⊥)
     → Tells (Err fault) found → found ≡ Some fault
 told_fault BadLength found other is = is
@@ -529,7 +529,7 @@ so_far_none stream rest frames so_far =
       stands = so_far.none;
     }
 
--- what a stream is cut into is told once
+-- a stream is cut in only one way: with the same frames, and the same fault in its rest
 pub told_once : (stream : List ℕ) (frames : List Frame) (rest : List ℕ) (fault : Option FrameError)
     → Cuts stream frames rest → fault ≡ fault_at rest → (others : List Frame) (left : List ℕ)
     → Cuts stream others left → (others ≡ frames) × (fault_at left ≡ fault)

@@ -153,7 +153,7 @@ no_frame-part bytes part f more is e =
     ap (λ xs. big_number 4 (drop 1 xs)) e ∙ number-text f more is in
     omega (arith, part, number, ap length e, length-append (text f) more, length-text f)
 
--- the frame that stands at the front, where the length field says so many bytes
+-- the frame at the front, with a body of this many bytes
 abbrev pub front_frame : List ℕ → ℕ → Frame
 front_frame bytes size = record { kind = get_or bytes 0 0; body = take size (drop 5 bytes) }
 

@@ -15,8 +15,8 @@ use std::alloc::Global;
 use std::marker::Model;
 
 /// What was fed of a stream and isn't handed out yet, and what was handed out and isn't forgotten
-/// yet. In contracts it is a `Passage`: these bytes, and how many more belong to the body whose head
-/// was handed out.
+/// yet. In contracts it is a `Passage`: these bytes, and how many more belong to the body whose
+/// head was handed out.
 #[derive(Drop)]
 pub struct Flow {
     buffer: Buffer,

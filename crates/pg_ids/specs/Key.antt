@@ -1,4 +1,5 @@
--- The client key and its identity (own layout; PostgreSQL manual, "Canceling Requests in Progress").
+-- The client key and its identity (own layout; PostgreSQL manual, "Canceling Requests in
+-- Progress").
 use Rattle.std.specs.Prelude.{ℕ, ◌+◌, ◌-◌, ◌*◌, ◌/◌, ◌^◌, ◌<◌, List}
 use Rattle.byteorder.specs.Endian.{big_bytes}
 use Rattle.pg_ids.specs.declared.client_key.ClientKey.{ClientKey}

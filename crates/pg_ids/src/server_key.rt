@@ -4,8 +4,8 @@ ghost use Rattle.std.specs.Prelude.{◌≡◌, ℕ, List};
 use std::fmt;
 use std::marker::Model;
 
-/// The eight key bytes that a server gave for one of its backends (PostgreSQL manual, BackendKeyData). They aren't
-/// shown by `Debug`.
+/// The eight key bytes that a server gave for one of its backends (PostgreSQL manual,
+/// BackendKeyData). They aren't shown by `Debug`.
 #[derive(Clone, Copy, PartialEq, Eq, Hash)]
 pub struct ServerKey(pub [u8; 8]);
 

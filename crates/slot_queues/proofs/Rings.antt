@@ -84,7 +84,8 @@ exchanges next prev slots queues a b tied in_a in_b =
 of_two : (x a b : ℕ) → (x ≡ a) ⊎ ((x ≡ b) ⊎ ((x ≢ a) × (x ≢ b)))
 of_two x a b = ⊎_elim (λ e. inl e) (λ n. ⊎_elim (λ e. inr (inl e)) (λ m. inr (inr (n, m))) (cases_eq x b)) (cases_eq x a)
 
--- after an exchange the queues are these, if their rings have their slots, and who waits nowhere is alone
+-- after an exchange the queues are these, if their rings have their slots and a slot that waits
+-- nowhere is alone
 retied : (next prev new_next new_prev : List ℕ) (slots : ℕ) (queues new : List (List ℕ)) (a b : ℕ) → IsTied next prev slots queues → Exchanges next prev new_next new_prev a b → a < length next → b < length next → length new ≡ length queues
     → ((queue : ℕ) → queue < length new → Leads new_next slots (slots + queue) (queue_of new queue) (slots + queue))
     → ((slot : ℕ) → slot < slots → times_in slot new ≡ 0 → slice_index new_next slot ≡ slot)
@@ -134,7 +135,8 @@ retied next prev new_next new_prev slots queues new a b tied x in_a in_b same ri
       once = once;
     }
 
--- nodes that are not the slot, and that aren't followed by this node, are followed by what followed them
+-- a node that isn't the slot, and that isn't followed by this node, is followed by what followed
+-- it
 abbrev pub Keeps : List ℕ → List ℕ → ℕ → ℕ → Type 0
 Keeps next new slot to = (node : ℕ) → node ≢ slot → slice_index next node ≢ to → slice_index new node ≡ slice_index next node
 

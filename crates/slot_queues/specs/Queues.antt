@@ -29,6 +29,6 @@ pub record Queues : Type 0 where
   pub slots : ℕ
   pub queues : List (List ℕ)
 
--- so many queues for so many slots, in which nobody waits
+-- this many queues for this many slots, in which nobody waits
 abbrev pub empty_queues : ℕ → ℕ → Queues
 empty_queues queues slots = record { slots = slots; queues = replicate queues [] }

@@ -32,7 +32,7 @@ impl Model for SlotQueues {
 }
 
 impl SlotQueues {
-    /// So many queues for slots below a number, in which nobody waits. They take all the memory
+    /// `queues` queues for the slots below `slots`, in which nobody waits. Takes all the memory
     /// that they need.
     pub fn new(alloc: Global, queues: usize, slots: u32) -> Result<SlotQueues, AllocError>
         ensures { IfOk result (λ all. all ≡ empty_queues queues slots) }

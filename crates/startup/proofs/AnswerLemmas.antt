@@ -101,7 +101,7 @@ pub unnamed : (kind : Kind) (text body : List ℕ) (session : Session) → Start
 unnamed kind text body session starts of empty seen =
     (kind, of.parameters, record { sendable = of.sendable; message = subst (StartsWith kind text) of.spelled starts }, sym of.user ∙ empty)
 
--- memory is wanting where a session begins
+-- memory runs out where a session begins
 pub wanting : (kind : Kind) (seen : Seen) (text : List ℕ) (at_end : Bool) (user database : List ℕ) (used : ℕ) → Decides seen text (Startup kind user database used) → Answers seen text at_end (Err Memory)
 wanting kind seen text at_end user database used decides =
     record { outcome = Startup kind user database used; is = inl decides; told = inr (tt, refl) }

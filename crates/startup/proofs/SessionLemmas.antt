@@ -22,8 +22,8 @@ texts names = map (λ name. name.now) names
 abbrev names_of : List Parameter → List (List ℕ)
 names_of ps = map (λ p. p.name) ps
 
--- what was read of a body: some parameters of which none is reserved, with these names, and the user and the
--- database that they give unless a name is given twice
+-- what was read of a body: some parameters of which none is reserved, with these names, and the
+-- user and the database that they give unless a name is given twice
 pub record Taken (body rest user database : List ℕ) (names : List (Bor (List ℕ))) : Type 0 where
   pub done : List Parameter
   pub spelled : body ≡ flat_map parameter done ++ rest

@@ -1,5 +1,5 @@
--- The errors that a pooler tells its clients: codes of the PostgreSQL manual's appendix "PostgreSQL Error
--- Codes", with texts of this project's own.
+-- The errors that a pooler reports to its clients: codes of the PostgreSQL manual's appendix
+-- "PostgreSQL Error Codes", with texts of this project's own.
 use Rattle.std.specs.Prelude.{ℕ, List, codes, Option, Some, None}
 use Rattle.startup.specs.declared.error_code.ErrorCode.{ErrorCode}
 use Rattle.startup.specs.declared.error_code.ErrorCode.TheVariants.{ProtocolViolation, FeatureNotSupported, InvalidCatalogName, TooManyConnections, OutOfMemory, ConnectionFailure, InvalidAuthorization, AdminShutdown, QueryCanceled}
@@ -33,7 +33,8 @@ abbrev pub severity_text : Severity → List ℕ
 severity_text Error = codes "ERROR"
 severity_text Fatal = codes "FATAL"
 
--- what a client is told of a refused first packet, and nothing where it couldn't be a client's (own)
+-- the error that a client gets for a refused first packet, and none where the packet might not be
+-- a client's (own)
 abbrev pub told_of_refusal : StartupError → Option ErrorCode
 told_of_refusal TooShort = Some ProtocolViolation
 told_of_refusal TooLong = Some ProtocolViolation

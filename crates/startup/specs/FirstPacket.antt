@@ -1,5 +1,5 @@
--- The first packet of a connection, its outcome and its refusals (PostgreSQL manual, "Message Formats" and
--- "Start-up"; the limit of 10,000, the refusals and their order are own).
+-- The first packet of a connection, its outcome and its refusals (PostgreSQL manual, "Message
+-- Formats" and "Start-up"; the limit of 10,000, the refusals and their order are own).
 use Rattle.std.specs.Prelude.{ℕ, ◌≡◌, ◌≢◌, ◌+◌, ◌<◌, ◌≤◌, ◌⊎◌, Bool, true, false, if◌then◌else◌, List, [], length, drop, string_bytes, Result, Ok, Err}
 use Rattle.byteorder.specs.Endian.{big_number}
 use Rattle.pg_ids.specs.AnyKey.{any_key_bytes}
@@ -92,8 +92,8 @@ Decides seen text (Refused Memory) = ⊥
 abbrev pub IsUndecided : Seen → List ℕ → Type 0
 IsUndecided seen text = (outcome : Outcome) → Decides seen text outcome → ⊥
 
--- the outcome of a text, of which more may come or not: what it decides, else more is wanted, or at the
--- end of input it is cut off
+-- the outcome of a text, of which more may come or not: what it decides, else more is wanted, or
+-- at the end of input it is cut off
 abbrev pub IsOutcome : Seen → List ℕ → Bool → Outcome → Type 0
 IsOutcome seen text at_end outcome =
     Decides seen text outcome
@@ -116,7 +116,7 @@ IsStartup Gss = ⊥
 IsStartup More = ⊥
 IsStartup (Refused error) = ⊥
 
--- the answer is this outcome; memory may be wanting for the texts of a session that begins, and for
+-- the answer is this outcome; memory may run out for the texts of a session that begins, and for
 -- nothing else
 abbrev pub Tells : Result First StartupError → Outcome → Type 0
 Tells (Ok answer) outcome = outcome ≡ outcome_of answer

@@ -1,5 +1,5 @@
--- What a pooler writes to a client (PostgreSQL manual, "Message Formats" and "Error and Notice Message
--- Fields"; the parameters that a login reports are own).
+-- What a pooler writes to a client (PostgreSQL manual, "Message Formats" and "Error and Notice
+-- Message Fields"; the parameters that a login reports are own).
 use Rattle.std.specs.Prelude.{ℕ, ◌+◌, ◌≤◌, List, [], ◌∷◌, ◌++◌, length, codes, Option, Some, None}
 use Rattle.byteorder.specs.Endian.{big_bytes}
 use Rattle.startup.specs.StartupMessage.{HasNoZero}
@@ -45,8 +45,8 @@ login key =
 abbrev pub error_field : ℕ → List ℕ → List ℕ
 error_field kind text = kind ∷ zero_ended text
 
--- the fields of an ErrorResponse: the severity twice, as it may be translated and as it isn't, the code
--- and the message; and the zero byte that ends them
+-- the fields of an ErrorResponse: the severity twice, as it may be translated and as it isn't, the
+-- code and the message; and the zero byte that ends them
 abbrev pub error_fields : List ℕ → List ℕ → List ℕ → List ℕ
 error_fields severity code text =
     error_field 83 severity ++ error_field 86 severity ++ error_field 67 code ++ error_field 77 text ++ 0 ∷ []

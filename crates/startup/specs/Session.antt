@@ -13,8 +13,8 @@ pub record IsSessionOf (session : Session) (body : List ℕ) : Type 0 where
   pub user : session.user.now ≡ given (codes "user") parameters
   pub database : session.database.now ≡ given (codes "database") parameters
 
--- the body is that of parameters with these names, none of them reserved, and unless a name is given twice
--- they give this user and this database
+-- the body is that of parameters with these names, none of them reserved, and unless a name is
+-- given twice they give this user and this database
 pub record IsReadOf (session : Session) (names : List (Bor (List ℕ))) (body : List ℕ) : Type 0 where
   pub parameters : List Parameter
   pub formed : AllByRecursion IsParameter parameters

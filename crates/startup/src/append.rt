@@ -3,8 +3,8 @@ ghost use Rattle.std.specs.Prelude.{◌≡◌, ◌<◌, ◌++◌, ◌^◌, flat_
 
 use crate::startup_error::StartupError;
 
-/// Appends these parts to the buffer, one after the other. Their memory is reserved before anything is
-/// written, so that the buffer is unchanged where it fails.
+/// Appends these parts to the buffer, one after the other. Their memory is reserved before anything
+/// is written, so that the buffer is unchanged if this fails.
 pub fn append(out: &mut Vec<u8>, parts: &[&[u8]]) -> Result<(), StartupError>
     requires { sum_by (λ part. length part.now) parts.now < 2 ^ 32 }
     ensures ok { OnOk result (out.new.items ≡ out.old.items ++ flat_map (λ part. part.now) parts.now) }

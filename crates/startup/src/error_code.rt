@@ -1,4 +1,4 @@
-//! The errors that a pooler tells its clients.
+//! The errors that a pooler reports to its clients.
 ghost use Rattle.std.specs.Prelude.{◌≡◌};
 
 /// A condition of the PostgreSQL manual's appendix "PostgreSQL Error Codes", by its name there.

@@ -2,7 +2,8 @@
 ghost use Rattle.std.specs.Prelude.{IsTrue, ◌↔◌};
 ghost use Rattle.startup.specs.Names.{AreDistinct};
 
-/// Whether no name stands twice in the list. Sorts it, so that it takes at most n log n comparisons.
+/// Whether no name is in the list twice. Sorts the list, so that it takes at most n log n
+/// comparisons.
 pub fn are_distinct(names: &mut [&str]) -> bool
     ensures { IsTrue result ↔ AreDistinct names.old }
 {

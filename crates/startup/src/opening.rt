@@ -45,8 +45,7 @@ impl Opening {
     /// more will come. Bytes may follow the packet. After `Ssl` or `Gss` the next packet is read by
     /// another call, from its own beginning (PostgreSQL manual, "Start-up" and "Message Formats").
     pub fn read(&mut self, so_far: &[u8], at_end: bool) -> Result<First, StartupError>
-        // What is answered is the outcome of these bytes. Only where a session begins memory may be
-        // wanting.
+        // The result is the outcome of these bytes. Memory can run out only where a session begins.
         ensures found { Answers self.old so_far.now at_end result }
         // The bytes have no other outcome.
         ensures only { (outcome : Outcome) → IsOutcome self.old so_far.now at_end outcome

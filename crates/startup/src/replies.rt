@@ -22,7 +22,7 @@ const LONG_KEY_DATA: &[u8; 5] = b"K\0\0\0\x1c";
 const READY: &[u8; 6] = b"Z\0\0\0\x05I";
 
 /// Puts a login's messages at the end of the buffer, with BackendKeyData where the client has a key
-/// (PostgreSQL manual, "Start-up"; the parameters are own). Answers `Memory` alone.
+/// (PostgreSQL manual, "Start-up"; the parameters are own). The only error is `Memory`.
 pub fn write_login(key: Option<AnyKey>, out: &mut Vec<u8>) -> Result<(), StartupError>
     ensures ok { OnOk result (out.new.items ≡ out.old.items ++ login key) }
     ensures err { OnErr result (out.new.items ≡ out.old.items) }
@@ -45,7 +45,7 @@ pub fn write_login(key: Option<AnyKey>, out: &mut Vec<u8>) -> Result<(), Startup
 }
 
 /// Puts an ErrorResponse at the end of the buffer: its severity twice, its code and its message
-/// (PostgreSQL manual, "Error and Notice Message Fields"). Answers `Memory` alone.
+/// (PostgreSQL manual, "Error and Notice Message Fields"). The only error is `Memory`.
 pub fn write_error(
     severity: Severity,
     code: &str,

@@ -62,8 +62,8 @@ fn write_request(request: &mut [u8], key: &[u8])
 }
 
 /// Puts a StartupMessage of protocol 3.0 at the end of the buffer, which asks a server for this
-/// user and this database and nothing else (PostgreSQL manual, "Message Formats"). Answers `Memory`
-/// alone.
+/// user and this database and nothing else (PostgreSQL manual, "Message Formats"). The only error
+/// is `Memory`.
 pub fn write_startup(user: &str, database: &str, out: &mut Vec<u8>) -> Result<(), StartupError>
     requires user { HasNoZero user.now }
     requires database { HasNoZero database.now }

@@ -101,7 +101,7 @@ impl<'a> Session<'a> {
         Session::read_by(body, &mut [""; MOST_PARAMETERS])
     }
 
-    // The same, with room for so many names.
+    // The same, with `names` to hold the names.
     fn read_by(body: &'a [u8], names: &mut [&'a str]) -> Option<Session<'a>>
         requires { length body.now ≤ 3 * length names.old + 2 }
         ensures found { IfSome result (λ session. IsSessionOf session body.now) }

@@ -5,7 +5,7 @@ use crate::error_code::ErrorCode;
 use std::alloc::AllocError;
 use thiserror::Error;
 
-/// A refusal of a first packet, and want of memory.
+/// A refusal of a first packet, or out of memory.
 #[derive(Clone, Copy, Debug, PartialEq, Eq, Error)]
 pub enum StartupError {
     /// The length field is below 8.
@@ -42,7 +42,7 @@ impl StartupError {
     ghost use Rattle.startup.specs.Numbers.{number_of_refusal};
     ghost use Rattle.startup.specs.ErrorCode.{told_of_refusal};
 
-    /// The number by which the refusal is told, 1 to 9.
+    /// The number of the refusal, 1 to 9.
     pub const fn number(self) -> u8
         ensures { result ≡ number_of_refusal self }
     {
@@ -59,8 +59,8 @@ impl StartupError {
         }
     }
 
-    /// What the client is told before its connection is closed, a FATAL error; none where the bytes
-    /// may not be a client's (own).
+    /// The FATAL error that the client gets before its connection is closed; none where the packet
+    /// might not be a client's (own).
     pub const fn error_code(self) -> Option<ErrorCode>
         ensures { result ≡ told_of_refusal self }
     {

@@ -1,10 +1,10 @@
-//! The rule of a board, and what a seat learns at each step. These types are for the proofs alone: no
-//! value of them is made.
+//! The rule of a board, and what a seat learns at each step. These types are for the proofs alone:
+//! no value of them is made.
 use crate::counter::COUNTERS;
 use atomic_table::{Join, Play, Seat, Split, TableRule};
 
-/// What a seat knows: how much it may still count, what it has counted, and the last reading of each
-/// word.
+/// What a seat knows: how much it may still count, what it has counted, and the last reading of
+/// each word.
 pub struct Note {
     pub allowance: u64,
     pub counts: [u64; COUNTERS],

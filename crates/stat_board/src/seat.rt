@@ -69,8 +69,8 @@ impl BoardSeat {
         place
     }
 
-    /// Hands half of the allowance, rounded down, to a new seat of the same board, which has counted
-    /// nothing and has the same readings.
+    /// Hands half of the allowance, rounded down, to a new seat of the same board, which has
+    /// counted nothing and has the same readings.
     pub fn split(&mut self, board: &Board) -> BoardSeat
         requires own { self.old.board ≡ board.now }
         ensures { Splits self.old self.new result }
@@ -105,7 +105,8 @@ impl BoardSeat {
         self.readings = maxima(&self.readings, &readings);
     }
 
-    /// Counts one more, on the board and in this seat. Fails with `NoAllowance` exactly at allowance 0.
+    /// Counts one more, on the board and in this seat. Fails with `NoAllowance` exactly at
+    /// allowance 0.
     pub fn count(&mut self, board: &Board, counter: Counter) -> Result<(), NoAllowance>
         requires own { self.old.board ≡ board.now }
         ensures refused { IsErr result ↔ (self.old.allowance ≡ 0) }

@@ -17,7 +17,7 @@ const PLAIN: DatabaseNo = DatabaseNo(0);
 // How often each thread comes and goes.
 const TIMES: u32 = 1_000;
 
-// The way in at a database with so many places.
+// The way in at a database with this many places.
 fn admission(alloc: Global, places: u16) -> Result<Admission, Fail> {
     let me = PeerNo::new(2).ok_or("no such peer")?;
     let settings = Settings::plain(alloc, me, Vec::new(alloc), places.max(1), 4)?;

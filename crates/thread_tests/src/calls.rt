@@ -2,8 +2,7 @@
 use locked_node::{CallAnswer, CallKind, Caller};
 use std::process::Abort;
 
-// So many calls with each of these answers were counted. Returns how many the caller counted of all
-// of them.
+// This many calls with each of these answers were counted. Returns how many they are in all.
 pub(crate) fn assert_calls<S: Drop>(
     rt: &impl Abort,
     caller: &Caller<S>,

@@ -1,5 +1,5 @@
-//! Threads that are held until a session at the same node was served: no lock is held at a gate, and
-//! no connection waits for the end of another.
+//! Threads that are held until a session at the same node was served: no lock is held at a gate,
+//! and no connection waits for the end of another.
 use crate::gates::Where;
 use crate::messages::{CANCELS, FORWARDS, HELD, SERVED_AT_1, SERVED_AT_2};
 use crate::owner::KEY;

@@ -18,13 +18,13 @@ pub(crate) enum Event {
     // A connection was asked for.
     Server(DatabaseNo),
     Peer(PeerNo),
-    // A stream was written to: a whole packet, one byte, or so many.
+    // A stream was written to: a whole packet, one byte, or this many bytes.
     Sent(Packet),
     Byte(u8),
     Part(usize),
     // The end of a stream was awaited.
     Read,
-    // A desk was told of the ticket with this number.
+    // The request of the ticket with this number was reported to a desk.
     Ended(u64),
     Failed(u64),
 }
@@ -136,7 +136,7 @@ impl Gate for Marks<'_> {
     }
 }
 
-// A desk that logs what it is told of tickets.
+// A desk that logs the calls that hand in tickets.
 #[derive(Drop)]
 pub(crate) struct LoggedDesk<'a>(pub(crate) &'a Log);
 

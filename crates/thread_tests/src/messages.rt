@@ -135,8 +135,8 @@ pub(crate) const HELD: Script = Script {
     server: SERVES_ONE,
 };
 
-// It gets the whole answer to its request, and for its next one the error of a node that was started
-// anew.
+// It gets the whole answer to its request, and for its next one the error of a node that was
+// started anew.
 pub(crate) const OUTLIVES: Script = Script {
     client: &[
         Turn::Takes(WELCOME),
@@ -202,7 +202,8 @@ pub(crate) const CANCELS: Script = Script {
     server: &[Turn::Takes(CANCEL)],
 };
 
-// One whose connection gives a byte back, so that it may still be acted on: its client is told so.
+// One whose connection gives a byte back, so that it may still be acted on: its client gets the
+// byte E.
 pub(crate) const CANCELS_IN_VAIN: Script = Script {
     client: &[Turn::Takes(b"E")],
     server: &[Turn::Takes(CANCEL), Turn::Gives(b"N")],

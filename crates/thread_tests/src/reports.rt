@@ -60,7 +60,7 @@ const STREAMS: [(usize, Reply, Outcome, Event); 5] = [
     (16, Reply::Fails, Outcome::Failed, Event::Sent(PACKET)),
 ];
 
-// What is told of the ticket's request that ended so.
+// What is reported of the ticket's request after this outcome.
 fn told(outcome: Outcome) -> Event {
     match outcome {
         Outcome::Ended => Event::Ended(6),

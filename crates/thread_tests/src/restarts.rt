@@ -1,5 +1,5 @@
-//! A node is started anew while one of its threads is held. What the thread has from before is stale
-//! from then on, and a client that logs in afterwards is served meanwhile.
+//! A node is started anew while one of its threads is held. What the thread has from before is
+//! stale from then on, and a client that logs in afterwards is served meanwhile.
 use crate::gates::Where;
 use crate::messages::{
     CANCELS, CANCELS_IN_VAIN, OUTLIVES, OUTLIVES_IN_TRANSACTION, SERVED_AT_0, Script, WAITS,
@@ -112,9 +112,9 @@ const WAITING: Scene = Scene {
     ],
 };
 
-// The request runs to its end, the link is closed, and the next request finds the node started anew.
-// The session goes on over its link to the end of its transaction, which begins after the restart or,
-// where it is held before its second request, has begun before.
+// The request runs to its end, the link is closed, and the next request finds the node started
+// anew. The session goes on over its link to the end of its transaction, which begins after the
+// restart or, where it is held before its second request, has begun before.
 #[test]
 fn sessions(rt: HostRuntime) -> Result<(), Fail> {
     let scenes = [

@@ -26,8 +26,8 @@ pub(crate) enum Task {
     Cancel([u8; 8]),
 }
 
-// A thread that is held, with the owner of a link beside it, and another thread that serves a client
-// meanwhile.
+// A thread that is held, with the owner of a link beside it, and another thread that serves a
+// client meanwhile.
 #[derive(Clone, Copy, Debug)]
 pub(crate) struct Scene {
     pub(crate) task: Task,
@@ -41,8 +41,8 @@ pub(crate) struct Scene {
     pub(crate) other: Script,
     // How many clients there are in all, cancel requests among them.
     pub(crate) clients: u64,
-    // How many connections to servers the thread and its owner make, and how many of them are closed
-    // before the node is.
+    // How many connections to servers the thread and its owner make, and how many of them are
+    // closed before the node is.
     pub(crate) connections: u64,
     pub(crate) closed: u64,
     // The calls of all callers.
@@ -87,8 +87,8 @@ impl Trackers {
         }
     }
 
-    // All clients got just what they take. The connections that are stale are closed, and those that
-    // aren't are open.
+    // All clients got just what they take. The connections that are stale are closed, and those
+    // that aren't are open.
     fn assert_open(&self, rt: &impl Abort, scene: &Scene) {
         assert_eq!(rt; self.clients.ends(), all_done(scene.clients));
         let held = self.held.ends();
@@ -106,7 +106,7 @@ impl Trackers {
     }
 }
 
-// So many streams are closed that took all their turns, and nothing else.
+// This many streams are closed, which took all their turns and nothing else.
 fn all_done(count: u64) -> Ends {
     Ends {
         made: count,
@@ -257,8 +257,8 @@ fn serve_later<R: Wait>(rt: &R, stage: &Stage<'_>, caller: &mut Caller)
     }
 }
 
-// The scene is played at a node of its own. All that happens is as the scene says, and the calls that
-// the node made are those that its joined caller counted.
+// The scene is played at a node of its own. All that happens is as the scene says, and the calls
+// that the node made are those that its joined caller counted.
 pub(crate) fn assert_played<R: Threads + Wait + Sync + Abort>(
     rt: &R,
     alloc: Global,

@@ -1,5 +1,5 @@
-//! Sessions at a real node, over streams of memory: what a client and a server get of one another,
-//! and what the node was told.
+//! Sessions at a real node, over streams in memory: what a client and a server get from each other,
+//! and which calls of the node were counted.
 use crate::calls::assert_calls;
 use crate::talk::{Talk, Turn};
 use ini_config::{Group, Settings};
@@ -14,9 +14,9 @@ use std::process::Abort;
 use std::sync::{Arc, Wait};
 use std::test::Fail;
 
-// What the first login at node 1 writes: AuthenticationOk, three ParameterStatus, BackendKeyData and
-// ReadyForQuery. The key has slot 0 and, for a seed of zeros, the secret d6df3fef, the first word of
-// stream 1 by draft-agl-tls-chacha20poly1305, 7.
+// What the first login at node 1 writes: AuthenticationOk, three ParameterStatus, BackendKeyData
+// and ReadyForQuery. The key has slot 0 and, for a seed of zeros, the secret d6df3fef, the first
+// word of stream 1 by draft-agl-tls-chacha20poly1305, 7.
 const GREETING: &[u8] = b"R\0\0\0\x08\0\0\0\0\
     S\0\0\0\x16server_version\x0016\0\
     S\0\0\0\x19server_encoding\0UTF8\0\
@@ -100,7 +100,7 @@ struct Story {
     clients: &'static [&'static [Turn]],
     // Then it is started anew, with these answers.
     restarts: &'static [RestartReply],
-    // So many calls with each of these answers are counted in the end.
+    // This many calls with each of these answers are counted in the end.
     calls: &'static [(CallAnswer, u128)],
 }
 
@@ -326,7 +326,8 @@ const STORIES: &[Story] = &[
         restarts: &[RestartReply::Exhausted, RestartReply::Exhausted],
         calls: &[(CallAnswer::Restarted, 0)],
     },
-    // A database that the settings don't have, and a cancel request with a key that was never given.
+    // A database that the settings don't have, and a cancel request with a key that was never
+    // given.
     Story {
         boot: 9,
         server: None,

@@ -1,4 +1,5 @@
-//! Stays on links over streams in memory, which are read in given pieces and take so many bytes.
+//! Stays on links over streams in memory, which are read in given pieces and take a given number of
+//! bytes.
 ghost use Rattle.std.specs.Prelude.{◌≡◌, IfOk};
 ghost use Rattle.node_threads.specs.Progress.{asking};
 
@@ -20,8 +21,8 @@ const LOST: &[u8] = b"E\0\0\0\x32SFATAL\0VFATAL\0C08006\0Mserver connection lost
 
 const BEGIN: &[u8] = b"Q\0\0\0\x0abegin\0";
 
-// How a stream is read and written: in these pieces, and then to its end or until a read fails; and
-// until it has taken so many bytes, after which a write fails.
+// How a stream is read and written. It is read in these pieces, and then it ends or a read fails.
+// It takes `room` bytes, after which a write fails.
 #[derive(Clone, Copy)]
 pub(crate) struct Script<'a> {
     pieces: &'a [&'a [u8]],
@@ -204,7 +205,7 @@ const BEGIN_DONE: &[u8] = b"C\0\0\0\x0aBEGIN\0";
 
 const NOTICE: &[u8] = b"N\0\0\0\x05\0";
 
-// What the link gives, how the stay ends, and what the client is told.
+// What the link gives, how the stay ends, and what the client gets.
 const SINGLE: &[(&[&[u8]], Ending<'static>, &[u8])] = &[
     (&[ROW], Release, ROW),
     // A notice behind a ReadyForQuery closes the link.
@@ -240,7 +241,7 @@ fn one_request(rt: HostRuntime) -> Result<(), Fail> {
     Ok(())
 }
 
-// A stream whose read fails behind these pieces, or that takes so many bytes.
+// A stream whose read fails behind these pieces, or that takes only this many bytes.
 fn failing<'a>(pieces: &'a [&'a [u8]], breaks: bool, room: usize) -> Script<'a> {
     Script {
         pieces,

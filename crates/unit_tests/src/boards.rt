@@ -20,7 +20,7 @@ const TIMES: [(Counter, u32); 8] = [
     (Counter::Failed, 8),
 ];
 
-// So many more of a counter.
+// Raises a counter by `times`.
 fn raise(
     board: &Board,
     seat: &mut BoardSeat,

@@ -1,5 +1,5 @@
 //! The whole table of acts, groups of an extended query's messages, recorded conversations, and
-//! each call with ample memory.
+//! each call with enough memory.
 use client_state::{Act, Client, DatabaseNo, HeadAct, Reply};
 use pg_frames::{Body, Frame};
 use startup::{ErrorCode, Severity};
@@ -59,7 +59,7 @@ fn assert_done(rt: &impl Abort, act: &Act, expected: Done<'_>) {
     assert_eq!(rt; done_by(act), expected);
 }
 
-// A client that is told this, and what it does.
+// The client sends this frame, and this is what is done.
 fn assert_client(rt: &impl Abort, client: &mut Client, frame: Frame, expected: Done<'_>) {
     assert!(rt; client.may_read());
     assert_done(rt, &client.on_client(frame), expected);

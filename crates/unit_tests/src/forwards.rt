@@ -1,5 +1,5 @@
-//! Packets carried over streams that take so many bytes and then stop, and requests finished over
-//! them.
+//! Packets carried over streams that take a given number of bytes and then stop, and requests
+//! finished over them.
 use crate::checks::{assert_bytes, assert_same};
 use peer_forward::{Outcome, ReadCalls, Verdict, WriteCalls, carry, finish};
 use startup::Packet;
@@ -131,8 +131,8 @@ impl Carried {
     }
 }
 
-// The packet is carried with this outcome, by so many writes and reads, and so many bytes of it are
-// written.
+// The packet is carried with this outcome, by this many writes and reads, and this many bytes of it
+// are written.
 fn assert_carried(rt: &impl Abort, wire: &mut Wire, packet: &Packet, expected: &Carried) {
     assert_eq!(rt; carry(wire, *packet), expected.outcome);
     assert_eq!(rt;
@@ -309,7 +309,7 @@ fn outcomes(rt: HostRuntime) -> Result<(), Fail> {
     Ok(())
 }
 
-// A stream that fails after so many bytes, taken one by one, was written these and no others, and
+// A stream that fails after `room` bytes, taken one by one, was written these and no others, and
 // isn't read.
 fn assert_stops_at(
     rt: &(impl Abort + AllocGlobal),

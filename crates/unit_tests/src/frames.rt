@@ -1,4 +1,4 @@
-//! Streams cut at every place, the errors at their smallest text, and each call with ample memory.
+//! Streams cut at every place, the errors at their smallest text, and each call with enough memory.
 use crate::checks::{assert_bytes, assert_same};
 use pg_frames::{
     Body, Cutter, Cutting, Flow, Frame, FrameError, OwnedPiece, Parts, Piece, cut, cut_in_parts,

@@ -129,7 +129,7 @@ fn a_link_in_each_of_its_places(rt: HostRuntime) -> Result<(), Fail> {
     Ok(())
 }
 
-// A stream that takes so many more messages.
+// A stream that takes `left` more messages.
 #[derive(Debug, Drop)]
 struct Stream {
     left: u8,

@@ -1,5 +1,5 @@
-//! Logins head by head and body by body, every beginning of a whole login, and each call with ample
-//! memory.
+//! Logins head by head and body by body, every beginning of a whole login, and each call with
+//! enough memory.
 use link_state::{LinkAct, LinkError, LinkLogin, LoginHead, ServerKey};
 use std::alloc::{AllocError, Global};
 use std::process::Abort;

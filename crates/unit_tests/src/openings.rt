@@ -44,7 +44,7 @@ const REFUSED: &[(u8, usize, &[u8])] = &[
     // No UTF-8, in a name and in a value.
     (4, 13, b"\0\0\0\x0d\0\x03\0\0\xc3\0b\0\0"),
     (4, 16, b"\0\0\0\x10\0\x03\0\0user\0\x80\0\0"),
-    // A name twice, before the want of a user, and with one.
+    // A name twice: without a user, a fault that is judged later, and with one.
     (4, 16, b"\0\0\0\x10\0\x03\0\0a\0\0a\0b\0\0"),
     (4, 26, b"\0\0\0\x1a\0\x03\0\0user\0a\0x\0\0user\0b\0\0"),
     // Names that may not be set.
@@ -107,7 +107,7 @@ fn negotiations(rt: HostRuntime) {
         assert!(rt; matches!(other, Ok(First::Ssl | First::Gss)) && other != answer);
         refused_from(&rt, &mut opening, 7, 8, first);
         refused_from(&rt, &mut opening, 7, 8, second);
-        // A second request is told before its length.
+        // A second request is refused as such, even with a length of 9.
         assert_eq!(rt;
             refusal_of(&opening.read(b"\0\0\0\x09\x04\xd2\x16\x2f", false)),
             7
@@ -236,7 +236,7 @@ const SESSIONS: &[(Kind, &str, &str, usize, &[u8])] = &[
     ),
 ];
 
-// The text begins a session with this user and this database once so many of its bytes are there,
+// The text begins a session with this user and this database once its first `used` bytes are there,
 // whatever follows.
 fn begins_session(
     rt: &(impl Abort + AllocGlobal),

@@ -97,7 +97,7 @@ impl Write for Wire {
     }
 }
 
-// Serves a client. It shows by what it was sent how that ended, but for want of memory.
+// Serves a client. What it was sent shows how that ended, so out of memory is the only error.
 fn serve_wire<R: Wait>(rt: &R, server: &Server, wire: &mut Wire) -> io::Result<()> {
     match serve_connection(rt, server, wire) {
         Err(error) if error.kind() == ErrorKind::OutOfMemory => Err(error),
@@ -124,8 +124,8 @@ fn put_query(out: &mut Vec<u8>, text: &[u8]) -> Result<(), AllocError> {
     Ok(())
 }
 
-// What a client is sent that comes with this input, in pieces of this size, and that takes so
-// many bytes.
+// What a client is sent that comes with this input, in pieces of this size, and that takes `room`
+// bytes.
 fn sent_to<R: Wait + AllocGlobal>(
     rt: &R,
     mode: Mode,
@@ -331,7 +331,7 @@ fn greatest_value(rt: HostRuntime) -> Result<(), Fail> {
     Ok(())
 }
 
-// A client that takes so many bytes was sent these, and no more.
+// A client that takes `room` bytes was sent these, and no more.
 fn assert_broken<R: Wait + Abort + AllocGlobal>(
     rt: &R,
     input: &[u8],

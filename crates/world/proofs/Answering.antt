@@ -1,4 +1,4 @@
--- When whoever forwarded a request may be told that it came to its end, by the order that it got.
+-- When the end of a request may be reported to whoever forwarded it, by the order that it got.
 use Rattle.std.proofs.Common.{◌≡◌, ℕ, List, Some, ap, sym, subst, ◌∙◌}
 use Rattle.std.specs.List.{slice_get}
 use Rattle.std.proofs.lemmas.Option.{same_Some}

@@ -1,5 +1,5 @@
--- What the events of clients need of the facts: the node of each session, that a client with nothing
--- in hand is never told that it holds something, and the server process of a link that it gets.
+-- What the events of clients need of the facts: the node of each session, that a client with
+-- nothing in hand never gets the reply `Holding`, and the server process of a link that it gets.
 use Rattle.std.proofs.Common.{◌≡◌, ℕ, ◌+◌, ⊎_elim, true, false, List, [], ◌∷◌, Some, length, refl, ap, sym, subst, ◌∙◌, arith}
 use Rattle.std.proofs.Math.ListN.{set}
 use Rattle.std.specs.List.{slice_get}

@@ -153,7 +153,7 @@ forward_ended_kept old new flight may does f =
       answered_settled old f may.arrival may.answered,
     )) f)
 
--- and that is told
+-- the end of a forward connection is reported
 pub forward_told_kept : (old new : World) (flight place : ℕ) (forward : Forward)
     → IsForwardOpen old flight place forward → forward.ended ≡ true
     → Forwards flight (λ forward. record forward { report = Some Report.Clean }) old new

@@ -96,7 +96,7 @@ one_session w f label i j x y a b =
     (a.named ∙ sym b.named) in
     (place, same_Some x y (sym a.there ∙ ap (slice_get w.sessions) place ∙ b.there))
 
--- where a session of the world has the lease of a link that stands in a pool, a client has that link
+-- where a session of the world has the lease of a link that is in a pool, a client has that link
 pub link_with_client : (w : World) → Facts w → AreWhole w.nodes → (p i b n : ℕ) (s : Session)
     (lease : LinkRecord) (view : NodeView) (at : LinkPlace) (link : Link)
     → slice_get w.sessions p ≡ Some s → s.hand ≡ Hand.Lease lease b n

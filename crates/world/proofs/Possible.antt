@@ -1,6 +1,6 @@
 -- What an event needs is there: the node of a session and of a ticket, the server process of a link
--- and of a cancel connection, the client of a slot; and a node never answers that a client with
--- nothing in hand holds something.
+-- and of a cancel connection, the client of a slot; and a client with nothing in hand holds
+-- nothing, as its node sees it.
 use Rattle.std.proofs.Common.{◌≡◌, ◌≢◌, ℕ, ◌<◌, zero, suc, [], ◌∷◌, Bool, true, false, List, Option, Some, None, length, refl, ap, sym, subst, ◌∙◌, arith, ◌==◌, ◌&&◌}
 use Rattle.std.specs.List.{slice_get}
 use Rattle.std.specs.Option.{is_some, option_map}

@@ -175,7 +175,8 @@ added_kept w x other given own none f =
       safe = record { struck = f.safe.struck; taken = f.safe.taken; earned = f.safe.earned };
     }
 
--- nobody has the link of a process, had it with something that is still to come, or may have it back
+-- nobody has the link of a process, no cancel connection to it is still to act, and nobody may take
+-- the link back
 pub record IsUnclaimed (w : World) (b : ℕ) : Type 0 where
   pub clients : (i n : ℕ) (s : Session) (lease : LinkRecord) → slice_get w.sessions i ≡ Some s
       → s.hand ≡ Hand.Lease lease b n → ⊥

@@ -22,8 +22,8 @@ pub record HasInHand (w : World) (label : ℕ) (hand : Hand) : Type 0 where
 abbrev pub HasPermit : World → ℕ → Type 0
 HasPermit w label = (permit : PermitRecord) × HasInHand w label (Hand.Permit permit)
 
--- the client has the lease of this server process, with so many requests outstanding; the lease may
--- be stale
+-- the client has the lease of this server process, with this many requests outstanding; the lease
+-- may be stale
 abbrev pub HasLease : World → ℕ → ℕ → ℕ → Type 0
 HasLease w label backend outstanding =
     (lease : LinkRecord) × HasInHand w label (Hand.Lease lease backend outstanding)
@@ -106,8 +106,8 @@ pub record IsUnreported (w : World) (place : ℕ) (connection : Connection) : Ty
   pub there : slice_get w.connections place ≡ Some connection
   pub unreported : connection.report ≡ None
 
--- Whoever forwarded a request may be told that it came to its end: it was refused or ended a wait;
--- or its connection to a server was reported clean; or its own forward connection was.
+-- The end of a request may be reported to whoever forwarded it: it was refused or ended a wait; or
+-- its connection to a server was reported clean; or its own forward connection was.
 pub data IsAnswered (arrivals : List Arrival) (connections : List Connection) (forwards : List Forward) (arrival : ℕ) : Type 0 where
   Nowhere : (came : Arrival) → slice_get arrivals arrival ≡ Some came
       → IsNowhere came.order → IsAnswered arrivals connections forwards arrival

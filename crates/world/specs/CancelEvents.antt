@@ -69,8 +69,8 @@ IsTaken false w node key taken = taken ≡ w.taken
 IsTaken true w node key taken = (label : ℕ) × IsInSlot w node (slot_of key) label
     × (taken ≡ and_then w.taken record { node = node; key = key; label = label })
 
--- who has the link at a server process, as the node knows it: the client that is logged in there, in
--- this incarnation, and has its lease in hand
+-- who has the link at a server process, as the node knows it: the client that is logged in there,
+-- in this incarnation, and has its lease in hand
 pub record Holds (w : World) (node incarnation at label : ℕ) : Type 0 where
   pub place : ℕ
   pub outstanding : ℕ

@@ -89,8 +89,8 @@ pub record AreServers (group : List NodeSettings) (faces : List Face) (connectio
   pub asked : (i : ℕ) (connection : Connection) → slice_get connections i ≡ Some connection
       → (database : ℕ) × IsServer group connection.ticket.peer database connection.server
 
--- no two nodes have one number, numbers and slots are in their ranges, and the nodes have the numbers
--- and the databases of the group's settings
+-- no two nodes have the same number, numbers and slots are in their ranges, and the nodes have the
+-- numbers and the databases of the group's settings
 pub record AreNodes (group : List NodeSettings) (nodes : List NodeView) : Type 0 where
   pub once : (i j : ℕ) (a b : NodeView) → slice_get nodes i ≡ Some a → slice_get nodes j ≡ Some b
       → a.me ≡ b.me → i ≡ j

@@ -81,7 +81,8 @@ pub record Asks (label : ℕ) (said : Reply) (old new : World) : Type 0 where
   pub step : SessionSteps label (λ s. Exchange.Acquire s.pass given) old place session nodes
   pub after : Acquires place session given said (with_nodes nodes old) new
 
--- a new server process of this server with this key, made for this link, which this client has, if any has it
+-- a new server process of this server with this key, made for this link, which this client has, if
+-- any has it
 abbrev pub new_backend : Server → List ℕ → Option LinkRecord → Option ℕ → Backend
 new_backend server key link holder = record {
   server = server;
@@ -113,7 +114,7 @@ GoesUp place session server key (UpReply.Exhausted again stream) said old new =
 GoesUp place session server key (UpReply.Stale stream) said old new =
     (said ≡ Reply.Stale)
     × (new ≡ with_session place (holding Hand.Empty session) (with_new (new_backend server key None None) old))
--- a node comes to no end
+-- a node of a world never runs out of numbers for its steps
 GoesUp place session server key (UpReply.AtEnd stream) said old new = ⊥
 
 -- a client has opened a link

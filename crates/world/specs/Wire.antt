@@ -3,7 +3,7 @@ use Rattle.std.specs.Prelude.{ℕ, List, [], Option, Some, None, replicate}
 use Rattle.world.specs.World.{Backend}
 use Rattle.world.specs.declared.backends.Process.{Process}
 
--- so many requests of this client
+-- this many requests of this client
 abbrev pub wire_of : ℕ → Option ℕ → List ℕ
 wire_of waiting None = []
 wire_of waiting (Some label) = replicate waiting label

@@ -14,10 +14,10 @@ pub use Rattle.world.specs.declared.request.{Arrival.Arrival, Connection.Connect
 abbrev pub Server : Type 0
 Server = ℕ
 
--- A server process: its server, the key by which that cancels it, and the link that it was made
--- for, as the link's lease says it, where the node took it. On its way to it are requests of these
--- clients; it runs a request of this client; so many of its ReadyForQuery are on their way back.
--- The client that had its link last, if any had it.
+-- A server process: its server, the key by which that server cancels it, and the link that it was
+-- made for, as the link's lease says it, if the node took the link. On their way to it are requests
+-- of these clients; it runs a request of this client; this many of its ReadyForQuery messages are
+-- on their way back. The client that had its link last, if any had it.
 pub record Backend : Type 0 where
   pub server : Server
   pub key : List ℕ

@@ -41,7 +41,7 @@ Does (Event.Told place) said old new = Tells place said old new
 Does (Event.Broken place) said old new = Breaks place said old new
 Does (Event.Restart node asked) said old new = Restarts node asked said old new
 
--- one event in a world: it takes place exactly where it is admissible, and otherwise nothing changes
+-- one event in a world: it takes place exactly where it is admissible; otherwise nothing changes
 abbrev pub WorldStep : Event → Took → World → World → Type 0
 WorldStep event (Took.Done said) old new = Admissible old event × Does event said old new
 WorldStep event Took.Skipped old new = (Admissible old event → ⊥) × (new ≡ old)

@@ -20,7 +20,8 @@ impl Row for Forward {
     }
 }
 
-/// Forward connections in the order of their making: no two have one flight, or are for one arrival.
+/// Forward connections in the order in which they were made: no two have the same flight, or are
+/// for the same arrival.
 #[derive(Drop)]
 pub(crate) struct Forwards {
     by_flight: Table<Forward>,

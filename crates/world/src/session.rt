@@ -17,7 +17,7 @@ pub enum Hand {
     Empty,
     /// The permit to open a link.
     Permit(PermitRecord),
-    /// The lease of a link, at this server process, with so many requests that weren't answered yet.
+    /// The lease of a link, at this server process, with the number of its unanswered requests.
     Lease(LinkRecord, BackendNo, u64),
 }
 

@@ -78,8 +78,8 @@ impl Starts {
         }
     }
 
-    /// The boot with which a node may be started anew: the one that is asked for, if it never had that;
-    /// or else one more than its greatest.
+    /// The boot with which a node may be started anew: the one that is asked for, if the node never
+    /// had it; or, where none is asked for, one more than the node's greatest.
     pub fn next(&self, node: PeerNo, asked: Option<Boot>) -> Option<Boot>
         ensures next { IfSome result (λ boot. IsNextBoot self.now.rows node asked boot) }
         ensures none { IfNone result ((boot : ℕ) → IsNextBoot self.now.rows node asked boot → ⊥) }

@@ -19,10 +19,10 @@ use std::marker::Model;
 
 /// A group of nodes with their clients and servers, after some events.
 ///
-/// Of every value of this type it is true, whatever the events were, that each interruption struck a
-/// server process which ran a query of the very client to whom the request's key was given; that no
-/// key was taken for two clients; and that each cancel connection to a server is for a request with
-/// hops left and a key that was given to the client who had that server process.
+/// This is true of every value of this type, whatever the events were: each interruption struck a
+/// server process that ran a query of the very client to whom the request's key was given; no key
+/// was taken for two clients; and each cancel connection to a server is for a request with hops
+/// left and a key that was given to the client who had that server process.
 #[derive(Drop)]
 pub struct World {
     state: State,

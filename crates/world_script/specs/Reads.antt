@@ -16,8 +16,7 @@ abbrev pub script_number : ScriptError → Option ℕ
 script_number (script.Bad line) = Some 80
 script_number script.Memory = None
 
--- what a reader returned is what is said, and where nothing is said it is a fault of form; or memory
--- ran out
+-- a reader returned what is said, or a fault of form where nothing is said; or memory ran out
 abbrev pub Finds : {X : Type 0} → Result X LineFault → Option X → Type 0
 Finds (Ok found) said = said ≡ Some found
 Finds (Err Form) said = said ≡ None

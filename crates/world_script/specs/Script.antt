@@ -73,8 +73,8 @@ nodes_in said = flat_map node_in said
 abbrev pub events_in : List (Option Statement) → List Event
 events_in said = flat_map event_in said
 
--- whether a line is at fault behind these nodes and events: it has no form of the grammar, or it is a
--- node behind an event, or the 66th node
+-- whether a line is at fault behind these nodes and events: it has no form of the grammar, or it is
+-- a node behind an event, or the 66th node
 abbrev pub is_fault : List NodeLine → List Event → Option Statement → Bool
 is_fault nodes events None = true
 is_fault nodes events (Some (says.Node node)) =

@@ -1,5 +1,5 @@
-//! The text of a world's schedule and of its outcome: scripts of nodes and events are read, and what
-//! the events brought about is written.
+//! The text of a world's schedule and of its outcome: reads scripts of nodes and events, and writes
+//! what the events brought about.
 #![tactic(auto)]
 
 mod draft;

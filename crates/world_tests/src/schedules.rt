@@ -120,8 +120,8 @@ const SCHEDULES: [Schedule; 18] = [
             7 serve 2 2\n8 quarantined\n9 nothing\n10 nothing\n11 nothing\n12 ok\n13 ok\n14 ok\n\
             15 counted\n16 counted\n17 freed\nevents 17 skipped 0 interrupts 0\n",
     },
-    // A cancel that comes before its client is logged in is refused. The same bytes, delivered again
-    // while the client runs a query, strike it.
+    // A cancel that comes before its client is logged in is refused. The same bytes, delivered
+    // again while the client runs a query, strike it.
     Schedule {
         name: "own_query_is_struck",
         script: "node 2 1 2\nput 0000001004d2162e0008000000000007\ndeliver 0 2\nlogin 2 10 1\n\
@@ -163,7 +163,7 @@ const SCHEDULES: [Schedule; 18] = [
         script: "node 2 1 1\nput -\ndeliver 0 2\ndeliver 0 3\n",
         outcome: "1 flight 0\n2 no-cancel\n3 skipped\nevents 3 skipped 1 interrupts 0\n",
     },
-    // A client that waits for a link is cancelled: it is told so once, and may ask again.
+    // A client that waits for a link is cancelled: it gets `cancelled` once, and may ask again.
     Schedule {
         name: "waiting_client_is_cancelled",
         script: "node 2 1 2\nlogin 2 10 1\nlogin 2 11 5\nacquire 10\nup 10 0000000100000002\n\
@@ -181,8 +181,8 @@ const SCHEDULES: [Schedule; 18] = [
         outcome: "1 key 0008000000000007\n2 open\n3 ok\n4 stale\n5 skipped\n6 stale\n7 stale\n\
             events 7 skipped 1 interrupts 0\n",
     },
-    // A client takes back its own quarantined link, also where others wait. A late cancel strikes its
-    // own next query: it is the client who asked.
+    // A client takes back its own quarantined link, also where others wait. A late cancel strikes
+    // its own next query: it is the client who asked.
     Schedule {
         name: "own_link_taken_back",
         script: "node 2 1 2\nlogin 2 10 1\nlogin 2 11 5\nacquire 10\nup 10 0000000100000002\n\
@@ -202,8 +202,8 @@ const SCHEDULES: [Schedule; 18] = [
             7 left\n8 key 0008000000000027\n9 waiting\n10 nothing\n11 ok\n12 freed\n13 got 0\n\
             events 13 skipped 0 interrupts 0\n",
     },
-    // Longer keys have a boot and a serial, so the secret may come again. A short request never finds
-    // a long key.
+    // Longer keys have a boot and a serial, so the secret may come again. A short request never
+    // finds a long key.
     Schedule {
         name: "longer_keys",
         script: "node 2 1 1\nlogin32 2 10 1\nleave 10\nlogin32 2 11 1\nrestart 2\nlogin32 2 12 1\n\
@@ -213,8 +213,8 @@ const SCHEDULES: [Schedule; 18] = [
             5 key 000800000000000700000000000000010000000000000000\n6 skipped\n7 refused 30\n\
             8 flight 0\n9 refused 0 61\nevents 9 skipped 1 interrupts 0\n",
     },
-    // A forwarded cancel is settled once its server connection has ended: only then may the
-    // node that forwarded it be told so.
+    // A forwarded cancel is settled once its server connection has ended: only then may its end
+    // be reported to the node that forwarded it.
     Schedule {
         name: "clean_forward_is_settled",
         script: "node 1 1 1\nnode 2 1 1\nlogin 2 10 1\nacquire 10\nup 10 0000000100000002\n\
@@ -234,12 +234,13 @@ const SCHEDULES: [Schedule; 18] = [
             7 ok\n8 ok\n9 ok\n10 struck 0 10\ninterrupt 0 10 1\n\
             events 10 skipped 0 interrupts 1\n",
     },
-    // The race that strikes the wrong client in a plain pooler. Ann (10) runs a query and cancels it.
-    // The cancel comes to the wrong pooler (1), which forwards it to hers (2), where it is sent on to
-    // the server. Meanwhile the query has ended, and Ann gives the link back. A plain pooler would give
-    // it to Bob (11) now; the cancel, which names the server process and not the client, would strike
-    // his query. Here the link is quarantined. Bob waits until the server has ended the cancel, which
-    // found nothing to interrupt; then he gets the link, and his query runs to its end.
+    // The race that strikes the wrong client in a plain pooler. Ann (10) runs a query and cancels
+    // it. The cancel comes to the wrong pooler (1), which forwards it to hers (2), where it is sent
+    // on to the server. Meanwhile the query has ended, and Ann gives the link back. A plain pooler
+    // would give it to Bob (11) now; the cancel, which names the server process and not the client,
+    // would strike his query. Here the link is quarantined. Bob waits until the server has ended
+    // the cancel, which found nothing to interrupt; then he gets the link, and his query runs to
+    // its end.
     Schedule {
         name: "the_race",
         script: "node 1 1 1\nnode 2 1 2\nlogin 2 10 1\nlogin 2 11 5\nacquire 10\n\

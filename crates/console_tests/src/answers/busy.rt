@@ -8,8 +8,8 @@ use pg_ids::{AnyKey, Boot, Kind, Secret, ServerKey};
 use std::alloc::Global;
 use std::test::Fail;
 
-/// A node, and a line for each client, by slot. Its links, by number: idle; held and condemned, with
-/// one open ticket; quarantined, with two; held.
+/// A node, and a line for each client, by slot. Its links, by number: idle; held and condemned,
+/// with one open ticket; quarantined, with two; held.
 pub(crate) fn busy_node(
     alloc: Global,
     settings: &Settings,

@@ -7,9 +7,9 @@ use pg_ids::SlotNo;
 use std::alloc::Global;
 use std::test::Fail;
 
-// The steps of a round, and what is made in it. Four clients, with keys of both kinds, share at most
-// two links. Before and after it nobody is logged in, and no link is open. Numbers are those of a
-// first round.
+// The steps of a round, and what is made in it. Four clients, with keys of both kinds, share at
+// most two links. Before and after it nobody is logged in, and no link is open. Numbers are those
+// of a first round.
 #[derive(Clone, Copy)]
 struct Round {
     rows: &'static [(Act, Said)],

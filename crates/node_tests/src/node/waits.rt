@@ -1,5 +1,5 @@
-//! Cancel requests for clients that wait for a link: such a client waits no longer, and is told so
-//! once.
+//! Cancel requests for clients that wait for a link: such a client no longer waits, and gets
+//! `Cancelled` once.
 use crate::node::desk::{Act, Desk, Said};
 use crate::node::{FIRST, KEY, SECOND, run, run_with_link};
 use node_core::{CloseReply, ReleaseReply, RestartReply};
@@ -14,7 +14,7 @@ const TOLD_ONCE: &[(Act, Said)] = &[
     (Act::Cancel(SECOND), Said::Unwait(1)),
 ];
 
-// It is told also where a link is idle by then.
+// It gets `Cancelled` first, even where a link is idle by then.
 const TOLD_FIRST: &[(Act, Said)] = &[
     (Act::Acquire(1), Said::Waiting),
     (Act::Cancel(SECOND), Said::Unwait(1)),
@@ -23,7 +23,7 @@ const TOLD_FIRST: &[(Act, Said)] = &[
     (Act::Acquire(1), Said::Link(0)),
 ];
 
-// A client that leaves is told nothing, nor is the next one of its slot.
+// A client that leaves never gets `Cancelled`, nor does the next one of its slot.
 const FORGOTTEN_BY_LEAVING: &[(Act, Said)] = &[
     (Act::Acquire(1), Said::Waiting),
     (Act::Cancel(SECOND), Said::Unwait(1)),

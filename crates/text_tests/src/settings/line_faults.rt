@@ -1,5 +1,5 @@
-//! Faults of one line: each line is the last of its text, after [pgbouncer], [databases] or [peers],
-//! or with no section.
+//! Faults of one line: each line is the last of its text, after [pgbouncer], [databases] or
+//! [peers], or with no section.
 use super::{expect_answer, joined};
 use ini_config::IniCode;
 use std::alloc::Global;

@@ -1,5 +1,5 @@
-//! Whole files: what is missing or too much in the whole, blanks, ends of lines, lengths and running
-//! out of memory.
+//! Whole files: what is missing or too much in the whole, blanks, ends of lines, lengths and
+//! running out of memory.
 use super::{LEAST, expect_answer, joined, settings_of};
 use ini_config::{DatabaseNo, IniCode, IniError, Settings, read_settings};
 use std::alloc::Global;

@@ -10,7 +10,7 @@ use std::time::{Clock, Duration};
 // comes before the query runs has no effect.
 const TURNS: u32 = 20_000;
 
-// What a client is sent, whose end is told.
+// What a client is sent. `ended` is set once it is served.
 fn held<R: Wait>(
     rt: &R,
     server: &Server,
@@ -23,7 +23,7 @@ fn held<R: Wait>(
     Ok(wire.output)
 }
 
-// Makes the request again and again, until the client's end is told.
+// Makes the request again and again, until `ended` is set.
 fn interrupt<R: Wait + Clock + AllocGlobal>(
     rt: &R,
     server: &Server,

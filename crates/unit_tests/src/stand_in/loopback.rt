@@ -7,7 +7,7 @@ use std::thread;
 use std::thread::Threads;
 use std::time::{Clock, Duration};
 
-// A read waits for a millisecond at most. So many reads are made before the test gives up, and a
+// A read waits for a millisecond at most. This many reads are made before the test gives up, and a
 // request before each 50th: one that comes before the query runs has no effect.
 const TURNS: u32 = 20_000;
 
@@ -52,7 +52,7 @@ fn cancel<R: Net<Stream = TcpStream> + Abort>(
     send_cancel(rt, &mut stream, request)
 }
 
-// What a client is sent, until there are so many bytes. The request is made meanwhile.
+// What a client is sent, until there are `count` bytes. The request is made meanwhile.
 fn sent<R: Net<Stream = TcpStream> + AllocGlobal + Abort>(
     rt: &R,
     address: SocketAddr,

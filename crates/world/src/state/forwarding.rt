@@ -47,7 +47,7 @@ impl State {
         Took::Done(Reply::Done)
     }
 
-    // Whether whoever forwarded a request may be told that it came to its end.
+    // Whether the end of a request may be reported to whoever forwarded it.
     fn is_answered(&self, arrival: ArrivalNo) -> bool
         requires { Facts self.now }
         ensures { IsTrue result ↔ IsAnswered self.now.arrivals self.now.connections self.now.forwards arrival }

@@ -86,8 +86,8 @@ fn expect_key(rt: &impl Abort, events: &[Event]) {
     assert_eq!(rt; key.to_bytes(), [0, 0, 0, 1, 0, 0, 0, 255]);
 }
 
-// A request that goes from one node to another on a forward connection, which is ended once the
-// server's end was told.
+// A request that goes from one node to another on a forward connection, which is ended once the end
+// of the cancel connection to the server was reported.
 const FORWARDED: &str = "node 1 1 1\nnode 2 1 1\nlogin 2 10 1\nacquire 10\n\
     up 10 0000000100000002\nput 0000001004d2162e0008000000000007\ndeliver 0 1\naccept 1 2\n\
     fend 1\nact 0\nend 0\ntold 0\nfend 1\nftold 1\n";

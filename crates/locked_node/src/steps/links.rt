@@ -1,0 +1,205 @@
+//! The calls about an open link, and about one that couldn't be opened.
+ghost use Rattle.link_pool.specs.Said.{up_said, release_said, close_said};
+ghost use Rattle.link_pool.specs.Streams.{UpStreams, ReleaseStreams, CloseStreams};
+ghost use Rattle.link_pool.specs.declared.replies.UpReply.TheVariants as up;
+ghost use Rattle.link_pool.specs.declared.replies.UpFailedReply.TheVariants as failing;
+ghost use Rattle.link_pool.specs.declared.replies.ReleaseReply.TheVariants as release;
+ghost use Rattle.link_pool.specs.declared.replies.CloseReply.TheVariants as close;
+ghost use Rattle.node_core.specs.declared.exchange.Exchange.TheVariants as call;
+
+use crate::call::Call;
+use node_core::{
+    CloseReply, DatabaseNo, Exchange, Lease, LinkRecord, NodeCore, Permit, PermitRecord,
+    ReleaseReply, UpFailedReply, UpReply,
+};
+use pg_ids::ServerKey;
+
+/// A link is open, over this stream, and its server cancels by this key.
+pub struct Up<S>(pub Permit, pub S, pub ServerKey);
+
+impl<S: Drop> Call<S> for Up<S> {
+    type Reply = UpReply<Lease<S>, Permit, S>;
+
+    type Details = (PermitRecord, ServerKey);
+
+    ghost handed = { λ made. (made.0, made.2) };
+
+    ghost exchange = { λ made reply. call.Up made.0 made.1 (up_said reply) };
+
+    ghost streams = { λ made reply. UpStreams made.1 reply };
+
+    ghost at_end = { λ made. up.AtEnd made.1 };
+
+    #[inline(always)]
+    fn details(&self) -> Self::Details {
+        (self.0.details(), self.2)
+    }
+
+    #[inline(always)]
+    fn make(self, core: &mut NodeCore<S>) -> Self::Reply {
+        let Up(permit, stream, key) = self;
+        core.up(permit, stream, key)
+    }
+
+    #[inline(always)]
+    fn database(&self, _core: &NodeCore<S>) -> Option<DatabaseNo> {
+        None
+    }
+
+    #[inline(always)]
+    fn record(details: &Self::Details, reply: &Self::Reply) -> Exchange {
+        let kept = match reply {
+            UpReply::Up(lease) => UpReply::Up(lease.details()),
+            UpReply::Exhausted(permit, _) => UpReply::Exhausted(permit.details(), ()),
+            UpReply::Stale(_) => UpReply::Stale(()),
+            UpReply::AtEnd(_) => UpReply::AtEnd(()),
+        };
+        Exchange::Up(details.0, details.1, kept)
+    }
+
+    fn forfeit(self) -> Self::Reply {
+        let Up(permit, stream, _) = self;
+        permit.forfeit();
+        UpReply::AtEnd(stream)
+    }
+}
+
+/// A link couldn't be opened.
+pub struct UpFailed(pub Permit);
+
+impl<S: Drop> Call<S> for UpFailed {
+    type Reply = UpFailedReply;
+
+    type Details = PermitRecord;
+
+    ghost handed = { λ made. made.0 };
+
+    ghost exchange = { λ made reply. call.UpFailed made reply };
+
+    ghost at_end = { λ _. failing.Exhausted };
+
+    #[inline(always)]
+    fn details(&self) -> Self::Details {
+        self.0.details()
+    }
+
+    #[inline(always)]
+    fn make(self, core: &mut NodeCore<S>) -> Self::Reply {
+        let UpFailed(permit) = self;
+        core.up_failed(permit)
+    }
+
+    #[inline(always)]
+    fn database(&self, _core: &NodeCore<S>) -> Option<DatabaseNo> {
+        Some(self.0.details().at.database)
+    }
+
+    #[inline(always)]
+    fn record(details: &Self::Details, reply: &Self::Reply) -> Exchange {
+        Exchange::UpFailed(*details, *reply)
+    }
+
+    fn forfeit(self) -> Self::Reply {
+        let UpFailed(permit) = self;
+        permit.forfeit();
+        UpFailedReply::Exhausted
+    }
+}
+
+/// A client gives its link back.
+pub struct Release<S>(pub Lease<S>);
+
+impl<S: Drop> Call<S> for Release<S> {
+    type Reply = ReleaseReply<S>;
+
+    type Details = LinkRecord;
+
+    ghost handed = { λ made. made.0.details };
+
+    ghost exchange = { λ made reply. call.Release made (release_said reply) };
+
+    ghost streams = { λ made reply. ReleaseStreams made.0 reply };
+
+    ghost at_end = { λ made. release.Exhausted made.0.stream };
+
+    #[inline(always)]
+    fn details(&self) -> Self::Details {
+        self.0.details()
+    }
+
+    #[inline(always)]
+    fn make(self, core: &mut NodeCore<S>) -> Self::Reply {
+        let Release(lease) = self;
+        core.release(lease)
+    }
+
+    #[inline(always)]
+    fn database(&self, _core: &NodeCore<S>) -> Option<DatabaseNo> {
+        Some(self.0.details().at.database)
+    }
+
+    #[inline(always)]
+    fn record(details: &Self::Details, reply: &Self::Reply) -> Exchange {
+        let kept = match reply {
+            ReleaseReply::Idle => ReleaseReply::Idle,
+            ReleaseReply::Quarantined => ReleaseReply::Quarantined,
+            ReleaseReply::Closed(_) => ReleaseReply::Closed(()),
+            ReleaseReply::Stale(_) => ReleaseReply::Stale(()),
+            ReleaseReply::Exhausted(_) => ReleaseReply::Exhausted(()),
+        };
+        Exchange::Release(*details, kept)
+    }
+
+    fn forfeit(self) -> Self::Reply {
+        let Release(lease) = self;
+        ReleaseReply::Exhausted(lease.forfeit())
+    }
+}
+
+/// A link leaves the pool.
+pub struct Close<S>(pub Lease<S>);
+
+impl<S: Drop> Call<S> for Close<S> {
+    type Reply = CloseReply<S>;
+
+    type Details = LinkRecord;
+
+    ghost handed = { λ made. made.0.details };
+
+    ghost exchange = { λ made reply. call.Close made (close_said reply) };
+
+    ghost streams = { λ made reply. CloseStreams made.0 reply };
+
+    ghost at_end = { λ made. close.Exhausted made.0.stream };
+
+    #[inline(always)]
+    fn details(&self) -> Self::Details {
+        self.0.details()
+    }
+
+    #[inline(always)]
+    fn make(self, core: &mut NodeCore<S>) -> Self::Reply {
+        let Close(lease) = self;
+        core.close(lease)
+    }
+
+    #[inline(always)]
+    fn database(&self, _core: &NodeCore<S>) -> Option<DatabaseNo> {
+        Some(self.0.details().at.database)
+    }
+
+    #[inline(always)]
+    fn record(details: &Self::Details, reply: &Self::Reply) -> Exchange {
+        let kept = match reply {
+            CloseReply::Closed(_) => CloseReply::Closed(()),
+            CloseReply::Stale(_) => CloseReply::Stale(()),
+            CloseReply::Exhausted(_) => CloseReply::Exhausted(()),
+        };
+        Exchange::Close(*details, kept)
+    }
+
+    fn forfeit(self) -> Self::Reply {
+        let Close(lease) = self;
+        CloseReply::Exhausted(lease.forfeit())
+    }
+}
