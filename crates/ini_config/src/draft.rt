@@ -32,7 +32,8 @@ pub(crate) struct Draft {
 
 impl Draft {
     ghost use Rattle.ini_config.specs.Reads.{Gives};
-    ghost use Rattle.ini_config.specs.Settings.{nothing, section_of, section_opened, key_in, key_line, line_given};
+    ghost use Rattle.ini_config.specs.Settings.{nothing, section_of, section_opened};
+    ghost use Rattle.ini_config.specs.Settings.{key_in, key_line, line_given};
     ghost use Rattle.ini_config.specs.View.{given_seen};
 
     /// Nothing has been read.

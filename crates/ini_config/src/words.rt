@@ -83,7 +83,8 @@ pub(crate) struct EntryWords {
 
 impl EntryWords {
     ghost use Rattle.ini_config.specs.Reads.{Gives};
-    ghost use Rattle.ini_config.specs.Entry.{word_given, word_read, words_read, value_words, no_words};
+    ghost use Rattle.ini_config.specs.Entry.{word_given, word_read, words_read};
+    ghost use Rattle.ini_config.specs.Entry.{value_words, no_words};
     ghost use Rattle.ini_config.specs.Text.{words};
     ghost use Rattle.ini_config.specs.View.{words_seen};
 

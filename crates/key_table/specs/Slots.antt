@@ -60,7 +60,8 @@ first_key peer slot secret = record { peer = peer; slot = slot; secret = secret;
 
 -- from old, a client is given this key with this secret and, if it is long, this part: the next
 -- slot becomes live, and no other changes
-pub record Issues (old : Slots) (secret : ℕ) (long : Option LongPart) (issued : AnyKey) (new : Slots) : Type 0 where
+pub record Issues (old : Slots) (secret : ℕ) (long : Option LongPart) (issued : AnyKey)
+    (new : Slots) : Type 0 where
   pub slot : old.next ≡ Some (slot_of issued)
   pub key : issued ≡ any_key (first_key old.peer (slot_of issued) secret) long
   pub entries : new.entries ≡ slice_set old.entries (slot_of issued) (Some (entry_of secret long))

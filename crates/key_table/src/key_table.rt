@@ -25,7 +25,11 @@ impl Model for KeyTable {
 
     ghost Value = { Slots };
 
-    ghost view = { λ t. record { peer = t.peer; entries = slots_of t.live; next = next_of t.live } };
+    ghost view = { λ t. record {
+      peer = t.peer;
+      entries = slots_of t.live;
+      next = next_of t.live;
+    } };
 
     ghost invariant = { λ t. IsTable t.live };
 }
@@ -120,7 +124,8 @@ fn fill_next(live: &mut Slab<Entry>, entry: Entry)
     requires table { IsTable live.old }
     requires room { HasRoomFor live.old 1 }
     ensures table { IsTable live.new }
-    ensures filled { slots_of live.new ≡ slice_set (slots_of live.old) live.old.vacant_key (Some entry) }
+    ensures filled { slots_of live.new
+        ≡ slice_set (slots_of live.old) live.old.vacant_key (Some entry) }
 {
     live.insert_reserved(entry);
     if live.len() == live.capacity() {

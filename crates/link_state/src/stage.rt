@@ -21,7 +21,8 @@ pub enum Stage {
 }
 
 impl Stage {
-    ghost use Rattle.link_state.specs.Stages.{outcome, after_head, after_body, head_answer, body_answer};
+    ghost use Rattle.link_state.specs.Stages.{outcome, after_head, after_body};
+    ghost use Rattle.link_state.specs.Stages.{head_answer, body_answer};
 
     /// How far it is after the head of the server's next message.
     pub fn after_head(self, head: Head) -> Stage

@@ -3,8 +3,9 @@ ghost use Rattle.std.specs.Prelude.{◌≡◌, ℕ, List, Option, ⊤};
 ghost use Rattle.node_core.specs.declared.exchange.Exchange.{Exchange};
 ghost use Rattle.node_core.specs.NodeStep.{IsStep};
 
+use crate::keeper::Keeper;
 use crate::turn::Woken;
-use node_core::{DatabaseNo, Exchange, NodeCore};
+use node_core::{DatabaseNo, NodeCore};
 
 /// A call of one step, with what it hands in. `S` is the stream of a link.
 pub trait Call<S>: Sized {
@@ -49,9 +50,11 @@ pub trait Call<S>: Sized {
         Woken::Nobody
     }
 
-    /// What a journal keeps of a call and its reply.
-    fn record(details: &Self::Details, reply: &Self::Reply) -> Exchange
-        ensures { result ≡ exchange details.now reply.now };
+    /// Has the call kept with its reply. Each reply is handed over by itself, so that no value is
+    /// built that may be any of them.
+    fn record<K: Keeper>(details: &Self::Details, reply: &Self::Reply, keeper: &mut K)
+        requires { K.has_room keeper.old }
+        ensures { K.keeps keeper.old (exchange details.now reply.now) keeper.new };
 
     /// Spends what was handed in, where no call is left.
     fn forfeit(self) -> Self::Reply

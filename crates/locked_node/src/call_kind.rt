@@ -53,7 +53,8 @@ impl CallKind {
     ghost use Rattle.node_core.specs.View.{NodeView};
     ghost use Rattle.node_core.specs.NodeStep.{NodeStep};
     ghost use Rattle.node_core.specs.declared.exchange.Exchange.{Exchange};
-    ghost use Rattle.locked_node.specs.CallNumbers.{KINDS, WIDEST, kind_of, index_of, short, long, numbers_of};
+    ghost use Rattle.locked_node.specs.CallNumbers.{KINDS, WIDEST, kind_of, index_of};
+    ghost use Rattle.locked_node.specs.CallNumbers.{short, long, numbers_of};
 
     /// The kind of the calls with this answer, and with a short key or none.
     pub const fn short(answer: CallAnswer) -> CallKind

@@ -51,7 +51,7 @@ impl<S: Drop> Shared<S> {
         let (reply, turn) = self.make(&mut caller.seat, call, &details);
         self.give(&mut caller.seat);
         caller.allowance -= 1;
-        caller.tally.count(&C::record(&details, &reply));
+        C::record(&details, &reply, &mut caller.tally);
         self.wake(rt, caller, &turn);
         reply
     }

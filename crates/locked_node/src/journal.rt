@@ -34,7 +34,9 @@ impl<S: Drop> Journal<S> {
     ghost use Rattle.node_core.specs.declared.exchange.Exchange.{Exchange};
     ghost use Rattle.std.specs.VecDeque.Iter.{deque_iter_rest, deque_iter_steps};
     ghost use Rattle.std.specs.Iterator.Runs.{YieldsRefsInOrder};
-    ghost use Rattle.locked_node.specs.Journal.{journal_view, JournalStep, Journaled, HasHistory, CountsWithin, log_calls, log_all, CALL_LIMIT, TAIL_LIMIT};
+    ghost use Rattle.locked_node.specs.Journal.{journal_view, JournalStep, Journaled, HasHistory};
+    ghost use Rattle.locked_node.specs.Journal.{CountsWithin, log_calls, log_all};
+    ghost use Rattle.locked_node.specs.Journal.{CALL_LIMIT, TAIL_LIMIT};
     ghost use Rattle.locked_node.specs.Replay.{Replay};
     ghost use Rattle.locked_node.specs.Totals.{IsEmpty};
     ghost use Rattle.locked_node.specs.Lock.{IsTotalOf};
@@ -130,7 +132,7 @@ impl<S: Drop> Journal<S> {
     {
         self.core.incarnation();
         let reply = call.make(&mut self.core);
-        self.log.append(C::record(details, &reply));
+        C::record(details, &reply, &mut self.log);
         reply
     }
 

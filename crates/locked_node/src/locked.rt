@@ -23,7 +23,8 @@ impl<S> Model for Locked<S> {
 impl<S: Drop> Locked<S> {
     ghost use Rattle.std.specs.Prelude.{◌≡◌, ◌<◌, IfOk};
     ghost use Rattle.node_core.specs.View.{IsView};
-    ghost use Rattle.locked_node.specs.Journal.{JournalStep, CountsWithin, log_calls, log_all, CALL_LIMIT};
+    ghost use Rattle.locked_node.specs.Journal.{JournalStep, CountsWithin, log_calls};
+    ghost use Rattle.locked_node.specs.Journal.{log_all, CALL_LIMIT};
     ghost use Rattle.locked_node.specs.Lock.{Somewhere};
 
     /// Makes a call of any step, which hands this in, where one is left. Returns whom it wakes as

@@ -1,6 +1,7 @@
 //! The last calls of a node, and the totals of those before them.
 ghost use Rattle.std.specs.Prelude.{◌≡◌, ◌+◌, ◌<◌, ◌≤◌, [], length, IfOk, MatchBool};
 
+use crate::keeper::Keeper;
 use crate::tally::Tally;
 use node_core::Exchange;
 use std::alloc::{AllocError, Global};
@@ -56,7 +57,7 @@ impl Log {
     ghost use Rattle.node_core.specs.declared.exchange.Exchange.{Exchange};
     ghost use Rattle.std.specs.VecDeque.Iter.{deque_iter_rest, deque_iter_steps};
     ghost use Rattle.std.specs.Iterator.Runs.{YieldsRefsInOrder};
-    ghost use Rattle.locked_node.specs.Journal.{Appends, Trims, log_all, CALL_LIMIT, TAIL_LIMIT};
+    ghost use Rattle.locked_node.specs.Journal.{Trims, log_all, CALL_LIMIT, TAIL_LIMIT};
     ghost use Rattle.locked_node.specs.Totals.{IsEmpty};
     ghost use Rattle.locked_node.specs.Lock.{IsTotalOf};
 
@@ -116,19 +117,6 @@ impl Log {
         self.calls == MOST
     }
 
-    /// Puts a call behind the tail. The oldest one leaves it where it is full.
-    #[inline(never)]
-    pub(crate) fn append(&mut self, call: Exchange)
-        requires { log_all self.old < CALL_LIMIT }
-        ensures { Appends self.old call self.new }
-    {
-        if self.tail.len() == TAIL {
-            self.trim();
-        }
-        self.tail.push_back_reserved(Entry { call });
-        self.calls += 1;
-    }
-
     // Takes the oldest call off the tail, and counts it.
     fn trim(&mut self)
         requires some { 0 < length self.old.tail }
@@ -144,5 +132,23 @@ impl Log {
         ensures { result.now ≡ self.now.trimmed }
     {
         &self.trimmed
+    }
+}
+
+impl Keeper for Log {
+    ghost use Rattle.locked_node.specs.Journal.{Appends, log_all, CALL_LIMIT};
+
+    ghost has_room = { λ log. log_all log < CALL_LIMIT };
+
+    ghost keeps = { Appends };
+
+    // Puts the call behind the tail. The oldest one leaves it where it is full.
+    #[inline(never)]
+    fn keep(&mut self, call: &Exchange) {
+        if self.tail.len() == TAIL {
+            self.trim();
+        }
+        self.tail.push_back_reserved(Entry { call: *call });
+        self.calls += 1;
     }
 }

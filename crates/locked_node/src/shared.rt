@@ -50,14 +50,16 @@ impl<S> Model for Shared<S> {
 
     ghost view = { λ s. s.table.shared.table_id };
 
-    ghost invariant = { λ s. (0 < s.table.shared.table_id.words) × (s.table.shared.table_id.slots ≡ 1) };
+    ghost invariant = { λ s. (0 < s.table.shared.table_id.words)
+        × (s.table.shared.table_id.slots ≡ 1) };
 }
 
 impl<S: Drop> Shared<S> {
     ghost use Rattle.std.specs.Prelude.{◌≤◌, ◌+◌, IfOk, MatchBool, true};
     ghost use Rattle.locked_node.specs.Totals.{all_calls, calls_at};
     ghost use Rattle.locked_node.specs.Journal.{journal_view, log_all, CALL_LIMIT};
-    ghost use Rattle.locked_node.specs.Lock.{Somewhere, IsTotalOf, IsWhole, IsAmong, IsWithin, HANDED, handing, handed, joined};
+    ghost use Rattle.locked_node.specs.Lock.{Somewhere, IsTotalOf, IsWhole, IsAmong, IsWithin};
+    ghost use Rattle.locked_node.specs.Lock.{HANDED, handing, handed, joined};
 
     /// A lock with this journal, and its first caller, which has the journal's totals and may make
     /// all calls that are left. Beside the lock's word its table has a word for each slot of the

@@ -4,6 +4,7 @@ ghost use Rattle.locked_node.specs.CallNumbers.{KINDS};
 ghost use Rattle.locked_node.specs.declared.tally.TheConstants.{START};
 
 use crate::call_kind::{CallKind, KINDS};
+use crate::keeper::Keeper;
 use crate::numbers::{WIDEST, add_call};
 use node_core::Exchange;
 
@@ -45,7 +46,8 @@ pub struct Tally {
 
 impl Tally {
     ghost use Rattle.locked_node.specs.CallNumbers.{index_of};
-    ghost use Rattle.locked_node.specs.Totals.{IsEmpty, Counts, AddsUp, all_calls, calls_at, row_at};
+    ghost use Rattle.locked_node.specs.Totals.{IsEmpty, Counts, AddsUp};
+    ghost use Rattle.locked_node.specs.Totals.{all_calls, calls_at, row_at};
 
     /// No calls.
     pub const fn new() -> Tally
@@ -89,5 +91,18 @@ impl Tally {
         for i in 0..CELLS {
             self.cells[i] = self.cells[i].wrapping_add(other.cells[i]);
         }
+    }
+}
+
+impl Keeper for Tally {
+    ghost use Rattle.locked_node.specs.Totals.{Counts, all_calls};
+
+    ghost has_room = { λ tally. all_calls tally < 2 ^ 127 };
+
+    ghost keeps = { Counts };
+
+    #[inline(always)]
+    fn keep(&mut self, call: &Exchange) {
+        self.count(call);
     }
 }

@@ -67,7 +67,8 @@ serial_after Kind.Short serial = serial
 serial_after Kind.Long serial = serial + 1
 
 -- a client of this database gets the next slot, a key of its kind, and a pass with the next number
-pub record Joins (database secret : ℕ) (kind : Kind) (pass : PassRecord) (old new : NodeView) : Type 0 where
+pub record Joins (database secret : ℕ) (kind : Kind) (pass : PassRecord)
+    (old new : NodeView) : Type 0 where
   pub number : (pass.number ≡ old.next_pass) × (old.next_pass < 2 ^ 64)
   pub incarnation : pass.incarnation ≡ old.links.incarnation
   pub serial : HasSerial kind old.next_serial
@@ -107,7 +108,8 @@ pub record Leaves (pass : PassRecord) (old new : NodeView) : Type 0 where
 -- the pass is its slot's, whose client has a link or a permit, or has none
 abbrev pub IsLeaving : NodeView → PassRecord → Bool → Type 0
 IsLeaving v pass holding = (client : Client)
-    × IsPass v pass client × (pool.is_holding (slice_get v.links.claims (slot_of pass.key)) ≡ holding)
+    × IsPass v pass client
+    × (pool.is_holding (slice_get v.links.claims (slot_of pass.key)) ≡ holding)
 
 -- leaving
 abbrev pub LeaveStep : PassRecord → LeaveReply PassRecord → NodeView → NodeView → Type 0

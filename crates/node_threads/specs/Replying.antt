@@ -80,7 +80,8 @@ WritesReply end text calls = Wrote text calls
 
 -- A reply: frames that are passed on, and its end. `before` is what was read of the link before;
 -- the calls are those that read the rest from the link, and that write it to the client.
-pub record Replies (before : List ℕ) (frames : List Frame) (end : ReplyEnd) (reads tells : List Call)
+pub record Replies (before : List ℕ) (frames : List Frame) (end : ReplyEnd)
+    (reads tells : List Call)
     : Type 0 where
   pub each : AllByRecursion IsPassedOn frames
   pub bytes : List ℕ

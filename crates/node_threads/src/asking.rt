@@ -55,7 +55,8 @@ pub fn next_request<R: Wait, C: WriteCalls + ReadCalls>(
 
 // Cuts a request from what was read of the client.
 fn cut_request(session: &mut Client, cutter: &mut Cutter) -> Found
-    requires { session.old ≡ gathering session.old.leased session.old.database session.old.gathered }
+    requires { session.old
+        ≡ gathering session.old.leased session.old.database session.old.gathered }
     ensures { Finds session.old cutter.old result session.new cutter.new }
 {
     loop {

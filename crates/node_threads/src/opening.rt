@@ -143,7 +143,8 @@ fn read_more<C: WriteCalls + ReadCalls>(
     text: &mut BytesMut,
 ) -> bool
     ensures more { result ≡ true → SomeCalls C.wrote C.gave client.old client.new
-        (λ calls. (bytes : List ℕ) × Read bytes calls × (text.new.items ≡ text.old.items ++ bytes)) }
+        (λ calls. (bytes : List ℕ) × Read bytes calls
+        × (text.new.items ≡ text.old.items ++ bytes)) }
     ensures seen { result ≡ true → opening.new ≡ opening.old }
     ensures over { result ≡ false → SomeCalls C.wrote C.gave client.old client.new
         (Ends opening.old text.old.items) }

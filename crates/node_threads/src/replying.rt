@@ -45,7 +45,8 @@ pub fn pass_reply<R: Wait, C: WriteCalls + ReadCalls, L: WriteCalls + ReadCalls>
         SomeCalls L.wrote L.gave link.old.stream link.new.stream
         (λ reads. SomeCalls C.wrote C.gave client.old client.new
         (λ tells. EndsHere link.old.flow.bytes [] reads tells stayed))) }
-    ensures leaves { IfSome result (λ stayed. LeavesBehind stayed session.old session.new link.new.flow) }
+    ensures leaves { IfSome result
+        (λ stayed. LeavesBehind stayed session.old session.new link.new.flow) }
 {
     let mut place = Place::Between;
     for _ in rt.forever() {
@@ -169,7 +170,8 @@ fn read_on<C: WriteCalls + ReadCalls, L: WriteCalls + ReadCalls>(
         (λ reads. SomeCalls C.wrote C.gave client.old client.new
         (λ tells. (stream written : List ℕ) → HandedOut stream written place link.old.flow
         → EndsHere stream written reads tells stayed))) }
-    ensures leaves { IfSome result (λ stayed. LeavesBehind stayed session.old session.new link.new.flow) }
+    ensures leaves { IfSome result
+        (λ stayed. LeavesBehind stayed session.old session.new link.new.flow) }
 {
     if !pass_on(client, &mut link.flow, place.withheld()) {
         return Some(Stayed::End(Reply::nothing()));
@@ -236,7 +238,8 @@ fn finish<C: WriteCalls + ReadCalls>(
         (λ tells. (stream written : List ℕ)
         → HandedLast stream written (ready_text status) flow.old
         → EndsHere stream written [] tells stayed)) }
-    ensures leaves { IfSome result (λ stayed. LeavesBehind stayed session.old session.new flow.new) }
+    ensures leaves { IfSome result
+        (λ stayed. LeavesBehind stayed session.old session.new flow.new) }
 {
     match session.on_ready(status) {
         Act::Release(_) => Some(finish_idle(client, flow)),

@@ -21,7 +21,8 @@ pub fn restart<R: Wait, S: Drop>(
     boot: &mut Boot,
 ) -> RestartReply
     requires own { caller.old.lock ≡ shared.now }
-    ensures restarts { RestartsAt (boot_after boot.old) boot.old caller.old result boot.new caller.new }
+    ensures restarts { RestartsAt (boot_after boot.old) boot.old caller.old result
+        boot.new caller.new }
     ensures balanced { Balanced caller.old caller.new }
 {
     let Some(next) = boot_behind(*boot) else {

@@ -39,7 +39,8 @@ pub record HasHeader (text : List ℕ) : Type 0 where
 abbrev pub Asks : Bool → Seen → List ℕ → Type 0
 Asks before seen text =
     HasHeader text
-    × (((code_of text ≡ ssl_code) × (seen.ssl ≡ before)) ⊎ ((code_of text ≡ gss_code) × (seen.gss ≡ before)))
+    × (((code_of text ≡ ssl_code) × (seen.ssl ≡ before))
+    ⊎ ((code_of text ≡ gss_code) × (seen.gss ≡ before)))
 
 -- it asks for the first time, or again (own: one of each kind is allowed)
 abbrev pub AsksFirst : Seen → List ℕ → Type 0
@@ -66,7 +67,8 @@ IsKeyLength n = (n ≡ 8) ⊎ (n ≡ 24)
 abbrev pub Decides : Seen → List ℕ → Outcome → Type 0
 Decides seen text (Startup kind user database used) =
     (ps : List Parameter)
-    × Starts kind text ps × (user ≢ []) × (user ≡ user_of ps) × (database ≡ database_of ps) × (used ≡ 8 + length (body_of ps))
+    × Starts kind text ps × (user ≢ []) × (user ≡ user_of ps) × (database ≡ database_of ps)
+    × (used ≡ 8 + length (body_of ps))
 Decides seen text (Cancel key) = IsKeyLength (length key) × Begins text (cancel_request key)
 Decides seen text Ssl = (seen.ssl ≡ false) × Begins text ssl_request
 Decides seen text Gss = (seen.gss ≡ false) × Begins text gss_request
@@ -101,7 +103,8 @@ IsOutcome seen text at_end outcome =
 
 -- what an answer says
 abbrev pub outcome_of : First → Outcome
-outcome_of (first.Startup kind user database used) = Startup kind (string_bytes user) (string_bytes database) used
+outcome_of (first.Startup kind user database used)
+    = Startup kind (string_bytes user) (string_bytes database) used
 outcome_of (first.Cancel key) = Cancel (any_key_bytes key)
 outcome_of first.Ssl = Ssl
 outcome_of first.Gss = Gss
@@ -123,7 +126,8 @@ Tells (Ok answer) outcome = outcome ≡ outcome_of answer
 Tells (Err error) outcome = (outcome ≡ Refused error) ⊎ (IsStartup outcome × (error ≡ Memory))
 
 -- an answer tells the outcome of the text
-pub record Answers (seen : Seen) (text : List ℕ) (at_end : Bool) (answer : Result First StartupError) : Type 0 where
+pub record Answers (seen : Seen) (text : List ℕ) (at_end : Bool)
+    (answer : Result First StartupError) : Type 0 where
   pub outcome : Outcome
   pub is : IsOutcome seen text at_end outcome
   pub told : Tells answer outcome

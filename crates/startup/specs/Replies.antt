@@ -38,7 +38,8 @@ ready_for_query = message 90 (73 ∷ [])
 abbrev pub login : Option AnyKey → List ℕ
 login key =
     authentication_ok ++ parameter_status (codes "server_version") (codes "16")
-    ++ parameter_status (codes "server_encoding") (codes "UTF8") ++ parameter_status (codes "client_encoding") (codes "UTF8")
+    ++ parameter_status (codes "server_encoding") (codes "UTF8")
+    ++ parameter_status (codes "client_encoding") (codes "UTF8")
     ++ backend_key_data key ++ ready_for_query
 
 -- a field of an ErrorResponse: its type byte and its text
@@ -49,7 +50,8 @@ error_field kind text = kind ∷ zero_ended text
 -- code and the message; and the zero byte that ends them
 abbrev pub error_fields : List ℕ → List ℕ → List ℕ → List ℕ
 error_fields severity code text =
-    error_field 83 severity ++ error_field 86 severity ++ error_field 67 code ++ error_field 77 text ++ 0 ∷ []
+    error_field 83 severity ++ error_field 86 severity ++ error_field 67 code ++ error_field 77 text
+    ++ 0 ∷ []
 
 -- ErrorResponse
 abbrev pub error_response : List ℕ → List ℕ → List ℕ → List ℕ

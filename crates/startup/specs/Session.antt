@@ -22,4 +22,5 @@ pub record IsReadOf (session : Session) (names : List (Bor (List ℕ))) (body : 
   pub spelled : body ≡ body_of parameters
   pub named : map (λ name. name.now) names ≡ map (λ p. p.name) parameters
   pub user : AreGivenOnce parameters → session.user.now ≡ given (codes "user") parameters
-  pub database : AreGivenOnce parameters → session.database.now ≡ given (codes "database") parameters
+  pub database : AreGivenOnce parameters
+      → session.database.now ≡ given (codes "database") parameters

@@ -70,7 +70,8 @@ database_of ps = unless_empty (given (codes "database") ps) (user_of ps)
 -- the parameters that a pooler sends to a server
 abbrev pub asked_for : List ℕ → List ℕ → List Parameter
 asked_for user database =
-    record { name = codes "user"; value = user } ∷ record { name = codes "database"; value = database } ∷ []
+    record { name = codes "user"; value = user }
+    ∷ record { name = codes "database"; value = database } ∷ []
 
 -- the StartupMessage that a pooler sends to a server, of protocol 3.0: user, database, nothing else
 abbrev pub startup_request : List ℕ → List ℕ → List ℕ

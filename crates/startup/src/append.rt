@@ -7,7 +7,8 @@ use crate::startup_error::StartupError;
 /// is written, so that the buffer is unchanged if this fails.
 pub fn append(out: &mut Vec<u8>, parts: &[&[u8]]) -> Result<(), StartupError>
     requires { sum_by (λ part. length part.now) parts.now < 2 ^ 32 }
-    ensures ok { OnOk result (out.new.items ≡ out.old.items ++ flat_map (λ part. part.now) parts.now) }
+    ensures ok { OnOk result
+        (out.new.items ≡ out.old.items ++ flat_map (λ part. part.now) parts.now) }
     ensures err { OnErr result (out.new.items ≡ out.old.items) }
     ensures memory { IsOkUnless result StartupError.Memory }
 {

@@ -13,7 +13,8 @@ struct Pooler {
 
 impl TableView for Pooler {
     ghost use Rattle.std.specs.Prelude.{if◌then◌else◌, ◌==◌};
-    ghost use Rattle.cancel_router.specs.declared.table_view.Standing.TheVariants.{Without, Waits, Holds};
+    ghost use Rattle.cancel_router.specs.declared.table_view.Standing.TheVariants.{Without};
+    ghost use Rattle.cancel_router.specs.declared.table_view.Standing.TheVariants.{Waits, Holds};
 
     ghost slots = { λ p. p.keys };
 

@@ -108,7 +108,8 @@ pub record IsUnreported (w : World) (place : ℕ) (connection : Connection) : Ty
 
 -- The end of a request may be reported to whoever forwarded it: it was refused or ended a wait; or
 -- its connection to a server was reported clean; or its own forward connection was.
-pub data IsAnswered (arrivals : List Arrival) (connections : List Connection) (forwards : List Forward) (arrival : ℕ) : Type 0 where
+pub data IsAnswered (arrivals : List Arrival) (connections : List Connection)
+    (forwards : List Forward) (arrival : ℕ) : Type 0 where
   Nowhere : (came : Arrival) → slice_get arrivals arrival ≡ Some came
       → IsNowhere came.order → IsAnswered arrivals connections forwards arrival
   Carried : (place : ℕ) (connection : Connection)
@@ -168,7 +169,8 @@ Admissible w (Event.Deliver flight node) = (flight < length w.flights) × HasNod
 Admissible w (Event.Accept flight node) = MayAccept w flight × HasNode w node
 Admissible w (Event.ForwardEnded flight) = MayEndForward w flight
 Admissible w (Event.ForwardTold flight) =
-    (place : ℕ) × (forward : Forward) × IsForwardOpen w flight place forward × (forward.ended ≡ true)
+    (place : ℕ) × (forward : Forward) × IsForwardOpen w flight place forward
+    × (forward.ended ≡ true)
 Admissible w (Event.ForwardBroken flight) =
     (place : ℕ) × (forward : Forward) × IsForwardOpen w flight place forward
 Admissible w (Event.Act place) = StandsAt w place false false

@@ -86,7 +86,8 @@ IsHolder w node incarnation at (Some label) = Holds w node incarnation at label
 IsHolder w node incarnation at None = (label : ℕ) → Holds w node incarnation at label → ⊥
 
 -- a new cancel connection, for this order
-pub record IsConnection (w : World) (node database : ℕ) (key : List ℕ) (ticket : TicketRecord) (connection : Connection) : Type 0 where
+pub record IsConnection (w : World) (node database : ℕ) (key : List ℕ) (ticket : TicketRecord)
+    (connection : Connection) : Type 0 where
   pub server : Server
   pub place : ℕ
   pub backend : Backend
@@ -191,7 +192,8 @@ Strikes at backend arrival None said old new = (said ≡ Reply.Nothing) × (new 
 Strikes at backend arrival (Some label) said old new =
     (said ≡ Reply.Struck at label)
     × (new ≡ record (with_backend at (rests backend) old) {
-      interrupts = and_then old.interrupts record { backend = at; label = label; arrival = arrival };
+      interrupts = and_then old.interrupts
+          record { backend = at; label = label; arrival = arrival };
     })
 
 pub record Acts (place : ℕ) (said : Reply) (old new : World) : Type 0 where
@@ -225,7 +227,8 @@ failed_as FailedReply.Stale = Reply.Stale
 failed_as FailedReply.Exhausted = Reply.Exhausted
 
 -- the end of a cancel connection is reported to the node whose ticket it has
-pub record Reports (place : ℕ) (how : Report) (made : TicketRecord → Exchange) (old new : World) : Type 0 where
+pub record Reports (place : ℕ) (how : Report) (made : TicketRecord → Exchange)
+    (old new : World) : Type 0 where
   pub connection : Connection
   pub nodes : List NodeView
   pub there : slice_get old.connections place ≡ Some connection

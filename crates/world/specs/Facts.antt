@@ -82,7 +82,8 @@ abbrev pub HasServer : List NodeSettings → ℕ → ℕ → Type 0
 HasServer group node database = (server : Server) × IsServer group node database server
 
 -- each client's database, and each cancel connection's server, is one of its node
-pub record AreServers (group : List NodeSettings) (faces : List Face) (connections : List Connection) : Type 0 where
+pub record AreServers (group : List NodeSettings) (faces : List Face)
+    (connections : List Connection) : Type 0 where
   pub one : OneServer group
   pub clients : (i : ℕ) (face : Face) → slice_get faces i ≡ Some face
       → HasServer group face.node face.database
@@ -103,7 +104,8 @@ pub record AreNodes (group : List NodeSettings) (nodes : List NodeView) : Type 0
 
 -- what a long key has behind its first eight bytes was given: the node had that boot, and in its
 -- present one the serials that are given next are greater
-pub record WasGiven (nodes : List NodeView) (starts : List Start) (node : ℕ) (part : LongPart) : Type 0 where
+pub record WasGiven (nodes : List NodeView) (starts : List Start) (node : ℕ)
+    (part : LongPart) : Type 0 where
   pub boot : HadBoot starts node part.boot
   pub serial : (place : ℕ) (view : NodeView) → IsNode nodes node place view
       → view.boot ≡ part.boot → part.serial < view.next_serial
@@ -118,7 +120,8 @@ pub record IsGiven (nodes : List NodeView) (starts : List Start) (issue : Issue)
       → WasGiven nodes starts issue.node part
 
 -- each key was given once, by the node that it names, and each node had its boot
-pub record AreIssues (nodes : List NodeView) (starts : List Start) (issues : List Issue) : Type 0 where
+pub record AreIssues (nodes : List NodeView) (starts : List Start)
+    (issues : List Issue) : Type 0 where
   pub booted : (i : ℕ) (v : NodeView) → slice_get nodes i ≡ Some v → HadBoot starts v.me v.boot
   pub each : (i : ℕ) (issue : Issue) → slice_get issues i ≡ Some issue
       → IsGiven nodes starts issue
@@ -138,7 +141,8 @@ IsOwnGrip processes lasts face (Grip.Lease lease backend) =
     × (slice_get lasts backend ≡ Some (Some face.label))
 
 -- a client's pass has the key that was given to it, and who is gone has nothing in hand
-pub record IsClientOf (issues : List Issue) (processes : List Process) (lasts : List (Option ℕ)) (face : Face) : Type 0 where
+pub record IsClientOf (issues : List Issue) (processes : List Process) (lasts : List (Option ℕ))
+    (face : Face) : Type 0 where
   pub key : IsKey (short_of face.pass.key)
   pub node : face.node ≡ peer_of face.pass.key
   pub issued : (place : ℕ) × (issue : Issue) × (slice_get issues place ≡ Some issue)
@@ -147,7 +151,8 @@ pub record IsClientOf (issues : List Issue) (processes : List Process) (lasts : 
   pub grip : IsOwnGrip processes lasts face face.grip
 
 -- no two clients have one label, or one pass
-pub record AreClients (issues : List Issue) (processes : List Process) (lasts : List (Option ℕ)) (faces : List Face) : Type 0 where
+pub record AreClients (issues : List Issue) (processes : List Process) (lasts : List (Option ℕ))
+    (faces : List Face) : Type 0 where
   pub each : (i : ℕ) (face : Face) → slice_get faces i ≡ Some face
       → IsClientOf issues processes lasts face
   pub labels : (i j : ℕ) (a b : Face) → slice_get faces i ≡ Some a → slice_get faces j ≡ Some b
@@ -196,7 +201,8 @@ pub record AreProcesses (processes : List Process) : Type 0 where
 
 -- the numbers that each node gives next are greater than all that it gave, and its incarnation is
 -- the greatest that it had
-pub record NumbersLeft (nodes : List NodeView) (faces : List Face) (processes : List Process) (connections : List Connection) : Type 0 where
+pub record NumbersLeft (nodes : List NodeView) (faces : List Face) (processes : List Process)
+    (connections : List Connection) : Type 0 where
   pub passes : (i place : ℕ) (face : Face) (view : NodeView) → slice_get faces i ≡ Some face
       → IsNode nodes face.node place view → face.pass.number < view.next_pass
   pub incarnations : (i place : ℕ) (face : Face) (view : NodeView) → slice_get faces i ≡ Some face
@@ -220,7 +226,8 @@ open_for backend (first ∷ rest) =
     (if is_open_for backend first then 1 else 0) + open_for backend rest
 
 -- the process of a link: it was made for it, at the server of the link's database
-pub record IsProcess (group : List NodeSettings) (processes : List Process) (node : ℕ) (link : Link) (backend : ℕ) : Type 0 where
+pub record IsProcess (group : List NodeSettings) (processes : List Process) (node : ℕ) (link : Link)
+    (backend : ℕ) : Type 0 where
   pub process : Process
   pub there : slice_get processes backend ≡ Some process
   pub of : process.link ≡ Some link.details
@@ -230,7 +237,8 @@ pub record IsProcess (group : List NodeSettings) (processes : List Process) (nod
 -- A link of a node's pool: it has as many open tickets as it has cancel connections that weren't
 -- reported; if one was reported before the server acted on it, then the link is condemned; and who
 -- may have it back is the last that had it.
-pub record LinkStands (faces : List Face) (lasts : List (Option ℕ)) (connections : List Connection) (view : NodeView) (link : Link) (backend : ℕ) : Type 0 where
+pub record LinkStands (faces : List Face) (lasts : List (Option ℕ)) (connections : List Connection)
+    (view : NodeView) (link : Link) (backend : ℕ) : Type 0 where
   pub tickets : link.hold.tickets ≡ open_for backend connections
   pub hasty : (i : ℕ) (connection : Connection) (how : Report)
       → slice_get connections i ≡ Some connection → connection.backend ≡ backend
@@ -240,13 +248,15 @@ pub record LinkStands (faces : List Face) (lasts : List (Option ℕ)) (connectio
       → slice_get lasts backend ≡ Some (Some face.label)
 
 -- each link of a node's pool has its process
-abbrev pub LinksStand : List NodeSettings → List Face → List Process → List (Option ℕ) → List Connection → NodeView → Type 0
+abbrev pub LinksStand : List NodeSettings → List Face → List Process → List (Option ℕ)
+    → List Connection → NodeView → Type 0
 LinksStand group faces processes lasts connections view = (at : LinkPlace) (link : Link)
     → place_at view.links at ≡ Some (Place.Link link)
     → (backend : ℕ) × IsProcess group processes view.me link backend
     × LinkStands faces lasts connections view link backend
 
-abbrev pub AllLinksStand : List NodeSettings → List NodeView → List Face → List Process → List (Option ℕ) → List Connection → Type 0
+abbrev pub AllLinksStand : List NodeSettings → List NodeView → List Face → List Process
+    → List (Option ℕ) → List Connection → Type 0
 AllLinksStand group nodes faces processes lasts connections = (i : ℕ) (view : NodeView)
     → slice_get nodes i ≡ Some view
     → LinksStand group faces processes lasts connections view
@@ -262,7 +272,8 @@ IsServed ticket key (Order.Refused reason) = ⊥
 -- A cancel connection is to the process of its ticket's link. Until the server acts on it, who has
 -- that link, or had it last, is who had it when the request came. It is ended only after the server
 -- acted, and reported clean only after it was ended.
-pub record ConnectionStands (arrivals : List Arrival) (processes : List Process) (lasts : List (Option ℕ)) (connection : Connection) : Type 0 where
+pub record ConnectionStands (arrivals : List Arrival) (processes : List Process)
+    (lasts : List (Option ℕ)) (connection : Connection) : Type 0 where
   pub process : Process
   pub there : slice_get processes connection.backend ≡ Some process
   pub server : process.server ≡ connection.server
@@ -276,7 +287,8 @@ pub record ConnectionStands (arrivals : List Arrival) (processes : List Process)
       × IsServed connection.ticket connection.key came.order
 
 -- no two cancel connections have one ticket, or are for one arrival
-pub record AreConnections (arrivals : List Arrival) (processes : List Process) (lasts : List (Option ℕ)) (connections : List Connection) : Type 0 where
+pub record AreConnections (arrivals : List Arrival) (processes : List Process)
+    (lasts : List (Option ℕ)) (connections : List Connection) : Type 0 where
   pub each : (i : ℕ) (connection : Connection) → slice_get connections i ≡ Some connection
       → ConnectionStands arrivals processes lasts connection
   pub tickets : (i j : ℕ) (a b : Connection) → slice_get connections i ≡ Some a
@@ -312,7 +324,8 @@ AreAtRest backends view = (at : LinkPlace) (link : Link) (i : ℕ) (backend : Ba
     → slice_get backends i ≡ Some backend → backend.link ≡ Some link.details → load_of backend ≡ 0
 
 -- what is on its way on each link: of one client alone, and as much as that has outstanding
-pub record AreLoads (nodes : List NodeView) (sessions : List Session) (backends : List Backend) : Type 0 where
+pub record AreLoads (nodes : List NodeView) (sessions : List Session)
+    (backends : List Backend) : Type 0 where
   pub own : (i : ℕ) (backend : Backend) → slice_get backends i ≡ Some backend → IsOwnLoad backend
   pub outstanding : (i place n : ℕ) (session : Session) (lease : LinkRecord) (backend : Backend)
       → slice_get sessions i ≡ Some session → session.hand ≡ Hand.Lease lease place n
@@ -328,7 +341,8 @@ IsForwarded (Order.Refused reason) = ⊥
 
 -- A forward connection is for an arrival that was forwarded, and leads to a later arrival of its
 -- flight. It is ended without a byte only once that is settled, and reported clean only after that.
-pub record ForwardStands (flights : List (List ℕ)) (arrivals : List Arrival) (connections : List Connection) (forwards : List Forward) (forward : Forward) : Type 0 where
+pub record ForwardStands (flights : List (List ℕ)) (arrivals : List Arrival)
+    (connections : List Connection) (forwards : List Forward) (forward : Forward) : Type 0 where
   pub flight : forward.flight < length flights
   pub origin : (came : Arrival) × (slice_get arrivals forward.origin ≡ Some came)
       × IsForwarded came.order
@@ -340,7 +354,8 @@ pub record ForwardStands (flights : List (List ℕ)) (arrivals : List Arrival) (
   pub clean : forward.report ≡ Some Report.Clean → forward.ended ≡ true
 
 -- no two forward connections have one flight, are for one arrival, or lead to one
-pub record AreForwards (flights : List (List ℕ)) (arrivals : List Arrival) (connections : List Connection) (forwards : List Forward) : Type 0 where
+pub record AreForwards (flights : List (List ℕ)) (arrivals : List Arrival)
+    (connections : List Connection) (forwards : List Forward) : Type 0 where
   pub each : (i : ℕ) (forward : Forward) → slice_get forwards i ≡ Some forward
       → ForwardStands flights arrivals connections forwards forward
   pub one_flight : (i j : ℕ) (a b : Forward) → slice_get forwards i ≡ Some a
@@ -376,7 +391,8 @@ AreWhole nodes = (i : ℕ) (view : NodeView) → slice_get nodes i ≡ Some view
 
 -- no two nodes have one number
 abbrev pub AreApart : List NodeView → Type 0
-AreApart nodes = (i j : ℕ) (a b : NodeView) → slice_get nodes i ≡ Some a → slice_get nodes j ≡ Some b
+AreApart nodes = (i j : ℕ) (a b : NodeView)
+    → slice_get nodes i ≡ Some a → slice_get nodes j ≡ Some b
     → a.me ≡ b.me → i ≡ j
 
 -- what is true of the nodes of every world by themselves

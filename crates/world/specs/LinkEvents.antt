@@ -37,14 +37,16 @@ Joins node label database (Ok pass) said old new =
 Joins node label database (Err refusal) said old new =
     (said ≡ Reply.JoinRefused refusal) × (new ≡ old)
 
-pub record LogsIn (node label database secret : ℕ) (kind : Kind) (said : Reply) (old new : World) : Type 0 where
+pub record LogsIn (node label database secret : ℕ) (kind : Kind) (said : Reply)
+    (old new : World) : Type 0 where
   pub nodes : List NodeView
   pub joined : Result PassRecord JoinRefusal
   pub step : Steps node (Exchange.Join database secret kind joined) old.nodes nodes
   pub after : Joins node label database joined said (with_nodes nodes old) new
 
 -- a session of a client, and a step of its node
-pub record SessionSteps (label : ℕ) (made : Session → Exchange) (old : World) (place : ℕ) (session : Session) (nodes : List NodeView) : Type 0 where
+pub record SessionSteps (label : ℕ) (made : Session → Exchange) (old : World) (place : ℕ)
+    (session : Session) (nodes : List NodeView) : Type 0 where
   pub is : IsSession old.sessions label place session
   pub step : Steps session.node (made session) old.nodes nodes
 
@@ -55,7 +57,8 @@ gets place session lease at backend w =
     (with_backend at (record backend { holder = Some session.label }) w)
 
 -- the server process that was made for the link of a lease
-pub record IsLeased (backends : List Backend) (lease : LinkRecord) (place : ℕ) (backend : Backend) : Type 0 where
+pub record IsLeased (backends : List Backend) (lease : LinkRecord) (place : ℕ)
+    (backend : Backend) : Type 0 where
   pub there : slice_get backends place ≡ Some backend
   pub link : backend.link ≡ Some lease
 
@@ -113,7 +116,8 @@ GoesUp place session server key (UpReply.Exhausted again stream) said old new =
     (said ≡ Reply.Exhausted) × (new ≡ with_new (new_backend server key None None) old)
 GoesUp place session server key (UpReply.Stale stream) said old new =
     (said ≡ Reply.Stale)
-    × (new ≡ with_session place (holding Hand.Empty session) (with_new (new_backend server key None None) old))
+    × (new ≡ with_session place (holding Hand.Empty session)
+    (with_new (new_backend server key None None) old))
 -- a node of a world never runs out of numbers for its steps
 GoesUp place session server key (UpReply.AtEnd stream) said old new = ⊥
 
@@ -149,7 +153,8 @@ pub record Fails (label : ℕ) (said : Reply) (old new : World) : Type 0 where
   pub after : new ≡ with_session place (holding Hand.Empty session) (with_nodes nodes old)
 
 -- the lease that a client has in hand, at its server process
-pub record IsLease (w : World) (label place : ℕ) (session : Session) (lease : LinkRecord) (at outstanding : ℕ) (backend : Backend) : Type 0 where
+pub record IsLease (w : World) (label place : ℕ) (session : Session) (lease : LinkRecord)
+    (at outstanding : ℕ) (backend : Backend) : Type 0 where
   pub is : IsSession w.sessions label place session
   pub hand : session.hand ≡ Hand.Lease lease at outstanding
   pub there : slice_get w.backends at ≡ Some backend

@@ -4,7 +4,8 @@ use Rattle.pg_ids.specs.AnyKey.{IsAnyKey, any_identity_of, peer_of, short_of}
 use Rattle.world.specs.World.{World, Arrival, Connection, Interrupt, Issue, Taken, IsOwner}
 
 -- for the client to whom the arrival's key was given
-pub record IsForOwner (issues : List Issue) (arrivals : List Arrival) (arrival label : ℕ) : Type 0 where
+pub record IsForOwner (issues : List Issue) (arrivals : List Arrival)
+    (arrival label : ℕ) : Type 0 where
   pub came : Arrival
   pub there : slice_get arrivals arrival ≡ Some came
   pub owner : IsOwner issues (any_identity_of came.key) label
@@ -35,7 +36,8 @@ OneKeyOneClient w =
 
 -- a cancel connection to a server is for an arrival at the node that its key names, with hops left;
 -- and who held the link of that server key is the client to whom the request's key was given
-pub record IsEarned (issues : List Issue) (arrivals : List Arrival) (connection : Connection) : Type 0 where
+pub record IsEarned (issues : List Issue) (arrivals : List Arrival)
+    (connection : Connection) : Type 0 where
   pub came : Arrival
   pub there : slice_get arrivals connection.arrival ≡ Some came
   pub hops : 1 ≤ (short_of came.key).hops

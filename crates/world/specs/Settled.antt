@@ -29,7 +29,8 @@ pub record LedTo (forwards : List Forward) (arrival onward : ℕ) : Type 0 where
 
 -- the arrival is settled: it was refused or ended a wait; or its cancel connection was ended by the
 -- server; or it was forwarded, and the arrival on that very forward connection is settled
-pub data Settled (arrivals : List Arrival) (connections : List Connection) (forwards : List Forward) : ℕ → Type 0 where
+pub data Settled (arrivals : List Arrival) (connections : List Connection)
+    (forwards : List Forward) : ℕ → Type 0 where
   Nowhere : (arrival : ℕ) (came : Arrival) → slice_get arrivals arrival ≡ Some came
       → IsNowhere came.order → Settled arrivals connections forwards arrival
   Ended : (arrival : ℕ) → HasEnded connections arrival

@@ -12,7 +12,8 @@ pub record Rows (R : Type 0) : Type 0 where
   pub room : ℕ
 
 -- at this place there is a row with this key
-pub record IsFound {R K : Type 0} (key_of : R → K) (rows : List R) (place : ℕ) (key : K) : Type 0 where
+pub record IsFound {R K : Type 0} (key_of : R → K) (rows : List R) (place : ℕ)
+    (key : K) : Type 0 where
   pub row : R
   pub there : slice_get rows place ≡ Some row
   pub of : key_of row ≡ key

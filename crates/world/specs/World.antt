@@ -83,7 +83,8 @@ pub record IsServer (group : List NodeSettings) (node database : ℕ) (server : 
   pub is : position (is_on_server entry) (all_databases group) ≡ Some server
 
 -- the server process of this server with this key, at this place of the list
-pub record IsBackend (backends : List Backend) (server : Server) (key : List ℕ) (place : ℕ) (backend : Backend) : Type 0 where
+pub record IsBackend (backends : List Backend) (server : Server) (key : List ℕ) (place : ℕ)
+    (backend : Backend) : Type 0 where
   pub there : slice_get backends place ≡ Some backend
   pub of : backend.server ≡ server
   pub by : backend.key ≡ key

@@ -49,7 +49,8 @@ WorldStep event Took.Skipped old new = (Admissible old event → ⊥) × (new �
 -- events one after another, with what each did
 pub data Runs : World → List Event → List Took → World → Type 0 where
   Over : (w : World) → Runs w [] [] w
-  Then : (event : Event) (did : Took) (events : List Event) (more : List Took) (old between new : World)
+  Then : (event : Event) (did : Took) (events : List Event) (more : List Took)
+      (old between new : World)
       → WorldStep event did old between → Runs between events more new
       → Runs old (event ∷ events) (did ∷ more) new
 
@@ -58,7 +59,8 @@ abbrev pub AreFresh : List NodeSettings → List NodeView → Type 0
 AreFresh group nodes = AllZip (λ (settings : NodeSettings). IsFresh settings 0) group nodes
 
 -- a world of a group after these events: the nodes are new, and nothing had happened
-pub record WorldRun (group : List NodeSettings) (events : List Event) (did : List Took) (w : World) : Type 0 where
+pub record WorldRun (group : List NodeSettings) (events : List Event) (did : List Took)
+    (w : World) : Type 0 where
   pub nodes : List NodeView
   pub fresh : AreFresh group nodes
   pub runs : Runs (nothing_yet group nodes) events did w

@@ -70,7 +70,8 @@ impl Hand {
 
     /// The lease, if it is one.
     pub(crate) fn lease(&self) -> Option<InHand>
-        ensures found { IfSome result (λ held. self.now ≡ hand.Lease held.lease held.at held.outstanding) }
+        ensures found { IfSome result
+            (λ held. self.now ≡ hand.Lease held.lease held.at held.outstanding) }
         ensures none { IfNone result ((lease : LinkRecord) (at outstanding : ℕ)
             → self.now ≢ hand.Lease lease at outstanding) }
     {

@@ -174,7 +174,8 @@ impl State {
 
     // The client with this label, if it is there and has nothing in hand.
     fn idle(&self, label: Label) -> Option<Idle>
-        ensures found { IfSome result (λ idle. IsSession self.now.sessions label idle.place idle.session) }
+        ensures found { IfSome result
+            (λ idle. IsSession self.now.sessions label idle.place idle.session) }
         ensures stays { IfSome result (λ idle. idle.session.stays ≡ true) }
         ensures hand { IfSome result (λ idle. idle.session.hand ≡ hand.Empty) }
         ensures none { IfNone result (HasInHand self.now label hand.Empty → ⊥) }
@@ -191,9 +192,11 @@ impl State {
 
     // The client with this label, if it is there and has a permit.
     fn opening(&self, label: Label) -> Option<Opening>
-        ensures found { IfSome result (λ opening. IsSession self.now.sessions label opening.place opening.session) }
+        ensures found { IfSome result
+            (λ opening. IsSession self.now.sessions label opening.place opening.session) }
         ensures stays { IfSome result (λ opening. opening.session.stays ≡ true) }
-        ensures hand { IfSome result (λ opening. opening.session.hand ≡ hand.Permit opening.permit) }
+        ensures hand { IfSome result
+            (λ opening. opening.session.hand ≡ hand.Permit opening.permit) }
         ensures none { IfNone result (HasPermit self.now label → ⊥) }
     {
         let Found {
@@ -213,9 +216,12 @@ impl State {
 
     // The client with this label, if it is there and has a lease.
     fn held(&self, label: Label) -> Option<Held>
-        ensures found { IfSome result (λ held. IsSession self.now.sessions label held.place held.session) }
+        ensures found { IfSome result
+            (λ held. IsSession self.now.sessions label held.place held.session) }
         ensures stays { IfSome result (λ held. held.session.stays ≡ true) }
-        ensures hand { IfSome result (λ held. held.session.hand ≡ hand.Lease held.hand.lease held.hand.at held.hand.outstanding) }
+        ensures hand { IfSome result
+            (λ held. held.session.hand
+            ≡ hand.Lease held.hand.lease held.hand.at held.hand.outstanding) }
         // It has no other.
         ensures only { (lease : LinkRecord) (at outstanding : ℕ)
             → HasInHand self.now label (hand.Lease lease at outstanding)

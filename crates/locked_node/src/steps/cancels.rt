@@ -9,6 +9,7 @@ ghost use Rattle.node_core.specs.declared.exchange.Order.TheVariants as order;
 ghost use Rattle.node_core.specs.declared.refusal.CancelRefusal.TheVariants as cancel;
 
 use crate::call::Call;
+use crate::keeper::Keeper;
 use crate::turn::Woken;
 use node_core::{
     CancelRefusal, DatabaseNo, EndedReply, Exchange, FailedReply, NodeCore, Order, Ticket,
@@ -55,18 +56,21 @@ impl<S: Drop> Call<S> for Cancel {
     }
 
     #[inline(always)]
-    fn record(details: &Self::Details, reply: &Self::Reply) -> Exchange
-        ensures { result ≡ call.Cancel details.now reply.now }
-    {
+    fn record<K: Keeper>(details: &Self::Details, reply: &Self::Reply, keeper: &mut K) {
         match reply {
-            Order::Serve(ticket, database, key) => {
-                Exchange::Cancel(*details, Order::Serve(ticket.details(), *database, *key))
-            }
-            Order::Forward(peer, packet) => {
-                Exchange::Cancel(*details, Order::Forward(*peer, *packet))
-            }
-            Order::Unwait(slot) => Exchange::Cancel(*details, Order::Unwait(*slot)),
-            Order::Refused(refusal) => Exchange::Cancel(*details, Order::Refused(*refusal)),
+            Order::Serve(ticket, database, key) => keeper.keep(&Exchange::Cancel(
+                *details,
+                Order::Serve(ticket.details(), *database, *key),
+            )),
+            Order::Forward(peer, packet) => keeper.keep(&Exchange::Cancel(
+                *details,
+                Order::Forward(*peer, *packet),
+            )),
+            Order::Unwait(slot) => keeper.keep(&Exchange::Cancel(*details, Order::Unwait(*slot))),
+            Order::Refused(refusal) => keeper.keep(&Exchange::Cancel(
+                *details,
+                Order::Refused(*refusal),
+            )),
         }
     }
 
@@ -106,8 +110,8 @@ impl<S: Drop> Call<S> for Ended {
     }
 
     #[inline(always)]
-    fn record(details: &Self::Details, reply: &Self::Reply) -> Exchange {
-        Exchange::Ended(*details, *reply)
+    fn record<K: Keeper>(details: &Self::Details, reply: &Self::Reply, keeper: &mut K) {
+        keeper.keep(&Exchange::Ended(*details, *reply));
     }
 
     fn forfeit(self) -> Self::Reply {
@@ -150,14 +154,22 @@ impl<S: Drop> Call<S> for Failed {
     }
 
     #[inline(always)]
-    fn record(details: &Self::Details, reply: &Self::Reply) -> Exchange {
-        let kept = match reply {
-            FailedReply::Condemned => FailedReply::Condemned,
-            FailedReply::Closed(_) => FailedReply::Closed(()),
-            FailedReply::Stale => FailedReply::Stale,
-            FailedReply::Exhausted => FailedReply::Exhausted,
-        };
-        Exchange::Failed(*details, kept)
+    fn record<K: Keeper>(details: &Self::Details, reply: &Self::Reply, keeper: &mut K) {
+        match reply {
+            FailedReply::Condemned => keeper.keep(&Exchange::Failed(
+                *details,
+                FailedReply::Condemned,
+            )),
+            FailedReply::Closed(_) => keeper.keep(&Exchange::Failed(
+                *details,
+                FailedReply::Closed(()),
+            )),
+            FailedReply::Stale => keeper.keep(&Exchange::Failed(*details, FailedReply::Stale)),
+            FailedReply::Exhausted => keeper.keep(&Exchange::Failed(
+                *details,
+                FailedReply::Exhausted,
+            )),
+        }
     }
 
     fn forfeit(self) -> Self::Reply {

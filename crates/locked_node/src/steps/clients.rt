@@ -8,6 +8,7 @@ ghost use Rattle.node_core.specs.declared.exchange.LeaveReply.TheVariants as lea
 ghost use Rattle.node_core.specs.declared.refusal.JoinRefusal.TheVariants as join;
 
 use crate::call::Call;
+use crate::keeper::Keeper;
 use node_core::{
     AcquireReply, DatabaseNo, Exchange, JoinRefusal, Lease, LeaveReply, NodeCore, Pass, PassRecord,
     Permit,
@@ -56,12 +57,21 @@ impl<S: Drop> Call<S> for Join {
     }
 
     #[inline(always)]
-    fn record(details: &Self::Details, reply: &Self::Reply) -> Exchange {
-        let kept = match reply {
-            Ok(pass) => Ok(pass.details()),
-            Err(refusal) => Err(*refusal),
-        };
-        Exchange::Join(details.0, details.1, details.2, kept)
+    fn record<K: Keeper>(details: &Self::Details, reply: &Self::Reply, keeper: &mut K) {
+        match reply {
+            Ok(pass) => keeper.keep(&Exchange::Join(
+                details.0,
+                details.1,
+                details.2,
+                Ok(pass.details()),
+            )),
+            Err(refusal) => keeper.keep(&Exchange::Join(
+                details.0,
+                details.1,
+                details.2,
+                Err(*refusal),
+            )),
+        }
     }
 
     fn forfeit(self) -> Self::Reply {
@@ -100,14 +110,16 @@ impl<S: Drop> Call<S> for Leave {
     }
 
     #[inline(always)]
-    fn record(details: &Self::Details, reply: &Self::Reply) -> Exchange {
-        let kept = match reply {
-            LeaveReply::Left => LeaveReply::Left,
-            LeaveReply::Holding(pass) => LeaveReply::Holding(pass.details()),
-            LeaveReply::Stale => LeaveReply::Stale,
-            LeaveReply::Exhausted => LeaveReply::Exhausted,
-        };
-        Exchange::Leave(*details, kept)
+    fn record<K: Keeper>(details: &Self::Details, reply: &Self::Reply, keeper: &mut K) {
+        match reply {
+            LeaveReply::Left => keeper.keep(&Exchange::Leave(*details, LeaveReply::Left)),
+            LeaveReply::Holding(pass) => keeper.keep(&Exchange::Leave(
+                *details,
+                LeaveReply::Holding(pass.details()),
+            )),
+            LeaveReply::Stale => keeper.keep(&Exchange::Leave(*details, LeaveReply::Stale)),
+            LeaveReply::Exhausted => keeper.keep(&Exchange::Leave(*details, LeaveReply::Exhausted)),
+        }
     }
 
     fn forfeit(self) -> Self::Reply {
@@ -150,19 +162,37 @@ impl<S: Drop> Call<S> for Acquire<'_> {
     }
 
     #[inline(always)]
-    fn record(details: &Self::Details, reply: &Self::Reply) -> Exchange
-        ensures { result ≡ call.Acquire details.now (acquire_said reply.now) }
+    fn record<K: Keeper>(details: &Self::Details, reply: &Self::Reply, keeper: &mut K)
+        requires { K.has_room keeper.old }
+        ensures { K.keeps keeper.old (call.Acquire details.now (acquire_said reply.now)) keeper.new }
     {
-        let kept = match reply {
-            AcquireReply::Got(lease) => AcquireReply::Got(lease.details()),
-            AcquireReply::Open(permit) => AcquireReply::Open(permit.details()),
-            AcquireReply::Waiting => AcquireReply::Waiting,
-            AcquireReply::Cancelled => AcquireReply::Cancelled,
-            AcquireReply::Holding => AcquireReply::Holding,
-            AcquireReply::Exhausted => AcquireReply::Exhausted,
-            AcquireReply::Stale => AcquireReply::Stale,
-        };
-        Exchange::Acquire(*details, kept)
+        match reply {
+            AcquireReply::Got(lease) => keeper.keep(&Exchange::Acquire(
+                *details,
+                AcquireReply::Got(lease.details()),
+            )),
+            AcquireReply::Open(permit) => keeper.keep(&Exchange::Acquire(
+                *details,
+                AcquireReply::Open(permit.details()),
+            )),
+            AcquireReply::Waiting => keeper.keep(&Exchange::Acquire(
+                *details,
+                AcquireReply::Waiting,
+            )),
+            AcquireReply::Cancelled => keeper.keep(&Exchange::Acquire(
+                *details,
+                AcquireReply::Cancelled,
+            )),
+            AcquireReply::Holding => keeper.keep(&Exchange::Acquire(
+                *details,
+                AcquireReply::Holding,
+            )),
+            AcquireReply::Exhausted => keeper.keep(&Exchange::Acquire(
+                *details,
+                AcquireReply::Exhausted,
+            )),
+            AcquireReply::Stale => keeper.keep(&Exchange::Acquire(*details, AcquireReply::Stale)),
+        }
     }
 
     fn forfeit(self) -> Self::Reply {

@@ -8,6 +8,7 @@ ghost use Rattle.link_pool.specs.declared.replies.CloseReply.TheVariants as clos
 ghost use Rattle.node_core.specs.declared.exchange.Exchange.TheVariants as call;
 
 use crate::call::Call;
+use crate::keeper::Keeper;
 use node_core::{
     CloseReply, DatabaseNo, Exchange, Lease, LinkRecord, NodeCore, Permit, PermitRecord,
     ReleaseReply, UpFailedReply, UpReply,
@@ -47,14 +48,29 @@ impl<S: Drop> Call<S> for Up<S> {
     }
 
     #[inline(always)]
-    fn record(details: &Self::Details, reply: &Self::Reply) -> Exchange {
-        let kept = match reply {
-            UpReply::Up(lease) => UpReply::Up(lease.details()),
-            UpReply::Exhausted(permit, _) => UpReply::Exhausted(permit.details(), ()),
-            UpReply::Stale(_) => UpReply::Stale(()),
-            UpReply::AtEnd(_) => UpReply::AtEnd(()),
-        };
-        Exchange::Up(details.0, details.1, kept)
+    fn record<K: Keeper>(details: &Self::Details, reply: &Self::Reply, keeper: &mut K) {
+        match reply {
+            UpReply::Up(lease) => keeper.keep(&Exchange::Up(
+                details.0,
+                details.1,
+                UpReply::Up(lease.details()),
+            )),
+            UpReply::Exhausted(permit, _) => keeper.keep(&Exchange::Up(
+                details.0,
+                details.1,
+                UpReply::Exhausted(permit.details(), ()),
+            )),
+            UpReply::Stale(_) => keeper.keep(&Exchange::Up(
+                details.0,
+                details.1,
+                UpReply::Stale(()),
+            )),
+            UpReply::AtEnd(_) => keeper.keep(&Exchange::Up(
+                details.0,
+                details.1,
+                UpReply::AtEnd(()),
+            )),
+        }
     }
 
     fn forfeit(self) -> Self::Reply {
@@ -95,8 +111,8 @@ impl<S: Drop> Call<S> for UpFailed {
     }
 
     #[inline(always)]
-    fn record(details: &Self::Details, reply: &Self::Reply) -> Exchange {
-        Exchange::UpFailed(*details, *reply)
+    fn record<K: Keeper>(details: &Self::Details, reply: &Self::Reply, keeper: &mut K) {
+        keeper.keep(&Exchange::UpFailed(*details, *reply));
     }
 
     fn forfeit(self) -> Self::Reply {
@@ -139,15 +155,26 @@ impl<S: Drop> Call<S> for Release<S> {
     }
 
     #[inline(always)]
-    fn record(details: &Self::Details, reply: &Self::Reply) -> Exchange {
-        let kept = match reply {
-            ReleaseReply::Idle => ReleaseReply::Idle,
-            ReleaseReply::Quarantined => ReleaseReply::Quarantined,
-            ReleaseReply::Closed(_) => ReleaseReply::Closed(()),
-            ReleaseReply::Stale(_) => ReleaseReply::Stale(()),
-            ReleaseReply::Exhausted(_) => ReleaseReply::Exhausted(()),
-        };
-        Exchange::Release(*details, kept)
+    fn record<K: Keeper>(details: &Self::Details, reply: &Self::Reply, keeper: &mut K) {
+        match reply {
+            ReleaseReply::Idle => keeper.keep(&Exchange::Release(*details, ReleaseReply::Idle)),
+            ReleaseReply::Quarantined => keeper.keep(&Exchange::Release(
+                *details,
+                ReleaseReply::Quarantined,
+            )),
+            ReleaseReply::Closed(_) => keeper.keep(&Exchange::Release(
+                *details,
+                ReleaseReply::Closed(()),
+            )),
+            ReleaseReply::Stale(_) => keeper.keep(&Exchange::Release(
+                *details,
+                ReleaseReply::Stale(()),
+            )),
+            ReleaseReply::Exhausted(_) => keeper.keep(&Exchange::Release(
+                *details,
+                ReleaseReply::Exhausted(()),
+            )),
+        }
     }
 
     fn forfeit(self) -> Self::Reply {
@@ -189,13 +216,18 @@ impl<S: Drop> Call<S> for Close<S> {
     }
 
     #[inline(always)]
-    fn record(details: &Self::Details, reply: &Self::Reply) -> Exchange {
-        let kept = match reply {
-            CloseReply::Closed(_) => CloseReply::Closed(()),
-            CloseReply::Stale(_) => CloseReply::Stale(()),
-            CloseReply::Exhausted(_) => CloseReply::Exhausted(()),
-        };
-        Exchange::Close(*details, kept)
+    fn record<K: Keeper>(details: &Self::Details, reply: &Self::Reply, keeper: &mut K) {
+        match reply {
+            CloseReply::Closed(_) => keeper.keep(&Exchange::Close(
+                *details,
+                CloseReply::Closed(()),
+            )),
+            CloseReply::Stale(_) => keeper.keep(&Exchange::Close(*details, CloseReply::Stale(()))),
+            CloseReply::Exhausted(_) => keeper.keep(&Exchange::Close(
+                *details,
+                CloseReply::Exhausted(()),
+            )),
+        }
     }
 
     fn forfeit(self) -> Self::Reply {

@@ -4,6 +4,7 @@ ghost use Rattle.link_pool.specs.declared.replies.RestartReply.TheVariants as re
 ghost use Rattle.node_core.specs.declared.exchange.Exchange.TheVariants as call;
 
 use crate::call::Call;
+use crate::keeper::Keeper;
 use crate::turn::Woken;
 use node_core::{DatabaseNo, Exchange, NodeCore, RestartReply};
 use pg_ids::Boot;
@@ -48,8 +49,8 @@ impl<S: Drop> Call<S> for Restart {
     }
 
     #[inline(always)]
-    fn record(details: &Self::Details, reply: &Self::Reply) -> Exchange {
-        Exchange::Restart(*details, *reply)
+    fn record<K: Keeper>(details: &Self::Details, reply: &Self::Reply, keeper: &mut K) {
+        keeper.keep(&Exchange::Restart(*details, *reply));
     }
 
     fn forfeit(self) -> Self::Reply {

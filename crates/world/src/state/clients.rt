@@ -27,8 +27,8 @@ impl State {
         kind: Kind,
     ) -> Result<Took, Memory>
         requires { Facts self.old }
-        ensures step { IfOk result
-            (λ took. WorldStep (event.Login node label database secret kind) took self.old self.new) }
+        ensures step { IfOk result (λ took.
+            WorldStep (event.Login node label database secret kind) took self.old self.new) }
         ensures err { OnErr result (self.new ≡ self.old) }
     {
         if !self.may_log_in(node, label, database, secret, kind) {
@@ -120,7 +120,8 @@ impl State {
 
     /// A node starts anew.
     pub fn restart(&mut self, node: PeerNo, asked: Option<Boot>) -> Result<Took, Memory>
-        ensures step { IfOk result (λ took. WorldStep (event.Restart node asked) took self.old self.new) }
+        ensures step { IfOk result
+            (λ took. WorldStep (event.Restart node asked) took self.old self.new) }
         ensures err { OnErr result (self.new ≡ self.old) }
     {
         let Some(_) = self.nodes.get(node) else {

@@ -17,7 +17,8 @@ use node_core::Order;
 impl State {
     /// Somebody sends bytes.
     pub fn put(&mut self, bytes: &Bytes) -> Result<Took, Memory>
-        ensures step { IfOk result (λ took. WorldStep (event.Put bytes.now) took self.old self.new) }
+        ensures step { IfOk result
+            (λ took. WorldStep (event.Put bytes.now) took self.old self.new) }
         ensures err { OnErr result (self.new ≡ self.old) }
     {
         let flight = FlightNo(self.flights.len() as u64);
@@ -50,7 +51,8 @@ impl State {
     // Whether the end of a request may be reported to whoever forwarded it.
     fn is_answered(&self, arrival: ArrivalNo) -> bool
         requires { Facts self.now }
-        ensures { IsTrue result ↔ IsAnswered self.now.arrivals self.now.connections self.now.forwards arrival }
+        ensures { IsTrue result
+            ↔ IsAnswered self.now.arrivals self.now.connections self.now.forwards arrival }
     {
         let Some(came) = self.arrival(arrival) else {
             return false;

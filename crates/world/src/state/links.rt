@@ -167,7 +167,8 @@ impl State {
 
 // The server key of the link at a place, if there is one.
 fn server_key(place: &Option<Place>) -> Option<ServerKey>
-    ensures { (link : LinkValue) → place.now ≡ Some (PlaceValue.Link link) → result ≡ Some link.key }
+    ensures { (link : LinkValue) → place.now ≡ Some (PlaceValue.Link link)
+        → result ≡ Some link.key }
 {
     match place {
         Some(Place::Link(link)) => Some(link.key),

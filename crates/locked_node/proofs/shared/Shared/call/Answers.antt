@@ -1,5 +1,4 @@
-use Rattle.std.proofs.Common.{[], refl, sym, ap, ◌∙◌, subst, arith}
-use Rattle.node_core.specs.declared.exchange.Exchange.{Exchange}
+use Rattle.std.proofs.Common.{[], refl, sym, subst, arith}
 use Rattle.locked_node.specs.Totals.{Counts}
 use Rattle.locked_node.specs.Lock.{CallerView, Counted}
 use Rattle.locked_node.proofs.Stepping.{makes, caller_keeps, caller_counts}
@@ -9,7 +8,7 @@ pub invariant_of-caller : goal.invariant_of-caller
 invariant_of-caller g c = caller_keeps _ _ _
     (makes _ _ _ _ (g.C.Call.exchange (g.C.Call.handed c.args.call) c.make-reply.result.0) (omega arith) c.take.ensures.own c.make-reply.ensures.own c.give.ensures.own
     c.take.ensures.took.took c.make-reply.ensures.calls c.give.ensures.given refl
-    (subst (λ (e : Exchange). Counts c.caller.inside.tally e c.count.new.self) (c.record.ensures ∙ ap (λ d. g.C.Call.exchange d c.make-reply.result.0) c.details-details.ensures) c.count.ensures))
+    (subst (λ d. Counts c.caller.inside.tally (g.C.Call.exchange d c.make-reply.result.0) c.record.new.keeper) c.details-details.ensures c.record.ensures))
     c.caller.invariant
 
 pub returns-clause-counted : goal.returns-clause-counted
@@ -17,7 +16,7 @@ returns-clause-counted g c = subst (λ (v : CallerView). Counted (g.C.Call.excha
     (caller_counts c.caller.inside (record { seat = c.give.new.seat; allowance = _; tally = _ }) _ _ _ _ c.caller.view_is
     (makes _ _ _ _ (g.C.Call.exchange (g.C.Call.handed c.args.call) c.make-reply.result.0) (omega arith) c.take.ensures.own c.make-reply.ensures.own c.give.ensures.own
     c.take.ensures.took.took c.make-reply.ensures.calls c.give.ensures.given refl
-    (subst (λ (e : Exchange). Counts c.caller.inside.tally e c.count.new.self) (c.record.ensures ∙ ap (λ d. g.C.Call.exchange d c.make-reply.result.0) c.details-details.ensures) c.count.ensures)))
+    (subst (λ d. Counts c.caller.inside.tally (g.C.Call.exchange d c.make-reply.result.0) c.record.new.keeper) c.details-details.ensures c.record.ensures)))
 
 pub returns-then-caller-eq0-clause-streams : goal.returns-then-caller-eq0-clause-streams
 returns-then-caller-eq0-clause-streams g c = ([], [], c.forfeit.ensures.streams [])
