@@ -24,7 +24,7 @@ impl<M: Machine> Serving<M> {
         }
     }
 
-    /// Who calls the node for one more connection, if there is memory for it.
+    /// A caller of the node for one more connection, if one is free or can be made.
     pub fn take<R: Wait>(&self, rt: &R, alloc: Global) -> Option<Box<Calling<TcpStream>>> {
         if let Some(calling) = self.free.lock(rt).pop() {
             return Some(calling);

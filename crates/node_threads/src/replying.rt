@@ -130,8 +130,8 @@ fn after_tail(place: Place) -> Handed
     }
 }
 
-// Writes to the client what was handed out, except the last `withheld` bytes, and forgets what was
-// written. It returns whether the client took it.
+// Writes to the client what was handed out, except the last `withheld` bytes, and forgets it. It
+// returns whether the client took it.
 fn pass_on<C: WriteCalls + ReadCalls>(client: &mut C, flow: &mut Flow, withheld: usize) -> bool
     requires { withheld ≤ length flow.old.passed }
     ensures told { result ≡ true → SomeCalls C.wrote C.gave client.old client.new
