@@ -50,8 +50,8 @@ pub trait Call<S>: Sized {
         Woken::Nobody
     }
 
-    /// Has the call kept with its reply. Each reply is handed over by itself, so that no value is
-    /// built that may be any of them.
+    /// Has a keeper keep the call with its reply. Each kind of reply does so in an arm of its own,
+    /// so that no value is built that could be any of them.
     fn record<K: Keeper>(details: &Self::Details, reply: &Self::Reply, keeper: &mut K)
         requires { K.has_room keeper.old }
         ensures { K.keeps keeper.old (exchange details.now reply.now) keeper.new };

@@ -8,7 +8,7 @@ pub trait Keeper {
     // Holds where one more call can be kept.
     ghost has_room: { Self → Type 0 };
 
-    // What it was, a call, and what it is with that call.
+    // Holds of a keeper, a call, and that keeper with the call.
     ghost keeps: { Self → Exchange → Self → Type 0 };
 
     /// Keeps a call.
