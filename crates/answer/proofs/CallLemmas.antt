@@ -10,7 +10,7 @@ use Rattle.node_core.specs.View.{NodeView}
 use Rattle.node_core.specs.declared.exchange.Exchange.{Exchange}
 use Rattle.node_core.specs.declared.exchange.Exchange.TheVariants.{Join, Cancel}
 use Rattle.node_core.specs.declared.exchange.Order.{Order}
-use Rattle.locked_node.specs.Journal.{JournalView, log_all, CALL_LIMIT}
+use Rattle.locked_node.specs.Journal.{JournalView, CALL_LIMIT}
 use Rattle.locked_node.specs.Lock.{CallerView, CallerStep, IsWhole}
 use Rattle.locked_node.specs.Replay.{Replay}
 use Rattle.locked_node.specs.Totals.{all_calls}
@@ -188,8 +188,8 @@ replay_front (call ∷ some) more first last (next, step, replay) = let front =
     replay_front some more next last replay in (front.0, (next, step, front.1))
 
 module _ (journal : JournalView) (first last : CallerView) (end : JournalView)
-    (started : first.start ≡ journal) (all : first.allowance + log_all journal.log ≡ CALL_LIMIT)
-    (counts : all_calls first.tally ≡ log_all journal.log)
+    (started : first.start ≡ journal) (all : first.allowance + all_calls journal.log.totals ≡ CALL_LIMIT)
+    (counts : all_calls first.tally ≡ all_calls journal.log.totals)
     (nothing : (first.made ≡ []) × (first.places ≡ []))
     (whole : last.allowance + all_calls last.tally ≡ CALL_LIMIT → IsWhole last end) where
   -- a first caller that has all of its lock made calls that led to the journal's view

@@ -2,7 +2,7 @@
 ghost use Rattle.std.specs.Prelude.{◌≡◌, ◌≢◌, ◌+◌, ◌*◌, ◌<◌, ◌≤◌, All, AllPairs, IfErr, IfOk, MatchResult, length, vec_len, vec_capacity, max};
 ghost use Rattle.ini_config.specs.Plain.{plain_settings};
 ghost use Rattle.node_core.specs.View.{IsFresh};
-ghost use Rattle.locked_node.specs.Journal.{log_all};
+ghost use Rattle.locked_node.specs.Totals.{all_calls};
 ghost use Rattle.answer.specs.Decision.{IsDecided, IsNodeFault, IsReplyFault, MayOrder, Orders, Stops};
 
 use crate::coming::all_come;
@@ -63,7 +63,7 @@ fn fresh_journal(
     ensures fresh { IfOk result (λ journal. IsFresh (plain_settings me peers.items places places)
         0 journal.view) }
     ensures database { IfOk result (λ journal. 0 < length journal.view.pools) }
-    ensures calls { IfOk result (λ journal. log_all journal.log ≡ 0) }
+    ensures calls { IfOk result (λ journal. all_calls journal.log.totals ≡ 0) }
     ensures memory { IfErr result (λ fault. fault ≡ Fault.Memory) }
 {
     let settings = Settings::plain(alloc, me, peers, places as u16, places as u32)?;
@@ -81,7 +81,7 @@ fn ordered<R: Wait>(
 ) -> Result<Order<TicketRecord>, Fault>
     requires few { length clients.now ≤ 65535 }
     requires database { 0 < length journal.view.pools }
-    requires calls { log_all journal.log ≡ 0 }
+    requires calls { all_calls journal.log.totals ≡ 0 }
     requires none { (vec_len held.old.passes ≡ 0) × (vec_len held.old.leases ≡ 0) }
     requires passes { length clients.now ≤ vec_capacity held.old.passes }
     requires leases { length clients.now ≤ vec_capacity held.old.leases }

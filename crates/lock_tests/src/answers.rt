@@ -22,33 +22,26 @@ fn request(journal: &mut Journal, count: u32) {
     }
 }
 
-// What 904 requests sum up to, and 5,000.
-const OLDEST: &[(CallAnswer, &[u128])] = &[(
-    CallAnswer::Forwarded,
-    &[1808, 904 * NUMBER, 904 * NUMBER - 904],
-)];
-
+// What 5,000 requests sum up to.
 const ALL: &[(CallAnswer, &[u128])] = &[(
     CallAnswer::Forwarded,
     &[10000, 5000 * NUMBER, 5000 * NUMBER - 5000],
 )];
 
-fn assert_trimmed(rt: &impl Abort, journal: &Journal) {
-    let trimmed = journal.trimmed();
+fn assert_totals(rt: &impl Abort, journal: &Journal) {
     let totals = journal.totals();
-    let calls = (trimmed.calls(forwarded()), totals.calls(forwarded()));
-    assert_eq!(rt; (journal.calls(), calls), (5000, (904, 5000)));
-    assert_short(rt, trimmed, OLDEST);
-    assert_short(rt, &totals, ALL);
+    assert_eq!(rt; (journal.calls(), totals.calls(forwarded())), (5000, 5000));
+    assert_eq!(rt; journal.tail().count(), 4096);
+    assert_short(rt, totals, ALL);
 }
 
-// The tail keeps 4,096 calls, and what leaves it is counted: 5,000 requests for peer 2, each sent
-// on with a key that ends in 6 for one that ends in 7.
+// The tail keeps 4,096 calls, and the totals have also those that left it: 5,000 requests for peer
+// 2, each sent on with a key that ends in 6 for one that ends in 7.
 #[test]
 fn trims(rt: HostRuntime) -> Result<(), Fail> {
     let mut journal = node(rt.alloc(), 1)?;
     request(&mut journal, 5000);
-    assert_trimmed(&rt, &journal);
+    assert_totals(&rt, &journal);
     Ok(())
 }
 
@@ -68,7 +61,7 @@ fn long_requests(rt: HostRuntime) -> Result<(), Fail> {
     let mut journal = node(rt.alloc(), 1)?;
     ordered(journal.call(Cancel(long_key())));
     ordered(journal.call(Cancel(long_key())));
-    assert_long(&rt, &journal.totals(), SENT_ON);
+    assert_long(&rt, journal.totals(), SENT_ON);
     Ok(())
 }
 

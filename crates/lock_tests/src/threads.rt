@@ -208,7 +208,7 @@ fn assert_replies(rt: &impl Abort, caller: &Caller, replies: &Replies) {
 // The journal has eight thousand calls, and this tally of them.
 fn assert_journal(rt: &impl Abort, journal: &Journal, tally: &Tally) {
     assert_eq!(rt; journal.calls(), 8000);
-    assert_eq!(rt; journal.totals(), *tally);
+    assert_eq!(rt; journal.totals(), tally);
 }
 
 #[test]

@@ -1,34 +1,27 @@
 -- The exchange that gives the lock back keeps its rule, where the journal made one call more.
-use Rattle.std.proofs.Common.{◌≡◌, ◌≢◌, ℕ, ◌+◌, ◌-◌, ◌<◌, ◌≤◌, List, [], ◌∷◌, ◌++◌, length, drop, get_or, set, Some, None, All, refl, sym, ap, ◌∙◌, subst, inl, ⊎_elim, arith, length-set, get_or-set_same}
-use Rattle.std.specs.Prelude.{sum_by, if◌then◌else◌}
-use Rattle.std.proofs.lemmas.Bool.{cases_eq, cases_lt}
+use Rattle.std.proofs.Common.{◌≡◌, ◌≢◌, ℕ, ◌+◌, ◌-◌, ◌<◌, List, [], ◌∷◌, ◌++◌, length, drop, get_or, set, Some, None, All, refl, sym, ap, ◌∙◌, subst, inl, ⊎_elim, arith, length-set, get_or-set_same}
+use Rattle.std.specs.Prelude.{sum_by}
+use Rattle.std.proofs.lemmas.Bool.{cases_eq}
 use Rattle.std.proofs.lemmas.Option.{same_Some}
 use Rattle.std.proofs.lemmas.List.{length-append}
 use Rattle.std.proofs.Math.Seq.{drop-append_seam}
-use Rattle.std.proofs.lemmas.List.Sums.{sum_by_push, sum_by-cons}
+use Rattle.std.proofs.lemmas.List.Sums.{sum_by_push}
 use mathlib.Core.Option.{some, some-injective}
 use lib.ListN.{get_elem?}
 use Rattle.atomic_table.specs.Table.{State, Me, Step, gives, stepped, Allows}
 use Rattle.atomic_table.proofs.Lists.{at_set}
 use Rattle.node_core.specs.declared.exchange.Exchange.{Exchange}
 use Rattle.locked_node.specs.declared.rule.Share.{Share}
-use Rattle.locked_node.specs.Totals.{SameSum, is_of, number_at, calls_in, sum_in, calls_at, sum_at, all_calls}
-use Rattle.locked_node.specs.Journal.{JournalView, LogView, JournalStep, Appends, TAIL_LIMIT, log_all, log_calls, log_sum}
+use Rattle.locked_node.specs.Totals.{Counts, number_at, all_calls}
+use Rattle.locked_node.specs.Journal.{JournalView, LogView, JournalStep, Appends}
 use Rattle.locked_node.specs.Lock.{Accounts, IsShare, IsFree, IsTaken, IsLocked, given, giving, last_call, last_place, Placed}
 use Rattle.locked_node.proofs.Sums.{same_plus, same_equal}
 use Rattle.locked_node.proofs.Growing.{step_grows}
 use Rattle.locked_node.proofs.Replays.{replay_more}
-use Rattle.locked_node.proofs.Histories.{calls_push, sum_push}
+use Rattle.locked_node.proofs.Histories.{calls_push, sum_push, tail_is}
 use Rattle.locked_node.proofs.Shares.{sum_change, sum_same, each_set}
 use Rattle.locked_node.proofs.Orders.{placed_longer, placed_push, placed_below}
 use Rattle.locked_node.proofs.Locking.{allowed, began, counted, weighed}
-
--- the totals of a log with one call more
-pub record LogMore (old : LogView) (call : Exchange) (new : LogView) : Type 0 where
-  pub calls : (kind : ℕ) → log_calls new kind ≡ log_calls old kind + (if is_of kind call then 1 else 0)
-  pub sums : (kind position : ℕ) → SameSum (log_sum new kind position) (log_sum old kind position + number_at kind position call)
-  pub all : log_all new ≡ log_all old + 1
-  pub last : last_call new.tail ≡ call ∷ []
 
 -- the last of a list
 last_is : (tail calls : List Exchange) (call : Exchange) → tail ≡ calls ++ call ∷ [] → last_call tail ≡ call ∷ []
@@ -37,67 +30,50 @@ last_is tail calls call e =
     let n : length (calls ++ call ∷ []) - 1 ≡ length calls = omega (arith, long) in
     ap last_call e ∙ (ap (λ (k : ℕ). drop k (calls ++ call ∷ [])) n ∙ drop-append_seam calls (call ∷ []))
 
-pub log_more : (old : LogView) (call : Exchange) (new : LogView) → Appends old call new → LogMore old call new
-log_more old call new a = ⊎_elim
-    (λ (room : length old.tail < TAIL_LIMIT). let e = a.room room in record {
-      calls = λ k. let t = ap (λ t. calls_at t k) e.1 in let s = ap (calls_in k) e.0 ∙ calls_push k old.tail call in omega (arith, t, s);
-      sums = λ k p. let t = ap (λ t. sum_at t k p) e.1 in let s = ap (sum_in k p) e.0 ∙ sum_push k p old.tail call in same_equal _ _ (omega (arith, t, s));
-      all = let t = ap (λ t. all_calls t) e.1 in let s = ap length e.0 ∙ length-append old.tail (call ∷ []) in omega (arith, t, s);
-      last = last_is new.tail old.tail call e.0;
-    })
-    (λ (full : TAIL_LIMIT ≤ length old.tail). let short = a.short in let e = a.full (omega (arith, short, full)) in let left = e.0 in let oldest = e.1.oldest in let counted = e.1.counted in record {
-      calls = λ k. let t = ap (λ t. calls_at t k) e.3 in let s = ap (calls_in k) e.2 ∙ calls_push k left.tail call in
-          let o = ap (calls_in k) e.1.leaves ∙ sum_by-cons (λ (x : Exchange). if is_of k x then 1 else 0) oldest left.tail in
-          let c = counted.calls k in omega (arith, t, s, o, c);
-      sums = λ k p. let t = ap (λ t. sum_at t k p) e.3 in let s = ap (sum_in k p) e.2 ∙ sum_push k p left.tail call in
-          let o = ap (sum_in k p) e.1.leaves ∙ sum_by-cons (number_at k p) oldest left.tail in
-          same_equal _ _ (omega (arith, t, s))
-          ∙ (same_plus (sum_at left.trimmed k p) (sum_at old.trimmed k p + number_at k p oldest) (sum_in k p left.tail + number_at k p call) (counted.sums k p)
-          ∙ same_equal _ _ (omega (arith, o)));
-      all = let t = ap (λ t. all_calls t) e.3 in let s = ap length e.2 ∙ length-append left.tail (call ∷ []) in let o = ap length e.1.leaves in let c = counted.all in omega (arith, t, s, o, c);
-      last = last_is new.tail left.tail call e.2;
-    })
-    (cases_lt (length old.tail) TAIL_LIMIT)
+-- the last call of a log
+pub last_of : (old : LogView) (call : Exchange) (new : LogView) → Appends old call new → last_call new.tail ≡ call ∷ []
+last_of old call new a = last_is new.tail _ call (tail_is old call new a)
 
 -- the last call's place is behind those before
-place_is : (start journal : JournalView) (v : Share) (call : Exchange) (new : JournalView) (calls : List Exchange) → v.start ≡ start → LogMore journal.log call new.log
-    → log_all journal.log ≡ log_all start.log + length calls → last_place v new ≡ length calls
+place_is : (start journal : JournalView) (v : Share) (call : Exchange) (new : JournalView) (calls : List Exchange) → v.start ≡ start → Counts journal.log.totals call new.log.totals
+    → all_calls journal.log.totals ≡ all_calls start.log.totals + length calls → last_place v new ≡ length calls
 place_is start journal v call new calls knows more all =
-    let begun = ap (λ (j : JournalView). log_all j.log) knows in let one = more.all in
+    let begun = ap (λ (j : JournalView). all_calls j.log.totals) knows in let one = more.all in
     omega (arith, begun, one, all)
 
 -- the calls of all callers, with one more
 accounts_more : (start journal : JournalView) (vs : List Share) (id : ℕ) (v : Share) (call : Exchange) (new : JournalView) → get_elem? vs id ≡ some v
-    → v.start ≡ start → JournalStep journal call new → LogMore journal.log call new.log → Accounts start vs journal → Accounts start (set vs id (given v new)) new
-accounts_more start journal vs id v call new at knows step more k = let made : v.made ++ last_call new.log.tail ≡ v.made ++ call ∷ [] = ap (λ l. v.made ++ l) more.last in record {
-  calls = k.calls ++ call ∷ [];
-  replay = replay_more start.view k.calls journal.view call new.view k.replay step.step;
-  same = λ f. let a = sum_by_push f k.calls call in let b = sum_change (weighed f) vs id v (given v new) at in let c = k.same f in
-      let d = ap (sum_by f) made ∙ sum_by_push f v.made call in omega (arith, a, b, c, d);
-  many = let a = length-append k.calls (call ∷ []) in let b = sum_change counted vs id v (given v new) at in let c = k.many in
-      let d = ap length made ∙ length-append v.made (call ∷ []) in omega (arith, a, b, c, d);
-  counts = λ kind. let a = more.calls kind in let b = k.counts kind in let c = calls_push kind k.calls call in omega (arith, a, b, c);
-  sums = λ kind p. more.sums kind p ∙ (same_plus _ _ (number_at kind p call) (k.sums kind p) ∙ same_equal _ _ (let c = sum_push kind p k.calls call in omega (arith, c)));
-  all = let a = more.all in let b = k.all in let c = length-append k.calls (call ∷ []) in omega (arith, a, b, c);
-  fixed = (step_grows journal.view call new.view step.step).fixed ∙ k.fixed;
-  placed = each_set (λ (z : Share). Placed (k.calls ++ call ∷ []) z.places z.made) vs id (given v new)
-      (subst (λ (l : List Exchange). Placed (k.calls ++ call ∷ []) (v.places ++ last_place v new ∷ []) l) (sym made)
-      (placed_push k.calls call v.places v.made (last_place v new) (place_is start journal v call new k.calls knows more k.all) (k.placed id v at)))
-      (λ i u here. placed_longer k.calls call u.places u.made (k.placed i u here));
-}
+    → v.start ≡ start → JournalStep journal call new → Accounts start vs journal → Accounts start (set vs id (given v new)) new
+accounts_more start journal vs id v call new at knows step k = let more = step.appended.counted in
+    let made : v.made ++ last_call new.log.tail ≡ v.made ++ call ∷ [] = ap (λ l. v.made ++ l) (last_of journal.log call new.log step.appended) in record {
+      calls = k.calls ++ call ∷ [];
+      replay = replay_more start.view k.calls journal.view call new.view k.replay step.step;
+      same = λ f. let a = sum_by_push f k.calls call in let b = sum_change (weighed f) vs id v (given v new) at in let c = k.same f in
+          let d = ap (sum_by f) made ∙ sum_by_push f v.made call in omega (arith, a, b, c, d);
+      many = let a = length-append k.calls (call ∷ []) in let b = sum_change counted vs id v (given v new) at in let c = k.many in
+          let d = ap length made ∙ length-append v.made (call ∷ []) in omega (arith, a, b, c, d);
+      counts = λ kind. let a = more.calls kind in let b = k.counts kind in let c = calls_push kind k.calls call in omega (arith, a, b, c);
+      sums = λ kind p. more.sums kind p ∙ (same_plus _ _ (number_at kind p call) (k.sums kind p) ∙ same_equal _ _ (let c = sum_push kind p k.calls call in omega (arith, c)));
+      all = let a = more.all in let b = k.all in let c = length-append k.calls (call ∷ []) in omega (arith, a, b, c);
+      fixed = (step_grows journal.view call new.view step.step).fixed ∙ k.fixed;
+      placed = each_set (λ (z : Share). Placed (k.calls ++ call ∷ []) z.places z.made) vs id (given v new)
+          (subst (λ (l : List Exchange). Placed (k.calls ++ call ∷ []) (v.places ++ last_place v new ∷ []) l) (sym made)
+          (placed_push k.calls call v.places v.made (last_place v new) (place_is start journal v call new k.calls knows more k.all) (k.placed id v at)))
+          (λ i u here. placed_longer k.calls call u.places u.made (k.placed i u here));
+    }
 
 -- the lock is given back
 is_given : (start : JournalView) (s : State JournalView Share) (r : IsLocked start s) (p : IsTaken r.journal s) (id : ℕ) (v : Share) (call : Exchange) (new : JournalView)
     → get_elem? s.views id ≡ some v → id ≡ p.taker → 0 < v.allowance → JournalStep r.journal call new
     → IsLocked start (stepped s 0 0 id ((0, new) ∷ []) (given v new) gives)
 is_given start s r p id v call new at same may step =
-    let more = log_more r.journal.log call new.log step.appended in
+    let more = step.appended.counted in
     let w : Share = given v new in
     let mine = r.each id v at in
-    let made : length (v.made ++ last_call new.log.tail) ≡ length v.made + 1 = ap length (ap (λ l. v.made ++ l) more.last) ∙ length-append v.made (call ∷ []) in record {
+    let made : length (v.made ++ last_call new.log.tail) ≡ length v.made + 1 = ap length (ap (λ l. v.made ++ l) (last_of r.journal.log call new.log step.appended)) ∙ length-append v.made (call ∷ []) in record {
       word = let l = length-set s.words 0 0 in let w = r.word in omega (arith, l, w);
       journal = new;
-      accounts = accounts_more start r.journal s.views id v call new at (mine.knows (omega (arith, may))) step more r.accounts;
+      accounts = accounts_more start r.journal s.views id v call new at (mine.knows (omega (arith, may))) step r.accounts;
       fits = let a = sum_change allowed s.views id v w at in let b = r.fits in let c = more.all in omega (arith, a, b, c);
       one_start = sum_same began s.views id v w at refl ∙ r.one_start;
       each = each_set (IsShare start) s.views id w record { knows = λ _. mine.knows (omega arith); has = λ _. omega (arith, made); alike = mine.alike } r.each;
@@ -124,7 +100,7 @@ lock_gives start slots id me old call new st may found held step =
       is_given start s r p id me.0 call new at e may (subst (λ (j : JournalView). JournalStep j call new) is step),
       (λ j e'. let same : new ≡ j = ap (λ (l : List (ℕ × JournalView)). (get_or l 0 (0, new)).1) e' in
           let here = place_is start r.journal me.0 call new r.accounts.calls ((r.each id me.0 at).knows (omega (arith, may)))
-          (log_more r.journal.log call new.log (subst (λ (k : JournalView). JournalStep k call new) is step).appended) r.accounts.all in (
+          (subst (λ (k : JournalView). JournalStep k call new) is step).appended.counted r.accounts.all in (
             ap (λ (z : JournalView). (given me.0 z, [])) same,
             subst (λ (z : JournalView). All (λ (place : ℕ). place < last_place me.0 z) me.0.places) same
                 (subst (λ (n : ℕ). All (λ (place : ℕ). place < n) me.0.places) (sym here) (placed_below r.accounts.calls me.0.places me.0.made (r.accounts.placed id me.0 at))),

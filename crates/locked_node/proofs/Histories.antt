@@ -1,9 +1,8 @@
 -- A call is appended: what is known of the whole history stays.
-use Rattle.std.proofs.Common.{◌≡◌, ℕ, ◌+◌, ◌<◌, ◌≤◌, List, [], ◌∷◌, ◌++◌, length, refl, sym, ap, ◌∙◌, subst, ⊎_elim, arith}
-use Rattle.std.specs.Prelude.{if◌then◌else◌}
-use Rattle.std.proofs.lemmas.Bool.{cases_lt}
-use Rattle.std.proofs.lemmas.List.Sums.{sum_by_push}
-use Rattle.std.proofs.lemmas.List.{length-append}
+use Rattle.std.proofs.Common.{◌≡◌, ℕ, ◌+◌, ◌-◌, ◌<◌, ◌≤◌, Some, List, [], ◌∷◌, ◌++◌, length, drop, sym, ap, ◌∙◌, subst, arith}
+use Rattle.std.specs.Prelude.{if◌then◌else◌, slice_get}
+use Rattle.std.proofs.lemmas.List.Sums.{sum_by_push, sum_by-append}
+use Rattle.std.proofs.lemmas.List.{length-append, append_assoc, drop-append-le, take-append-drop}
 use Rattle.node_core.specs.View.{NodeView, IsView}
 use Rattle.node_core.specs.declared.exchange.Exchange.{Exchange}
 use Rattle.node_core.specs.NodeStep.{NodeStep}
@@ -12,11 +11,13 @@ use Rattle.locked_node.specs.declared.call_answer.CallAnswer.{CallAnswer}
 use Rattle.locked_node.specs.declared.call_answer.CallAnswer.TheVariants.{Joined, AcquireOpen, WentUp, Served, Restarted}
 use Rattle.locked_node.specs.CallNumbers.{index_of, short, long}
 use Rattle.locked_node.specs.Replay.{Replay}
-use Rattle.locked_node.specs.Totals.{Counts, IsEmpty, number_at, calls_in, sum_in, is_of}
-use Rattle.locked_node.specs.Journal.{JournalView, Appends, Moves, JournalStep, HasHistory, CountsWithin, IsTallyOf, TAIL_LIMIT, log_calls, answers_in}
+use Rattle.locked_node.specs.Totals.{Counts, IsEmpty, number_at, calls_in, sum_in, calls_at, is_of}
+use Rattle.locked_node.specs.Journal.{JournalView, LogView, Puts, Appends, JournalStep, HasHistory, CountsWithin, IsTallyOf, TAIL_LIMIT, leaving, trimmed, answers_in}
+use Rattle.circular_buffer.specs.Buffer.{keep_last, last_item}
+use Rattle.locked_node.proofs.Orders.{get_last}
 use Rattle.locked_node.proofs.Sums.{same_plus, same_equal}
 use Rattle.locked_node.proofs.Growing.{one, step_grows}
-use Rattle.locked_node.proofs.Replays.{replay_more, replay_counts}
+use Rattle.locked_node.proofs.Replays.{replay_both, replay_parts, replay_more, replay_counts}
 
 -- how many calls of a kind, and what sums, with one more call at the end
 pub calls_push : (kind : ℕ) (calls : List Exchange) (call : Exchange) → calls_in kind (calls ++ call ∷ []) ≡ calls_in kind calls + (if is_of kind call then 1 else 0)
@@ -37,67 +38,107 @@ tally_more calls call old new is more = record {
   all = let a = more.all in let b = is.all in omega (arith, a, b, length-append calls (call ∷ []));
 }
 
--- the history of a journal that makes one more call
-pub history_more : (old : JournalView) (call : Exchange) (new : JournalView) → length old.log.tail ≤ TAIL_LIMIT
-    → NodeStep old.view call new.view → Appends old.log call new.log → HasHistory old → HasHistory new
-history_more old call new short step appends h = ⊎_elim
-    (λ (room : length old.log.tail < TAIL_LIMIT). let e = appends.room room in record {
-      past = h.past;
-      first = h.first;
-      base = h.base;
-      before = h.before;
-      after = subst (λ t. Replay h.base t new.view) (sym e.0) (replay_more h.base old.log.tail old.view call new.view h.after step);
-      totals = subst (IsTallyOf h.past) (sym e.1) h.totals;
-    })
-    (λ (full : TAIL_LIMIT ≤ length old.log.tail). let e = appends.full (omega arith) in let left = e.0 in let oldest = e.1.oldest in
-    let after = subst (λ t. Replay h.base t old.view) e.1.leaves h.after in record {
-      past = h.past ++ oldest ∷ [];
-      first = h.first;
-      base = after.0;
-      before = replay_more h.first h.past h.base oldest after.0 h.before after.1;
-      after = subst (λ t. Replay after.0 t new.view) (sym e.2) (replay_more after.0 left.tail old.view call new.view after.2 step);
-      totals = subst (IsTallyOf (h.past ++ oldest ∷ [])) (sym e.3) (tally_more h.past oldest old.log.trimmed left.trimmed h.totals e.1.counted);
-    })
-    (cases_lt (length old.log.tail) TAIL_LIMIT)
+-- a tail with one more call
+tail_with : (tail : List Exchange) (call : Exchange) → length tail ≤ TAIL_LIMIT
+    → keep_last TAIL_LIMIT (tail ++ call ∷ []) ≡ drop (length tail + 1 - TAIL_LIMIT) tail ++ call ∷ []
+tail_with tail call short =
+    ap (λ (n : ℕ). drop (n - TAIL_LIMIT) (tail ++ call ∷ [])) (length-append tail (call ∷ []))
+    ∙ drop-append-le (length tail + 1 - TAIL_LIMIT) tail (call ∷ []) (omega (arith, short))
 
--- a base of the tail stays, or takes the oldest call
-pub base_moves : (old : JournalView) (call : Exchange) (new : JournalView) → length old.log.tail ≤ TAIL_LIMIT
-    → NodeStep old.view call new.view → Appends old.log call new.log → (base : NodeView) → Replay base old.log.tail old.view
-    → (next : NodeView) × Moves base old.log.tail next × Replay next new.log.tail new.view
-base_moves old call new short step appends base replay = ⊎_elim
-    (λ (room : length old.log.tail < TAIL_LIMIT). let e = appends.room room in
-    (base, stays old.log.tail room, subst (λ t. Replay base t new.view) (sym e.0) (replay_more base old.log.tail old.view call new.view replay step)))
-    (λ (full : TAIL_LIMIT ≤ length old.log.tail). let e = appends.full (omega arith) in
-    let after = subst (λ t. Replay base t old.view) e.1.leaves replay in let len = ap length e.1.leaves in (
-      after.0,
-      subst (λ t. Moves base t after.0) (sym e.1.leaves) ((λ room. absurd (omega (arith, len, full))), (λ _. after.1)),
-      subst (λ t. Replay after.0 t new.view) (sym e.2) (replay_more after.0 e.0.tail old.view call new.view after.2 step),
-    ))
-    (cases_lt (length old.log.tail) TAIL_LIMIT)
-  where
-    stays : (tail : List Exchange) → length tail < TAIL_LIMIT → Moves base tail base
-    stays [] room = refl
-    stays (oldest ∷ rest) room = ((λ _. refl), (λ full. absurd (omega arith)))
+pub tail_is : (old : LogView) (call : Exchange) (new : LogView) → Appends old call new
+    → new.tail ≡ drop (length old.tail + 1 - TAIL_LIMIT) old.tail ++ call ∷ []
+tail_is old call new a = a.tail ∙ tail_with old.tail call a.short
+
+-- it has that call last
+last_of_more : (calls : List Exchange) (call : Exchange) → last_item (calls ++ call ∷ []) ≡ Some call
+last_of_more calls call =
+    let long = length-append calls (call ∷ []) in
+    let n : length (calls ++ call ∷ []) - 1 ≡ length calls = omega (arith, long) in
+    ap (λ (k : ℕ). slice_get (calls ++ call ∷ []) k) n ∙ get_last calls call
+
+-- a call that was put in a log is there
+pub put_there : (old : LogView) (call : Exchange) (new : LogView) → Puts old call new → 0 < length new.tail
+put_there old call new puts =
+    let e = ap length (puts.tail ∙ tail_with old.tail call puts.short) in
+    let long = length-append (drop (length old.tail + 1 - TAIL_LIMIT) old.tail) (call ∷ []) in
+    omega (arith, e, long)
+
+-- and is what is counted then
+pub put_last : (old : LogView) (call : Exchange) (new : LogView) → Puts old call new → last_item new.tail ≡ Some call
+put_last old call new puts = ap last_item (puts.tail ∙ tail_with old.tail call puts.short) ∙ last_of_more (drop (length old.tail + 1 - TAIL_LIMIT) old.tail) call
+
+pub put_counted : (old put new : LogView) (call : Exchange) → Puts old call put → new.tail ≡ put.tail → Counts put.totals call new.totals → Appends old call new
+put_counted old put new call puts tail counts = record {
+  short = puts.short;
+  tail = tail ∙ puts.tail;
+  counted = subst (λ (t : Tally). Counts t call new.totals) puts.totals counts;
+}
+
+-- the tail is what leaves it, and what stays
+parts : (tail : List Exchange) → leaving tail ++ drop (length tail + 1 - TAIL_LIMIT) tail ≡ tail
+parts tail = take-append-drop (length tail + 1 - TAIL_LIMIT) tail
+
+-- what leaves the tail leads to a view from which the tail does so with one more call
+base_moves : (old : JournalView) (call : Exchange) (new : JournalView) → NodeStep old.view call new.view → Appends old.log call new.log
+    → (base : NodeView) → Replay base old.log.tail old.view → (next : NodeView) × Replay base (leaving old.log.tail) next × Replay next new.log.tail new.view
+base_moves old call new step appends base replay =
+    let stays = drop (length old.log.tail + 1 - TAIL_LIMIT) old.log.tail in
+    let both = replay_parts base (leaving old.log.tail) stays old.view (subst (λ t. Replay base t old.view) (sym (parts old.log.tail)) replay) in
+    (both.0, both.1, subst (λ t. Replay both.0 t new.view) (sym (tail_is old.log call new.log appends)) (replay_more both.0 stays old.view call new.view both.2 step))
+
+-- the history of a journal that makes one more call
+pub history_more : (old : JournalView) (call : Exchange) (new : JournalView) → NodeStep old.view call new.view → Appends old.log call new.log → HasHistory old → HasHistory new
+history_more old call new step appends h =
+    let tail = old.log.tail in
+    let stays = drop (length tail + 1 - TAIL_LIMIT) tail in
+    let moved = base_moves old call new step appends h.base h.after in
+    let calls : (h.past ++ tail) ++ call ∷ [] ≡ (h.past ++ leaving tail) ++ new.log.tail =
+    ap (λ (t : List Exchange). (h.past ++ t) ++ call ∷ []) (sym (parts tail))
+    ∙ (ap (λ (t : List Exchange). t ++ call ∷ []) (sym (append_assoc h.past (leaving tail) stays))
+    ∙ (append_assoc (h.past ++ leaving tail) stays (call ∷ [])
+    ∙ ap (λ (t : List Exchange). (h.past ++ leaving tail) ++ t) (sym (tail_is old.log call new.log appends)))) in record {
+      past = h.past ++ leaving tail;
+      first = h.first;
+      base = moved.0;
+      before = replay_both h.first h.past h.base (leaving tail) moved.0 h.before moved.1;
+      after = moved.2;
+      totals = subst (λ (cs : List Exchange). IsTallyOf cs new.log.totals) calls (tally_more (h.past ++ tail) call old.log.totals new.log.totals h.totals appends.counted);
+    }
+
+-- the calls of a kind that have left the tail
+trimmed_is : (journal : JournalView) (h : HasHistory journal) (kind : ℕ) → trimmed journal.log kind ≡ calls_in kind h.past
+trimmed_is journal h kind =
+    let all = h.totals.counts kind in
+    let both = sum_by-append (λ (x : Exchange). if is_of kind x then 1 else 0) h.past journal.log.tail in
+    omega (arith, all, both)
 
 -- the step of a journal
-pub journal_step : (old : JournalView) (call : Exchange) (new : JournalView) → length old.log.tail ≤ TAIL_LIMIT → IsView old.view
-    → NodeStep old.view call new.view → Appends old.log call new.log → JournalStep old call new
-journal_step old call new short whole step appends = record { whole = whole; step = step; appended = appends; base = base_moves old call new short step appends }
+pub journal_step : (old : JournalView) (call : Exchange) (new : JournalView) → IsView old.view → NodeStep old.view call new.view → Appends old.log call new.log
+    → HasHistory old → JournalStep old call new
+unfolding history_more
+journal_step old call new whole step appends h = record {
+  whole = whole;
+  step = step;
+  appended = appends;
+  left = λ kind. trimmed_is new (history_more old call new step appends h) kind
+      ∙ (sum_by-append (λ (x : Exchange). if is_of kind x then 1 else 0) h.past (leaving old.log.tail)
+      ∙ ap (λ (n : ℕ). n + calls_in kind (leaving old.log.tail)) (sym (trimmed_is old h kind)));
+  base = base_moves old call new step appends;
+}
 
 -- where each call with an answer raises a number of the node, and no call lowers it, the journal
 -- has at most that number of such calls
 log_counts : (answer : CallAnswer) (number : NodeView → ℕ)
     → ((old : NodeView) (call : Exchange) (new : NodeView) → NodeStep old call new → one answer call + number old ≤ number new)
-    → (journal : JournalView) → HasHistory journal → answers_in (log_calls journal.log) answer ≤ number journal.view
+    → (journal : JournalView) → HasHistory journal → answers_in (calls_at journal.log.totals) answer ≤ number journal.view
 log_counts answer number grows journal h =
-    let before = replay_counts answer number grows h.first h.past h.base h.before in
-    let after = replay_counts answer number grows h.base journal.log.tail journal.view h.after in
+    let all = replay_counts answer number grows h.first (h.past ++ journal.log.tail) journal.view (replay_both h.first h.past h.base journal.log.tail journal.view h.before h.after) in
     let shorts = h.totals.counts (index_of (short answer)) in
     let longs = h.totals.counts (index_of (long answer)) in
-    omega (arith, before, after, shorts, longs)
+    omega (arith, all, shorts, longs)
 
 -- the incarnation and the next numbers are at least the counts of what made them
-pub history_numbers : (journal : JournalView) → HasHistory journal → CountsWithin (log_calls journal.log) journal.view
+pub history_numbers : (journal : JournalView) → HasHistory journal → CountsWithin (calls_at journal.log.totals) journal.view
 history_numbers journal h = record {
   passes = log_counts Joined (λ v. v.next_pass) (λ o c n s. (step_grows o c n s).passes) journal h;
   permits = log_counts AcquireOpen (λ v. v.links.next_permit) (λ o c n s. (step_grows o c n s).permits) journal h;

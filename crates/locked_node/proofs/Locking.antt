@@ -14,8 +14,8 @@ use Rattle.atomic_table.proofs.Lists.{at_set, set_here, set_else, set_again, at_
 use Rattle.node_core.specs.declared.exchange.Exchange.{Exchange}
 use Rattle.locked_node.specs.declared.rule.Share.{Share}
 use Rattle.locked_node.specs.Replay.{fixed_of}
-use Rattle.locked_node.specs.Totals.{is_of, calls_in}
-use Rattle.locked_node.specs.Journal.{JournalView, CALL_LIMIT, log_all, log_calls}
+use Rattle.locked_node.specs.Totals.{is_of, calls_in, calls_at, all_calls}
+use Rattle.locked_node.specs.Journal.{JournalView, CALL_LIMIT}
 use Rattle.locked_node.specs.Lock.{Accounts, IsShare, IsFree, IsTaken, IsLocked, Took, Takes, Holds, HANDED, stake, Placed, first_share, handing, handed, joined, nobody, share_calls, taking, looking, resting, returning}
 use Rattle.locked_node.proofs.Orders.{placed_both}
 use Rattle.locked_node.proofs.Sums.{same_equal}
@@ -55,7 +55,7 @@ pub share_as : (start : JournalView) (v : Share) (found : Option JournalView) �
 share_as start v found is = record { knows = is.knows; has = is.has; alike = is.alike }
 
 -- the lock is made
-pub opens : (start : JournalView) (words : List ℕ) → log_all start.log ≤ CALL_LIMIT → 0 < length words → slice_index words 0 ≡ 0
+pub opens : (start : JournalView) (words : List ℕ) → all_calls start.log.totals ≤ CALL_LIMIT → 0 < length words → slice_index words 0 ≡ 0
     → IsLocked start (opening words (start ∷ []) (first_share start))
 opens start words room long free = record {
   word = long;
@@ -154,10 +154,10 @@ begun_once start s r id v at f =
 
 -- a caller's calls are among the journal's
 pub calls_among : (start : JournalView) (s : State JournalView Share) (r : IsLocked start s) (id : ℕ) (v : Share) → get_elem? s.views id ≡ some v
-    → (kind : ℕ) → share_calls v kind ≤ log_calls r.journal.log kind
+    → (kind : ℕ) → share_calls v kind ≤ calls_at r.journal.log.totals kind
 calls_among start s r id v at kind =
     let is : Exchange → ℕ = λ call. if is_of kind call then 1 else 0 in
-    let begun = begun_once start s r id v at (λ j. log_calls j.log kind) in
+    let begun = begun_once start s r id v at (λ j. calls_at j.log.totals kind) in
     let made : calls_in kind v.made ≤ sum_by (weighed is) s.views = le_sum (weighed is) s.views id v at in
     let same : calls_in kind r.accounts.calls ≡ sum_by (weighed is) s.views = r.accounts.same is in
     let all = r.accounts.counts kind in
@@ -195,8 +195,8 @@ lock_takes start slots id me f st not has s r _ at _ = ⊎_elim
 
 -- and its calls once
 pub begun_within : (start : JournalView) (s : State JournalView Share) (r : IsLocked start s) (id : ℕ) (v : Share) → get_elem? s.views id ≡ some v
-    → sum_by (λ (j : JournalView). log_all j.log) v.begun ≤ log_all start.log
-begun_within start s r id v at = begun_once start s r id v at (λ j. log_all j.log)
+    → sum_by (λ (j : JournalView). all_calls j.log.totals) v.begun ≤ all_calls start.log.totals
+begun_within start s r id v at = begun_once start s r id v at (λ j. all_calls j.log.totals)
 
 -- a look
 pub lock_looks : (start : JournalView) (slots id : ℕ) (me : Me JournalView Share) (st : Step JournalView) → 0 < stake me.0

@@ -11,7 +11,7 @@ get_longer [] call place at e = absurd (let h = slice_get_within [] place at e i
 get_longer (c ∷ cs) call zero at e = e
 get_longer (c ∷ cs) call (suc place) at e = get_longer cs call place at e
 
-get_last : (calls : List Exchange) (call : Exchange) → slice_get (calls ++ call ∷ []) (length calls) ≡ Some call
+pub get_last : (calls : List Exchange) (call : Exchange) → slice_get (calls ++ call ∷ []) (length calls) ≡ Some call
 get_last [] call = refl
 get_last (c ∷ cs) call = get_last cs call
 

@@ -11,11 +11,21 @@ use Rattle.locked_node.specs.CallNumbers.{index_of, short, long}
 use Rattle.locked_node.specs.Totals.{calls_in, is_of}
 use Rattle.locked_node.proofs.Growing.{one, by_kinds}
 
+-- one list of calls after another
+pub replay_both : (first : NodeView) (calls : List Exchange) (mid : NodeView) (more : List Exchange) (last : NodeView)
+    → Replay first calls mid → Replay mid more last → Replay first (calls ++ more) last
+replay_both first [] mid more last replay rest = subst (λ v. Replay v more last) replay rest
+replay_both first (c ∷ cs) mid more last replay rest = (replay.0, replay.1, replay_both replay.0 cs mid more last replay.2 rest)
+
+pub replay_parts : (first : NodeView) (calls more : List Exchange) (last : NodeView) → Replay first (calls ++ more) last
+    → (mid : NodeView) × Replay first calls mid × Replay mid more last
+replay_parts first [] more last replay = (first, refl, replay)
+replay_parts first (c ∷ cs) more last replay = let rest = replay_parts replay.0 cs more last replay.2 in (rest.0, (replay.0, replay.1, rest.1), rest.2)
+
 -- one more call
 pub replay_more : (first : NodeView) (calls : List Exchange) (last : NodeView) (call : Exchange) (next : NodeView)
     → Replay first calls last → NodeStep last call next → Replay first (calls ++ call ∷ []) next
-replay_more first [] last call next replay step = (next, subst (λ v. NodeStep v call next) replay step, refl)
-replay_more first (c ∷ cs) last call next replay step = (replay.0, replay.1, replay_more replay.0 cs last call next replay.2 step)
+replay_more first calls last call next replay step = replay_both first calls last (call ∷ []) next replay (next, step, refl)
 
 -- how many of these calls have the answer, with keys of both kinds
 abbrev pub answers_in : CallAnswer → List Exchange → ℕ

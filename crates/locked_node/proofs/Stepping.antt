@@ -11,12 +11,12 @@ use Rattle.locked_node.specs.declared.caller.Caller.TheInside.{Inside}
 use Rattle.locked_node.specs.Replay.{fixed_of, IsPossible}
 use Rattle.node_core.specs.View.{NodeView}
 use Rattle.locked_node.specs.Totals.{Counts, number_at, calls_at}
-use Rattle.locked_node.specs.Journal.{JournalView, CountsWithin, log_calls}
+use Rattle.locked_node.specs.Journal.{JournalView, CountsWithin}
 use Rattle.locked_node.specs.Lock.{Took, IsCopy, Calls, Given, CallerView, CallerStep, Counted, IsTotalOfShare, given, last_place}
 use Rattle.locked_node.specs.CallerOf.{caller_of, IsCaller}
 use Rattle.locked_node.proofs.Sums.{same_plus, same_equal}
 use Rattle.locked_node.proofs.Histories.{calls_push, sum_push, fewer_counted}
-use Rattle.locked_node.proofs.Giving.{log_more}
+use Rattle.locked_node.proofs.Giving.{last_of}
 
 -- a share with one call more, at this place
 abbrev pub answered : Share → Exchange → ℕ → Share
@@ -26,7 +26,6 @@ answered v call place = record v { allowance = v.allowance - 1; made = v.made ++
 pub share_steps : (before took held after : Me JournalView Share) (call : Exchange) → Took before took → Calls took call held → Given held after
     → (place : ℕ) × (after ≡ (answered before.0 call place, [])) × All (λ (earlier : ℕ). earlier < place) before.0.places
 share_steps before took held after call t c g =
-    let more = log_more c.old.log call c.new.log c.step.appended in
     let view : held.0 ≡ record before.0 { found = Some t.journal } = c.view ∙ t.view in
     let back = g c.new c.slot in (
       last_place before.0 c.new,
@@ -38,7 +37,7 @@ share_steps before took held after call t c g =
           found = None;
         },
         [],
-      )) more.last),
+      )) (last_of c.old.log call c.new.log c.step.appended)),
       subst (λ (v : Share). All (λ (earlier : ℕ). earlier < last_place v c.new) v.places) view back.1,
     )
 
@@ -124,6 +123,6 @@ caller_counts old new call reply at_end before is m = subst (λ (o : CallerView)
 pub copy_counts : {S : Type 0} (c : Inside S) (after : Me JournalView Share) (view : NodeView) → IsCaller c → Took c.seat.me after → IsCopy after view → CountsWithin (calls_at c.tally) view
 copy_counts c after view is took copy =
     let same : took.journal ≡ copy.journal = same_Some took.journal copy.journal (sym (ap (λ (v : Share). v.found) took.view) ∙ copy.found) in
-    fewer_counted (calls_at c.tally) (log_calls copy.journal.log) view
-    (λ kind. let mine = is.totals.calls kind in let among = took.counts kind in let is_same = ap (λ (j : JournalView). log_calls j.log kind) same in omega (arith, mine, among, is_same))
+    fewer_counted (calls_at c.tally) (calls_at copy.journal.log.totals) view
+    (λ kind. let mine = is.totals.calls kind in let among = took.counts kind in let is_same = ap (λ (j : JournalView). calls_at j.log.totals kind) same in omega (arith, mine, among, is_same))
     copy.numbers

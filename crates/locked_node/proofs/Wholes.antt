@@ -12,9 +12,9 @@ use Rattle.node_core.specs.declared.exchange.Exchange.{Exchange}
 use Rattle.locked_node.specs.declared.rule.Share.{Share}
 use Rattle.locked_node.specs.declared.tally.Tally.{Tally}
 use Rattle.locked_node.specs.Replay.{Replay}
-use Rattle.locked_node.specs.Totals.{is_of, number_at, all_calls}
-use Rattle.locked_node.specs.Journal.{JournalView, CALL_LIMIT, log_all, log_calls, log_sum}
-use Rattle.locked_node.specs.Lock.{IsFree, IsTaken, IsLocked, IsTotalOfShare, IsTotalOf, IsWhole, IsAmong, nobody, stake}
+use Rattle.locked_node.specs.Totals.{SameTotals, is_of, number_at, calls_at, sum_at, all_calls}
+use Rattle.locked_node.specs.Journal.{JournalView, CALL_LIMIT}
+use Rattle.locked_node.specs.Lock.{IsFree, IsTaken, IsLocked, IsTotalOfShare, IsWhole, IsAmong, nobody, stake}
 use Rattle.locked_node.proofs.Sums.{same_equal}
 use Rattle.locked_node.proofs.Orders.{rises_all}
 use Rattle.locked_node.proofs.Shares.{sum_change, sum_one, le_sum}
@@ -38,7 +38,7 @@ owned v = v.allowance + length v.made
 pub share_some : (v : Share) (tally : Tally) → IsTotalOfShare v tally → 0 < v.allowance + all_calls tally → 0 < stake v
 share_some v tally is some_is = ⊎_elim
     (λ (h : 0 < length v.begun). omega (arith, h))
-    (λ (h : length v.begun ≤ 0). let z = sum_nothing (λ (j : JournalView). log_all j.log) v.begun (omega (arith, h)) in let a = is.all in omega (arith, z, a, some_is))
+    (λ (h : length v.begun ≤ 0). let z = sum_nothing (λ (j : JournalView). all_calls j.log.totals) v.begun (omega (arith, h)) in let a = is.all in omega (arith, z, a, some_is))
     (cases_lt 0 (length v.begun))
 
 -- the caller of a share has no more than there is
@@ -59,13 +59,13 @@ word_free start s r zero_is = ⊎_elim (λ (p : IsFree r.journal s). p.home) (λ
     first_word (w ∷ ws) e = some-injective w 0 e
 
 module _ (start : JournalView) (s : State JournalView Share) (r : IsLocked start s) (id : ℕ) (v : Share) (at : get_elem? s.views id ≡ some v)
-    (knows : v.start ≡ start) (all : v.allowance + (sum_by (λ (j : JournalView). log_all j.log) v.begun + length v.made) ≡ CALL_LIMIT) where
-  most : (sum_by allowed s.views ≡ v.allowance) × (sum_by counted s.views ≡ length v.made) × (length v.begun * log_all start.log ≡ log_all start.log)
+    (knows : v.start ≡ start) (all : v.allowance + (sum_by (λ (j : JournalView). all_calls j.log.totals) v.begun + length v.made) ≡ CALL_LIMIT) where
+  most : (sum_by allowed s.views ≡ v.allowance) × (sum_by counted s.views ≡ length v.made) × (length v.begun * all_calls start.log.totals ≡ all_calls start.log.totals)
   most =
-      let x : ℕ = log_all start.log in let n : ℕ = length v.begun in
+      let x : ℕ = all_calls start.log.totals in let n : ℕ = length v.begun in
       let a = le_sum allowed s.views id v at in let b = le_sum counted s.views id v at in let c = begun_within start s r id v at in
       let fits = r.fits in let many = r.accounts.many in let total = r.accounts.all in
-      let same : sum_by (λ (j : JournalView). log_all j.log) v.begun ≡ n * x = (r.each id v at).alike (λ j. log_all j.log) in
+      let same : sum_by (λ (j : JournalView). all_calls j.log.totals) v.begun ≡ n * x = (r.each id v at).alike (λ j. all_calls j.log.totals) in
       (omega (arith, a, b, c, fits, many, total, all), omega (arith, a, b, c, fits, many, total, all), omega (arith, a, b, c, fits, many, total, same, all))
 
   owns : sum_by owned s.views ≡ owned v
@@ -78,7 +78,7 @@ module _ (start : JournalView) (s : State JournalView Share) (r : IsLocked start
   -- it has what the journal began with
   begun_once : length v.begun ≡ 1
   begun_once =
-      let x : ℕ = log_all start.log in let n : ℕ = length v.begun in
+      let x : ℕ = all_calls start.log.totals in let n : ℕ = length v.begun in
       let c = le_sum began s.views id v at in let one = r.one_start in let m = most.2 in
       ⊎_elim
       (λ (none_is : x ≡ 0). let e = sum_one owned began s.views id v at (λ i u here z. ⊎_elim
@@ -113,11 +113,11 @@ module _ (start : JournalView) (s : State JournalView Share) (r : IsLocked start
       let all = all_stake in let has = p.has in omega (arith, change, le, all, has)))
       r.place
 
-  pub totals_are : (tally : Tally) → IsTotalOfShare v tally → IsTotalOf r.journal.log tally
+  pub totals_are : (tally : Tally) → IsTotalOfShare v tally → SameTotals tally r.journal.log.totals
   totals_are tally is = record {
-    calls = λ k. let a = is.calls k in let b = begun_is (λ j. log_calls j.log k) in let c = own_calls (λ (x : Exchange). if is_of k x then 1 else 0) in let d = r.accounts.counts k in omega (arith, a, b, c, d);
-    sums = λ k p. is.sums k p ∙ (same_equal _ _ (let b = begun_is (λ j. log_sum j.log k p) in let c = own_calls (number_at k p) in omega (arith, b, c)) ∙ sym (r.accounts.sums k p));
-    all = let a = is.all in let b = begun_is (λ j. log_all j.log) in let c = r.accounts.all in let d = r.accounts.many in let m = most.1 in omega (arith, a, b, c, d, m);
+    calls = λ k. let a = is.calls k in let b = begun_is (λ j. calls_at j.log.totals k) in let c = own_calls (λ (x : Exchange). if is_of k x then 1 else 0) in let d = r.accounts.counts k in omega (arith, a, b, c, d);
+    sums = λ k p. is.sums k p ∙ (same_equal _ _ (let b = begun_is (λ j. sum_at j.log.totals k p) in let c = own_calls (number_at k p) in omega (arith, b, c)) ∙ sym (r.accounts.sums k p));
+    all = let a = is.all in let b = begun_is (λ j. all_calls j.log.totals) in let c = r.accounts.all in let d = r.accounts.many in let m = most.1 in omega (arith, a, b, c, d, m);
   }
 
   pub whole_is : (lock : TableId) (tally : Tally) (journal : JournalView) → IsTotalOfShare v tally → journal ≡ r.journal

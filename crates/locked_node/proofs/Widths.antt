@@ -37,8 +37,7 @@ use Rattle.node_core.specs.declared.exchange.Exchange.TheVariants.{Join, Leave, 
 use Rattle.locked_node.specs.declared.call_kind.TheConstants.{REST, KEYS}
 use Rattle.locked_node.specs.CallNumbers.{answer_of, answer_index, asked_of, index_of, key_index, key_width, key_numbers, key_number, packet_numbers, numbers_of}
 use Rattle.locked_node.specs.CallNumbers as counted
-use Rattle.locked_node.specs.Totals.{ROOMS}
-use Rattle.locked_node.proofs.Cells.{room_is}
+use Rattle.locked_node.proofs.Cells.{ROOMS, room_is}
 
 -- how many numbers a key has
 key_wide : (k : AnyKey) → length (key_numbers k) ≡ key_width (kind_of k)

@@ -1,5 +1,6 @@
 -- The journal of a node's calls (own).
-use Rattle.std.specs.Prelude.{ℕ, ◌≡◌, ◌+◌, ◌^◌, ◌<◌, ◌≤◌, List, Option, [], ◌∷◌, ◌++◌, length}
+use Rattle.std.specs.Prelude.{ℕ, ◌≡◌, ◌+◌, ◌-◌, ◌^◌, ◌<◌, ◌≤◌, List, Option, [], ◌∷◌, ◌++◌, length, take}
+use Rattle.circular_buffer.specs.Buffer.{keep_last}
 use Rattle.node_core.specs.View.{NodeView, IsView}
 use Rattle.node_core.specs.declared.exchange.Exchange.{Exchange}
 use Rattle.node_core.specs.NodeStep.{NodeStep}
@@ -18,10 +19,10 @@ TAIL_LIMIT = 4096
 abbrev pub CALL_LIMIT : ℕ
 CALL_LIMIT = 2 ^ 127
 
--- the last calls, each with the reply that it got, and the totals of the calls before them
+-- the last calls, each with the reply that it got, and the totals of all calls
 pub record LogView : Type 0 where
   pub tail : List Exchange
-  pub trimmed : Tally
+  pub totals : Tally
 
 -- a node's view beside the calls that led to it
 pub record JournalView : Type 0 where
@@ -38,56 +39,46 @@ pub record JournalValue (S : Type 0) : Type 0 where
 abbrev pub journal_view : {S : Type 0} → JournalValue S → JournalView
 journal_view journal = record { view = journal.view; log = journal.log }
 
--- the calls of a kind: those that were trimmed, and those of the tail
-abbrev pub log_calls : LogView → ℕ → ℕ
-log_calls log kind = calls_at log.trimmed kind + calls_in kind log.tail
+-- a call is put behind the tail, which has the last calls; it isn't counted yet
+pub record Puts (old : LogView) (call : Exchange) (new : LogView) : Type 0 where
+  pub short : length old.tail ≤ TAIL_LIMIT
+  pub tail : new.tail ≡ keep_last TAIL_LIMIT (old.tail ++ call ∷ [])
+  pub totals : new.totals ≡ old.totals
 
--- the sum of their numbers at a position, to be read modulo 2^128
-abbrev pub log_sum : LogView → ℕ → ℕ → ℕ
-log_sum log kind position = sum_at log.trimmed kind position + sum_in kind position log.tail
-
--- all calls
-abbrev pub log_all : LogView → ℕ
-log_all log = all_calls log.trimmed + length log.tail
-
--- the oldest call of the tail leaves it and is counted
-pub record Trims (old new : LogView) : Type 0 where
-  pub oldest : Exchange
-  pub leaves : old.tail ≡ oldest ∷ new.tail
-  pub counted : Counts old.trimmed oldest new.trimmed
-
--- the call is put behind the tail; where that is full, its oldest call leaves it first
+-- a call is put behind the tail, which has the last calls, and is counted
 pub record Appends (old : LogView) (call : Exchange) (new : LogView) : Type 0 where
-  pub short : (length old.tail ≤ TAIL_LIMIT) × (length new.tail ≤ TAIL_LIMIT)
-  pub room : length old.tail < TAIL_LIMIT
-      → (new.tail ≡ old.tail ++ call ∷ []) × (new.trimmed ≡ old.trimmed)
-  pub full : length old.tail ≡ TAIL_LIMIT
-      → (left : LogView) × Trims old left
-      × (new.tail ≡ left.tail ++ call ∷ []) × (new.trimmed ≡ left.trimmed)
+  pub short : length old.tail ≤ TAIL_LIMIT
+  pub tail : new.tail ≡ keep_last TAIL_LIMIT (old.tail ++ call ∷ [])
+  pub counted : Counts old.totals call new.totals
 
--- the base of a tail stays, or takes the step of the call that leaves the tail
-abbrev pub Moves : NodeView → List Exchange → NodeView → Type 0
-Moves base [] next = next ≡ base
-Moves base (oldest ∷ rest) next =
-    (length (oldest ∷ rest) < TAIL_LIMIT → next ≡ base)
-    × (length (oldest ∷ rest) ≡ TAIL_LIMIT → NodeStep base oldest next)
+-- the calls that leave a tail as one more comes: its oldest one, where it is full
+abbrev pub leaving : List Exchange → List Exchange
+leaving tail = take (length tail + 1 - TAIL_LIMIT) tail
+
+-- how many calls of a kind have left the tail
+abbrev pub trimmed : LogView → ℕ → ℕ
+trimmed log kind = calls_at log.totals kind - calls_in kind log.tail
 
 -- one step of the node, which is that call with that reply, and that very call in the log
 pub record JournalStep (old : JournalView) (call : Exchange) (new : JournalView) : Type 0 where
   pub whole : IsView old.view
   pub step : NodeStep old.view call new.view
   pub appended : Appends old.log call new.log
-  -- from whatever view the tail led to the node's, it does so after the step, from that view or the
-  -- next
+  -- what left the tail is counted
+  pub left : (kind : ℕ)
+      → trimmed new.log kind ≡ trimmed old.log kind + calls_in kind (leaving old.log.tail)
+  -- from whatever view the tail led to the node's, the calls that left it lead to one from which
+  -- the tail does so after the step
   pub base : (base : NodeView) → Replay base old.log.tail old.view
-      → (next : NodeView) × Moves base old.log.tail next × Replay next new.log.tail new.view
+      → (next : NodeView)
+      × Replay base (leaving old.log.tail) next × Replay next new.log.tail new.view
 
 -- A call of a journal. Below the limit it is one step; at the limit nothing changes, and the reply
 -- is the one that spends what was handed in.
 pub record Journaled {R : Type 0} (call : Exchange) (reply at_end : R) (old new : JournalView)
     : Type 0 where
-  pub step : log_all old.log < CALL_LIMIT → JournalStep old call new
-  pub full : log_all old.log ≡ CALL_LIMIT → (reply ≡ at_end) × (new ≡ old)
+  pub step : all_calls old.log.totals < CALL_LIMIT → JournalStep old call new
+  pub full : all_calls old.log.totals ≡ CALL_LIMIT → (reply ≡ at_end) × (new ≡ old)
 
 -- the totals of a tally are those of these calls
 pub record IsTallyOf (calls : List Exchange) (tally : Tally) : Type 0 where
@@ -95,15 +86,15 @@ pub record IsTallyOf (calls : List Exchange) (tally : Tally) : Type 0 where
   pub sums : (kind position : ℕ) → SameSum (sum_at tally kind position) (sum_in kind position calls)
   pub all : all_calls tally ≡ length calls
 
--- There is a whole history of the node: from some first view the trimmed calls, whose totals are
--- known, led to the base, and from there the tail's calls lead to the view.
+-- There is a whole history of the node: from some first view the calls that have left the tail led
+-- to the base, and from there the tail's calls lead to the view. The totals are those of all calls.
 pub record HasHistory (journal : JournalView) : Type 0 where
   pub past : List Exchange
   pub first : NodeView
   pub base : NodeView
   pub before : Replay first past base
   pub after : Replay base journal.log.tail journal.view
-  pub totals : IsTallyOf past journal.log.trimmed
+  pub totals : IsTallyOf (past ++ journal.log.tail) journal.log.totals
 
 -- how many calls have this answer, with keys of both kinds, by how many calls each kind has
 abbrev pub answers_in : (ℕ → ℕ) → CallAnswer → ℕ

@@ -9,9 +9,9 @@ use Rattle.node_core.specs.declared.exchange.Exchange.{Exchange}
 use Rattle.locked_node.specs.declared.rule.Share.{Share}
 use Rattle.locked_node.specs.declared.tally.Tally.{Tally}
 use Rattle.locked_node.specs.Replay.{Replay, fixed_of, IsPossible}
-use Rattle.locked_node.specs.Totals.{calls_in, sum_in, calls_at, sum_at, all_calls, SameSum, Counts, AddsUp, IsEmpty}
+use Rattle.locked_node.specs.Totals.{calls_in, sum_in, calls_at, sum_at, all_calls, SameSum, SameTotals, Counts, AddsUp, IsEmpty}
 use Rattle.node_core.specs.View.{NodeView, IsView}
-use Rattle.locked_node.specs.Journal.{JournalView, LogView, JournalStep, CountsWithin, CALL_LIMIT, log_calls, log_sum, log_all}
+use Rattle.locked_node.specs.Journal.{JournalView, LogView, JournalStep, CountsWithin, CALL_LIMIT}
 
 -- what a new caller is handed
 abbrev pub HANDED : ℕ
@@ -31,11 +31,11 @@ pub record Accounts (start : JournalView) (shares : List Share) (journal : Journ
   pub same : (f : Exchange → ℕ) → sum_by f calls ≡ sum_by (λ v. sum_by f v.made) shares
   pub many : length calls ≡ sum_by (λ v. length v.made) shares
   pub counts : (kind : ℕ)
-      → log_calls journal.log kind ≡ log_calls start.log kind + calls_in kind calls
+      → calls_at journal.log.totals kind ≡ calls_at start.log.totals kind + calls_in kind calls
   pub sums : (kind position : ℕ)
-      → SameSum (log_sum journal.log kind position)
-      (log_sum start.log kind position + sum_in kind position calls)
-  pub all : log_all journal.log ≡ log_all start.log + length calls
+      → SameSum (sum_at journal.log.totals kind position)
+      (sum_at start.log.totals kind position + sum_in kind position calls)
+  pub all : all_calls journal.log.totals ≡ all_calls start.log.totals + length calls
   pub fixed : fixed_of journal.view ≡ fixed_of start.view
   pub placed : (id : ℕ) (v : Share) → get_elem? shares id ≡ some v → Placed calls v.places v.made
 
@@ -47,7 +47,7 @@ stake v = v.allowance + (length v.begun + length v.made)
 -- something, and it is that journal.
 pub record IsShare (start : JournalView) (v : Share) : Type 0 where
   pub knows : 0 < stake v → v.start ≡ start
-  pub has : 0 < length v.begun → 0 < v.allowance + length v.made + log_all start.log
+  pub has : 0 < length v.begun → 0 < v.allowance + length v.made + all_calls start.log.totals
   pub alike : (f : JournalView → ℕ) → sum_by f v.begun ≡ length v.begun * f start
 
 -- the lock is free: the journal lies in the slot, and no caller has found it
@@ -73,7 +73,7 @@ pub record IsLocked (start : JournalView) (s : State JournalView Share) : Type 0
   pub journal : JournalView
   pub accounts : Accounts start s.views journal
   -- allowances and counts make 2^127
-  pub fits : sum_by (λ v. v.allowance) s.views + log_all journal.log ≡ CALL_LIMIT
+  pub fits : sum_by (λ v. v.allowance) s.views + all_calls journal.log.totals ≡ CALL_LIMIT
   pub one_start : sum_by (λ v. length v.begun) s.views ≡ 1
   pub each : (id : ℕ) (v : Share) → get_elem? s.views id ≡ some v → IsShare start v
   pub place : IsFree journal s ⊎ IsTaken journal s
@@ -81,7 +81,7 @@ pub record IsLocked (start : JournalView) (s : State JournalView Share) : Type 0
 -- the first caller has what the journal began with
 abbrev pub first_share : JournalView → Share
 first_share start = record {
-  allowance = CALL_LIMIT - log_all start.log;
+  allowance = CALL_LIMIT - all_calls start.log.totals;
   begun = start ∷ [];
   made = [];
   places = [];
@@ -135,7 +135,7 @@ no_journal = record {
       next_ticket = 0;
     };
   };
-  log = record { tail = []; trimmed = record { cells = [] } };
+  log = record { tail = []; totals = record { cells = [] } };
 }
 
 -- what is left of a caller that was joined to another
@@ -155,7 +155,7 @@ last_call tail = drop (length tail - 1) tail
 
 -- the place of the journal's last call in the history since the lock began
 abbrev pub last_place : Share → JournalView → ℕ
-last_place v journal = log_all journal.log - (log_all v.start.log + 1)
+last_place v journal = all_calls journal.log.totals - (all_calls v.start.log.totals + 1)
 
 -- a caller that gives the lock back has made the journal's last call
 abbrev pub given : Share → JournalView → Share
@@ -168,17 +168,17 @@ given v journal = record v {
 
 -- how many calls of a kind a share has
 abbrev pub share_calls : Share → ℕ → ℕ
-share_calls v kind = sum_by (λ j. log_calls j.log kind) v.begun + calls_in kind v.made
+share_calls v kind = sum_by (λ j. calls_at j.log.totals kind) v.begun + calls_in kind v.made
 
 -- a caller took the lock and found this journal
 pub record Took (before after : Me JournalView Share) : Type 0 where
   pub journal : JournalView
   pub view : after.0 ≡ record before.0 { found = Some journal }
   pub slot : after.1 ≡ (0, journal) ∷ before.1
-  pub room : before.0.allowance + log_all journal.log ≤ CALL_LIMIT
+  pub room : before.0.allowance + all_calls journal.log.totals ≤ CALL_LIMIT
   pub fixed : fixed_of journal.view ≡ fixed_of before.0.start.view
   -- the caller's calls are among the journal's
-  pub counts : (kind : ℕ) → share_calls before.0 kind ≤ log_calls journal.log kind
+  pub counts : (kind : ℕ) → share_calls before.0 kind ≤ calls_at journal.log.totals kind
 
 -- a seat that may make a call holds the journal that it found, which takes one more
 pub record Holds (me : Me JournalView Share) : Type 0 where
@@ -186,7 +186,7 @@ pub record Holds (me : Me JournalView Share) : Type 0 where
   pub found : me.0.found ≡ Some journal
   pub slot : me.1 ≡ (0, journal) ∷ []
   pub may : 0 < me.0.allowance
-  pub room : log_all journal.log < CALL_LIMIT
+  pub room : all_calls journal.log.totals < CALL_LIMIT
   pub fixed : fixed_of journal.view ≡ fixed_of me.0.start.view
 
 -- the seat holds the journal that it found
@@ -201,7 +201,7 @@ pub record IsCopy (me : Me JournalView Share) (view : NodeView) : Type 0 where
   pub found : me.0.found ≡ Some journal
   pub same : view ≡ journal.view
   pub whole : IsView view
-  pub numbers : CountsWithin (log_calls journal.log) view
+  pub numbers : CountsWithin (calls_at journal.log.totals) view
 
 -- a caller took the lock; if it may make a call, then it holds a journal that takes one
 pub record Takes (before after : Me JournalView Share) : Type 0 where
@@ -249,7 +249,7 @@ giving st before found after = Given before after
 
 -- what a caller has is within the limit
 abbrev pub IsWithin : Share → Type 0
-IsWithin v = v.allowance + (sum_by (λ j. log_all j.log) v.begun + length v.made) ≤ CALL_LIMIT
+IsWithin v = v.allowance + (sum_by (λ j. all_calls j.log.totals) v.begun + length v.made) ≤ CALL_LIMIT
 
 -- the seat holds nothing any more, and made no call
 abbrev pub Returned : Me JournalView Share → Me JournalView Share → Type 0
@@ -321,26 +321,20 @@ pub record JoinsUp (old other new : CallerView) : Type 0 where
   pub places : new.places ≡ old.places ++ other.places
   pub tally : AddsUp old.tally other.tally new.tally
 
--- the totals of a tally are those of a log, kind by kind
-pub record IsTotalOf (log : LogView) (tally : Tally) : Type 0 where
-  pub calls : (kind : ℕ) → calls_at tally kind ≡ log_calls log kind
-  pub sums : (kind position : ℕ) → SameSum (sum_at tally kind position) (log_sum log kind position)
-  pub all : all_calls tally ≡ log_all log
-
 -- a caller's totals are those of its share
 pub record IsTotalOfShare (v : Share) (tally : Tally) : Type 0 where
   pub calls : (kind : ℕ)
-      → calls_at tally kind ≡ sum_by (λ j. log_calls j.log kind) v.begun + calls_in kind v.made
+      → calls_at tally kind ≡ sum_by (λ j. calls_at j.log.totals kind) v.begun + calls_in kind v.made
   pub sums : (kind position : ℕ)
       → SameSum (sum_at tally kind position)
-      (sum_by (λ j. log_sum j.log kind position) v.begun + sum_in kind position v.made)
-  pub all : all_calls tally ≡ sum_by (λ j. log_all j.log) v.begun + length v.made
+      (sum_by (λ j. sum_at j.log.totals kind position) v.begun + sum_in kind position v.made)
+  pub all : all_calls tally ≡ sum_by (λ j. all_calls j.log.totals) v.begun + length v.made
 
 -- The caller to whom everything came back: its totals are the journal's, and the calls that it and
 -- those who were joined to it made led, in the order of their places, from the node as it was to
 -- the journal's view. A caller whose places rise made them in the order in which it has them.
 pub record IsWhole (caller : CallerView) (journal : JournalView) : Type 0 where
-  pub totals : IsTotalOf journal.log caller.tally
+  pub totals : SameTotals caller.tally journal.log.totals
   pub calls : List Exchange
   pub replay : Replay caller.start.view calls journal.view
   pub same : (f : Exchange → ℕ) → sum_by f calls ≡ sum_by f caller.made
@@ -349,5 +343,5 @@ pub record IsWhole (caller : CallerView) (journal : JournalView) : Type 0 where
 
 -- a caller's calls are among those of a log, and its allowance is among what is left
 pub record IsAmong (caller : CallerView) (log : LogView) : Type 0 where
-  pub least : all_calls caller.tally ≤ log_all log
-  pub most : log_all log + caller.allowance ≤ CALL_LIMIT
+  pub least : all_calls caller.tally ≤ all_calls log.totals
+  pub most : all_calls log.totals + caller.allowance ≤ CALL_LIMIT

@@ -1,10 +1,10 @@
 -- Calls counted by their kind, with the sums of their numbers (own).
-use Rattle.std.specs.Prelude.{ℕ, ◌≡◌, ◌+◌, ◌*◌, ◌%◌, ◌^◌, ◌==◌, Bool, List, [], ◌∷◌, take, drop, slice_index, slice_index_or, slice_set, if◌then◌else◌, count_by, sum_by}
-use Rattle.pg_ids.specs.declared.any_key.Kind.TheVariants.{Long}
+use Rattle.std.specs.Prelude.{ℕ, ◌≡◌, ◌+◌, ◌%◌, ◌^◌, ◌==◌, Bool, List, [], ◌∷◌, slice_index, slice_range, slice_index_or, if◌then◌else◌, count_by, sum_by}
 use Rattle.node_core.specs.declared.exchange.Exchange.{Exchange}
-use Rattle.locked_node.specs.CallNumbers.{kind_of, index_of, key_width, numbers_of}
-use Rattle.locked_node.specs.declared.call_kind.TheConstants.{REST, KEYS}
+use Rattle.locked_node.specs.CallNumbers.{kind_of, index_of, numbers_of}
+use Rattle.locked_node.specs.declared.tally.TheConstants.{START}
 use Rattle.locked_node.specs.declared.tally.Tally.{Tally}
+use Rattle.locked_node.specs.declared.call_count.CallCount.{CallCount}
 
 -- whether a call is of the kind at this place
 abbrev pub is_of : ℕ → Exchange → Bool
@@ -27,28 +27,18 @@ pub record Row : Type 0 where
   pub calls : ℕ
   pub sums : List ℕ
 
--- How many sums there are of each kind: as many as a call with its answer has numbers at most. For
--- each answer the first list says how many it has besides its keys', and the second how many keys.
-abbrev pub rooms : List ℕ → List ℕ → List ℕ
-rooms [] keys = []
-rooms (rest ∷ rests) [] = []
-rooms (rest ∷ rests) (keys ∷ others) =
-    (rest + keys * key_width Long) ∷ (rest + keys * key_width Long) ∷ rooms rests others
-
--- the same of the answers of this crate
-unfoldable pub ROOMS : List ℕ
-ROOMS = rooms REST KEYS
-
--- the rows that lie in these cells one after the other, each a count and then its sums
+-- The rows in these cells that begin at these places, each a count and then its sums. At the last
+-- place they end.
 abbrev pub rows_in : List ℕ → List ℕ → List Row
 rows_in [] cells = []
-rows_in (room ∷ rooms) [] = record { calls = 0; sums = [] } ∷ rows_in rooms []
-rows_in (room ∷ rooms) (calls ∷ cells) =
-    record { calls = calls; sums = take room cells } ∷ rows_in rooms (drop room cells)
+rows_in (from ∷ []) cells = []
+rows_in (from ∷ to ∷ places) cells =
+    record { calls = slice_index cells from; sums = slice_range cells (from + 1) to }
+    ∷ rows_in (to ∷ places) cells
 
 -- what a tally says of each kind
 unfoldable pub rows : Tally → List Row
-rows tally = rows_in ROOMS tally.cells
+rows tally = rows_in START tally.cells
 
 -- what a tally says of a kind
 abbrev pub row_at : Tally → ℕ → Row
@@ -70,28 +60,22 @@ all_calls tally = sum_by (λ row. row.calls) (rows tally)
 abbrev pub SameSum : ℕ → ℕ → Type 0
 SameSum a b = a % 2 ^ 128 ≡ b % 2 ^ 128
 
--- at each position the number of a list is added
-abbrev pub SumsUp : List ℕ → List ℕ → List ℕ → Type 0
-SumsUp old numbers new =
-    (position : ℕ)
-    → SameSum (slice_index new position) (slice_index old position + slice_index numbers position)
-
--- sums with one more number in the one at a position
-unfoldable pub with_number : List ℕ → ℕ → ℕ → List ℕ
-with_number sums position number =
-    slice_set sums position ((slice_index sums position + number) % 2 ^ 128)
-
--- and with more numbers, from a position on
-abbrev pub with_numbers : List ℕ → ℕ → List ℕ → List ℕ
-with_numbers sums position [] = sums
-with_numbers sums position (number ∷ numbers) =
-    with_numbers (with_number sums position number) (position + 1) numbers
+-- this is counted of a call
+pub record IsCountOf (call : Exchange) (count : CallCount) : Type 0 where
+  pub kind : count.kind ≡ index_of (kind_of call)
+  pub numbers : count.numbers.items ≡ numbers_of call
 
 -- a tally of no call
 pub record IsEmpty (tally : Tally) : Type 0 where
   pub calls : (kind : ℕ) → calls_at tally kind ≡ 0
   pub sums : (kind position : ℕ) → sum_at tally kind position ≡ 0
   pub all : all_calls tally ≡ 0
+
+-- two tallies say the same of each kind
+pub record SameTotals (one other : Tally) : Type 0 where
+  pub calls : (kind : ℕ) → calls_at one kind ≡ calls_at other kind
+  pub sums : (kind position : ℕ) → SameSum (sum_at one kind position) (sum_at other kind position)
+  pub all : all_calls one ≡ all_calls other
 
 -- one more call is counted, and its numbers are added
 pub record Counts (old : Tally) (call : Exchange) (new : Tally) : Type 0 where

@@ -1,9 +1,13 @@
 //! What a call of a node is, whichever step it makes.
-ghost use Rattle.std.specs.Prelude.{◌≡◌, ℕ, List, Option, ⊤};
+ghost use Rattle.std.specs.Prelude.{◌≡◌, ℕ, [], List, Option, ⊤};
 ghost use Rattle.node_core.specs.declared.exchange.Exchange.{Exchange};
 ghost use Rattle.node_core.specs.NodeStep.{IsStep};
+ghost use Rattle.locked_node.specs.CallNumbers.{kind_of, numbers_of};
+ghost use Rattle.locked_node.specs.Journal.{Puts};
 
-use crate::keeper::Keeper;
+use crate::call_kind::CallKind;
+use crate::log::Log;
+use crate::numbers::Numbers;
 use crate::turn::Woken;
 use node_core::{DatabaseNo, NodeCore};
 
@@ -50,11 +54,19 @@ pub trait Call<S>: Sized {
         Woken::Nobody
     }
 
-    /// Has a keeper keep the call with its reply. Each kind of reply does so in an arm of its own,
-    /// so that no value is built that could be any of them.
-    fn record<K: Keeper>(details: &Self::Details, reply: &Self::Reply, keeper: &mut K)
-        requires { K.has_room keeper.old }
-        ensures { K.keeps keeper.old (exchange details.now reply.now) keeper.new };
+    /// The kind of the call, with its reply.
+    fn kind(details: &Self::Details, reply: &Self::Reply) -> CallKind
+        ensures { result ≡ kind_of (exchange details.now reply.now) };
+
+    /// The numbers of the call, with its reply.
+    fn numbers(details: &Self::Details, reply: &Self::Reply, numbers: &mut Numbers)
+        requires { numbers.old.items ≡ [] }
+        ensures { numbers.new.items ≡ numbers_of (exchange details.now reply.now) };
+
+    /// Puts the call with its reply in a log. Each kind of reply does so in an arm of its own, so
+    /// that no value is built that could be any of them.
+    fn record(details: &Self::Details, reply: &Self::Reply, log: &mut Log)
+        ensures { Puts log.old (exchange details.now reply.now) log.new };
 
     /// Spends what was handed in, where no call is left.
     fn forfeit(self) -> Self::Reply

@@ -1,10 +1,4 @@
 //! The steps of a node with the names of their answers.
-use cancel_router::RouteRefusal;
-use node_core::{
-    AcquireReply, CancelRefusal, CloseReply, EndedReply, Exchange, FailedReply, JoinRefusal,
-    LeaveReply, Order, ReleaseReply, RestartReply, UpFailedReply, UpReply,
-};
-
 /// How many steps with the names of their answers there are.
 pub const ANSWERS: usize = 48;
 
@@ -111,68 +105,7 @@ pub enum CallAnswer {
 
 impl CallAnswer {
     ghost use Rattle.std.specs.Prelude.{◌≡◌, ◌<◌};
-    ghost use Rattle.locked_node.specs.CallNumbers.{ANSWERS, answer_of, answer_index};
-
-    /// The step of a call, with the name of its answer.
-    pub fn of(call: &Exchange) -> CallAnswer
-        ensures { result ≡ answer_of call.now }
-    {
-        match call {
-            Exchange::Join(_, _, _, Ok(_)) => CallAnswer::Joined,
-            Exchange::Join(_, _, _, Err(JoinRefusal::Full)) => CallAnswer::JoinFull,
-            Exchange::Join(_, _, _, Err(JoinRefusal::Exhausted)) => CallAnswer::JoinExhausted,
-            Exchange::Leave(_, LeaveReply::Left) => CallAnswer::Left,
-            Exchange::Leave(_, LeaveReply::Holding(_)) => CallAnswer::LeaveHolding,
-            Exchange::Leave(_, LeaveReply::Stale) => CallAnswer::LeaveStale,
-            Exchange::Leave(_, LeaveReply::Exhausted) => CallAnswer::LeaveExhausted,
-            Exchange::Acquire(_, AcquireReply::Got(_)) => CallAnswer::AcquireGot,
-            Exchange::Acquire(_, AcquireReply::Open(_)) => CallAnswer::AcquireOpen,
-            Exchange::Acquire(_, AcquireReply::Waiting) => CallAnswer::AcquireWaiting,
-            Exchange::Acquire(_, AcquireReply::Cancelled) => CallAnswer::AcquireCancelled,
-            Exchange::Acquire(_, AcquireReply::Holding) => CallAnswer::AcquireHolding,
-            Exchange::Acquire(_, AcquireReply::Stale) => CallAnswer::AcquireStale,
-            Exchange::Acquire(_, AcquireReply::Exhausted) => CallAnswer::AcquireExhausted,
-            Exchange::Up(_, _, UpReply::Up(_)) => CallAnswer::WentUp,
-            Exchange::Up(_, _, UpReply::Exhausted(_, ())) => CallAnswer::UpExhausted,
-            Exchange::Up(_, _, UpReply::Stale(())) => CallAnswer::UpStale,
-            Exchange::Up(_, _, UpReply::AtEnd(())) => CallAnswer::UpAtEnd,
-            Exchange::UpFailed(_, UpFailedReply::Freed) => CallAnswer::UpFailedFreed,
-            Exchange::UpFailed(_, UpFailedReply::Stale) => CallAnswer::UpFailedStale,
-            Exchange::UpFailed(_, UpFailedReply::Exhausted) => CallAnswer::UpFailedExhausted,
-            Exchange::Release(_, ReleaseReply::Idle) => CallAnswer::ReleasedIdle,
-            Exchange::Release(_, ReleaseReply::Quarantined) => CallAnswer::ReleasedQuarantined,
-            Exchange::Release(_, ReleaseReply::Closed(())) => CallAnswer::ReleasedClosed,
-            Exchange::Release(_, ReleaseReply::Stale(())) => CallAnswer::ReleaseStale,
-            Exchange::Release(_, ReleaseReply::Exhausted(())) => CallAnswer::ReleaseExhausted,
-            Exchange::Close(_, CloseReply::Closed(())) => CallAnswer::Closed,
-            Exchange::Close(_, CloseReply::Stale(())) => CallAnswer::CloseStale,
-            Exchange::Close(_, CloseReply::Exhausted(())) => CallAnswer::CloseExhausted,
-            Exchange::Cancel(_, Order::Serve(_, _, _)) => CallAnswer::Served,
-            Exchange::Cancel(_, Order::Forward(_, _)) => CallAnswer::Forwarded,
-            Exchange::Cancel(_, Order::Unwait(_)) => CallAnswer::Unwaited,
-            Exchange::Cancel(_, Order::Refused(CancelRefusal::Route(RouteRefusal::Spent))) =>
-                CallAnswer::CancelSpent,
-            Exchange::Cancel(_, Order::Refused(CancelRefusal::Route(RouteRefusal::Unknown))) =>
-                CallAnswer::CancelUnknown,
-            Exchange::Cancel(_, Order::Refused(CancelRefusal::Route(RouteRefusal::NoPeer))) =>
-                CallAnswer::CancelNoPeer,
-            Exchange::Cancel(_, Order::Refused(CancelRefusal::Route(RouteRefusal::NoLink))) =>
-                CallAnswer::CancelNoLink,
-            Exchange::Cancel(_, Order::Refused(CancelRefusal::Busy)) => CallAnswer::CancelBusy,
-            Exchange::Cancel(_, Order::Refused(CancelRefusal::Exhausted)) =>
-                CallAnswer::CancelExhausted,
-            Exchange::Ended(_, EndedReply::Freed) => CallAnswer::EndedFreed,
-            Exchange::Ended(_, EndedReply::Counted) => CallAnswer::EndedCounted,
-            Exchange::Ended(_, EndedReply::Stale) => CallAnswer::EndedStale,
-            Exchange::Ended(_, EndedReply::Exhausted) => CallAnswer::EndedExhausted,
-            Exchange::Failed(_, FailedReply::Condemned) => CallAnswer::FailedCondemned,
-            Exchange::Failed(_, FailedReply::Closed(())) => CallAnswer::FailedClosed,
-            Exchange::Failed(_, FailedReply::Stale) => CallAnswer::FailedStale,
-            Exchange::Failed(_, FailedReply::Exhausted) => CallAnswer::FailedExhausted,
-            Exchange::Restart(_, RestartReply::Restarted) => CallAnswer::Restarted,
-            Exchange::Restart(_, RestartReply::Exhausted) => CallAnswer::RestartExhausted,
-        }
-    }
+    ghost use Rattle.locked_node.specs.CallNumbers.{ANSWERS, answer_index};
 
     /// Its place among the answers.
     pub const fn index(self) -> usize

@@ -3,7 +3,6 @@ ghost use Rattle.std.specs.Prelude.{◌≡◌};
 ghost use Rattle.locked_node.specs.CallNumbers.{key_index, key_width};
 
 use crate::call_answer::{ANSWERS, CallAnswer};
-use node_core::Exchange;
 use pg_ids::Kind;
 
 /// How many kinds there are: one for each answer and each kind of key.
@@ -73,23 +72,6 @@ impl CallKind {
         CallKind {
             answer,
             key: Kind::Long,
-        }
-    }
-
-    /// The kind of a call.
-    #[inline(always)]
-    pub fn of(call: &Exchange) -> CallKind
-        ensures { result ≡ kind_of call.now }
-    {
-        let key = match call {
-            Exchange::Join(_, _, kind, _) => *kind,
-            Exchange::Leave(pass, _) | Exchange::Acquire(pass, _) => pass.key.kind(),
-            Exchange::Cancel(key, _) => key.kind(),
-            _ => Kind::Short,
-        };
-        CallKind {
-            answer: CallAnswer::of(call),
-            key,
         }
     }
 

@@ -19,11 +19,13 @@ ghost use Rattle.node_core.specs.declared.refusal.JoinRefusal.TheVariants as joi
 ghost use Rattle.node_core.specs.declared.refusal.CancelRefusal.TheVariants as cancel;
 
 use crate::call::Call;
+use crate::call_count::CallCount;
 use crate::caller::Caller;
 use crate::shared::Shared;
 use crate::steps::{
     Acquire, Cancel, Close, Ended, Failed, Join, Leave, Release, Restart, Up, UpFailed,
 };
+use crate::turn::Turn;
 use node_core::{
     AcquireReply, CloseReply, DatabaseNo, EndedReply, FailedReply, JoinRefusal, Lease, LeaveReply,
     Order, Pass, Permit, ReleaseReply, RestartReply, Ticket, UpFailedReply, UpReply,
@@ -46,12 +48,13 @@ impl<S: Drop> Shared<S> {
         if caller.allowance == 0 {
             return call.forfeit();
         }
-        let details = call.details();
+        let mut count = CallCount::new();
+        let mut turn = Turn::new();
         self.take(rt, &mut caller.seat);
-        let (reply, turn) = self.make(&mut caller.seat, call, &details);
+        let reply = self.make(&mut caller.seat, call, &mut count, &mut turn);
         self.give(&mut caller.seat);
         caller.allowance -= 1;
-        C::record(&details, &reply, &mut caller.tally);
+        caller.tally.add(&count);
         self.wake(rt, caller, &turn);
         reply
     }

@@ -3,11 +3,11 @@
 
 mod call;
 mod call_answer;
+mod call_count;
 mod call_kind;
 mod caller;
 mod calls;
 mod journal;
-mod keeper;
 mod locked;
 mod log;
 mod numbers;
@@ -23,7 +23,6 @@ pub use call_answer::{ANSWERS, CallAnswer};
 pub use call_kind::{CallKind, KINDS};
 pub use caller::Caller;
 pub use journal::Journal;
-pub use keeper::Keeper;
 pub use log::Entry;
 pub use numbers::WIDEST;
 pub use shared::Shared;

@@ -1,5 +1,6 @@
 //! A journal as it lies in the lock's table.
 use crate::call::Call;
+use crate::call_count::CallCount;
 use crate::journal::Journal;
 use crate::turn::Turn;
 use node_core::View;
@@ -21,33 +22,37 @@ impl<S> Model for Locked<S> {
 }
 
 impl<S: Drop> Locked<S> {
-    ghost use Rattle.std.specs.Prelude.{◌≡◌, ◌<◌, IfOk};
+    ghost use Rattle.std.specs.Prelude.{◌≡◌, ◌<◌, [], IfOk};
     ghost use Rattle.node_core.specs.View.{IsView};
-    ghost use Rattle.locked_node.specs.Journal.{JournalStep, CountsWithin, log_calls};
-    ghost use Rattle.locked_node.specs.Journal.{log_all, CALL_LIMIT};
+    ghost use Rattle.locked_node.specs.Journal.{JournalStep, CountsWithin};
+    ghost use Rattle.locked_node.specs.Journal.{CALL_LIMIT};
+    ghost use Rattle.locked_node.specs.Totals.{IsCountOf, calls_at, all_calls};
     ghost use Rattle.locked_node.specs.Lock.{Somewhere};
 
-    /// Makes a call of any step, which hands this in, where one is left. Returns whom it wakes as
-    /// well.
+    /// Makes a call of any step, where one is left. Tells what of it is counted, and whose turn it
+    /// is then.
     #[inline(always)]
-    pub(crate) fn make<C: Call<S>>(&mut self, call: C, details: &C::Details) -> (C::Reply, Turn)
-        requires details { C.handed call ≡ details.now }
-        requires room { log_all self.old.log < CALL_LIMIT }
+    pub(crate) fn make<C: Call<S>>(
+        &mut self,
+        call: C,
+        count: &mut CallCount,
+        turn: &mut Turn,
+    ) -> C::Reply
+        requires empty { count.old.numbers.items ≡ [] }
+        requires room { all_calls self.old.log.totals < CALL_LIMIT }
         requires can { C.can_make self.old.view.pools call }
-        ensures step { JournalStep self.old (C.exchange (C.handed call) result.0) self.new }
-        ensures streams { Somewhere (C.streams call result.0) }
+        ensures step { JournalStep self.old (C.exchange (C.handed call) result) self.new }
+        ensures streams { Somewhere (C.streams call result) }
+        ensures count { IsCountOf (C.exchange (C.handed call) result) count.new }
     {
-        let database = call.database(self.journal.view());
-        let reply = self.journal.make(call, details);
-        let turn = self.journal.turn(C::woken(&reply), database);
-        (reply, turn)
+        self.journal.make(call, count, turn)
     }
 
     /// What the node is.
     pub(crate) fn copy(&self, alloc: Global) -> Result<View<S>, AllocError>
         ensures view { IfOk result (λ view. view ≡ self.now.view) }
         ensures whole { IsView self.now.view }
-        ensures numbers { CountsWithin (log_calls self.now.log) self.now.view }
+        ensures numbers { CountsWithin (calls_at self.now.log.totals) self.now.view }
     {
         View::of(alloc, self.journal.view())
     }

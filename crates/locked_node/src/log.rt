@@ -1,12 +1,11 @@
-//! The last calls of a node, and the totals of those before them.
+//! The last calls of a node, and the totals of all.
 ghost use Rattle.std.specs.Prelude.{◌≡◌, ◌+◌, ◌<◌, ◌≤◌, [], length, IfOk, MatchBool};
 
-use crate::keeper::Keeper;
+use crate::call_count::CallCount;
 use crate::tally::Tally;
+use circular_buffer::{HeapCircularBuffer, Iter};
 use node_core::Exchange;
 use std::alloc::{AllocError, Global};
-use std::collections::VecDeque;
-use std::collections::vec_deque::Iter;
 use std::marker::Model;
 
 /// How many calls are kept with their replies.
@@ -30,52 +29,50 @@ impl Model for Entry {
     ghost view = { λ e. e.call };
 }
 
-// The tail of a journal. It has room for all the calls that it keeps.
-#[derive(Debug, Drop)]
-pub(crate) struct Log {
-    tail: VecDeque<Entry>,
+// The tail of a journal, and the totals of all its calls.
+#[derive(Drop)]
+pub struct Log {
+    tail: HeapCircularBuffer<Entry>,
     calls: u128,
-    trimmed: Tally,
+    totals: Tally,
 }
 
 impl Model for Log {
-    ghost use Rattle.std.specs.Prelude.{◌≡◌, ◌+◌, ◌≤◌, length};
-    ghost use Rattle.std.specs.VecDeque.{deque_capacity};
+    ghost use Rattle.std.specs.Prelude.{◌≡◌, ◌≤◌, length};
     ghost use Rattle.locked_node.specs.Journal.{LogView, CALL_LIMIT, TAIL_LIMIT};
     ghost use Rattle.locked_node.specs.Totals.{all_calls};
 
     ghost Value = { LogView };
 
-    ghost view = { λ l. record { tail = l.tail.items; trimmed = l.trimmed } };
+    ghost view = { λ l. record { tail = l.tail.items; totals = l.totals } };
 
     ghost invariant = { λ l.
-        (length l.tail.items ≤ TAIL_LIMIT) × (TAIL_LIMIT ≤ deque_capacity l.tail)
-        × (l.calls ≡ all_calls l.trimmed + length l.tail.items) × (l.calls ≤ CALL_LIMIT) };
+        (length l.tail.items ≤ TAIL_LIMIT) × (l.tail.capacity ≡ TAIL_LIMIT)
+        × (l.calls ≡ all_calls l.totals) × (l.calls ≤ CALL_LIMIT) };
 }
 
 impl Log {
-    ghost use Rattle.node_core.specs.declared.exchange.Exchange.{Exchange};
-    ghost use Rattle.std.specs.VecDeque.Iter.{deque_iter_rest, deque_iter_steps};
-    ghost use Rattle.std.specs.Iterator.Runs.{YieldsRefsInOrder};
-    ghost use Rattle.locked_node.specs.Journal.{Trims, log_all, CALL_LIMIT, TAIL_LIMIT};
-    ghost use Rattle.locked_node.specs.Totals.{IsEmpty};
-    ghost use Rattle.locked_node.specs.Lock.{IsTotalOf};
+    ghost use Rattle.node_core.specs.declared.exchange.Exchange.{Exchange as CallOf};
+    ghost use Rattle.locked_node.specs.CallNumbers.{KINDS};
+    ghost use Rattle.std.specs.Map.Iter.{ShowsInOrder, deref};
+    ghost use Rattle.locked_node.specs.Journal.{Puts, CALL_LIMIT, TAIL_LIMIT};
+    ghost use Rattle.locked_node.specs.Totals.{IsEmpty, IsCountOf, Counts, all_calls};
 
     /// No calls, and room for the tail.
     pub(crate) fn new(alloc: Global) -> Result<Log, AllocError>
         ensures tail { IfOk result (λ log. log.tail ≡ []) }
-        ensures trimmed { IfOk result (λ log. IsEmpty log.trimmed) }
+        ensures totals { IfOk result (λ log. IsEmpty log.totals) }
     {
         Ok(Log {
-            tail: VecDeque::with_capacity(alloc, TAIL)?,
+            tail: HeapCircularBuffer::with_capacity(alloc, TAIL)?,
             calls: 0,
-            trimmed: Tally::new(),
+            totals: Tally::new(),
         })
     }
 
     /// How many calls there were.
     pub(crate) fn calls(&self) -> u128
-        ensures value { result ≡ log_all self.now }
+        ensures value { result ≡ all_calls self.now.totals }
         ensures within { result ≤ CALL_LIMIT }
         ensures tail { length self.now.tail ≤ TAIL_LIMIT }
     {
@@ -84,71 +81,55 @@ impl Log {
 
     /// How many more calls it takes.
     pub(crate) fn calls_left(&self) -> u128
-        ensures { result + log_all self.now ≡ CALL_LIMIT }
+        ensures { result + all_calls self.now.totals ≡ CALL_LIMIT }
     {
         MOST - self.calls
     }
 
     /// The last calls, the oldest first.
     pub(crate) fn tail(&self) -> Iter<'_, Entry>
-        ensures calls { deque_iter_rest result ≡ self.now.tail }
-        ensures runs { YieldsRefsInOrder (deque_iter_steps {X = Exchange}) deque_iter_rest }
+        ensures calls { result ≡ self.now.tail }
+        ensures runs { ShowsInOrder (deref {X = CallOf}) }
     {
         self.tail.iter()
     }
 
     /// The totals of all calls.
-    pub(crate) fn totals(&self) -> Tally
-        ensures { IsTotalOf self.now result }
+    pub(crate) fn totals(&self) -> &Tally
+        ensures { result.now ≡ self.now.totals }
     {
-        let mut totals = self.trimmed;
-        for i in 0..self.tail.len() {
-            totals.count(&self.tail[i].call);
-        }
-        totals
+        &self.totals
     }
 
     /// Whether no further call is taken.
     pub(crate) fn is_full(&self) -> bool
         ensures full { MatchBool result
-            (log_all self.now ≡ CALL_LIMIT) (log_all self.now < CALL_LIMIT) }
+            (all_calls self.now.totals ≡ CALL_LIMIT) (all_calls self.now.totals < CALL_LIMIT) }
         ensures tail { length self.now.tail ≤ TAIL_LIMIT }
     {
         self.calls == MOST
     }
 
-    // Takes the oldest call off the tail, and counts it.
-    fn trim(&mut self)
-        requires some { 0 < length self.old.tail }
-        requires room { log_all self.old < CALL_LIMIT }
-        ensures { Trims self.old self.new }
+    /// Puts a call behind the tail, which the oldest one leaves where it is full. It isn't counted
+    /// yet.
+    #[inline(always)]
+    pub(crate) fn put(&mut self, call: &Exchange)
+        ensures { Puts self.old call.now self.new }
     {
-        self.trimmed.count(&self.tail[0].call);
-        let _oldest = self.tail.pop_front();
+        self.tail.push_back(Entry { call: *call });
     }
 
-    /// The totals of the calls that left the tail.
-    pub(crate) fn trimmed(&self) -> &Tally
-        ensures { result.now ≡ self.now.trimmed }
+    /// Counts a call, of which this is counted.
+    #[inline(always)]
+    pub(crate) fn count(&mut self, count: &CallCount)
+        requires room { all_calls self.old.totals < CALL_LIMIT }
+        requires kind { count.now.kind < KINDS }
+        requires of { (call : CallOf) × IsCountOf call count.now }
+        ensures tail { self.new.tail ≡ self.old.tail }
+        ensures totals { (call : CallOf) → IsCountOf call count.now
+            → Counts self.old.totals call self.new.totals }
     {
-        &self.trimmed
-    }
-}
-
-impl Keeper for Log {
-    ghost use Rattle.locked_node.specs.Journal.{Appends, log_all, CALL_LIMIT};
-
-    ghost has_room = { λ log. log_all log < CALL_LIMIT };
-
-    ghost keeps = { Appends };
-
-    // Puts the call behind the tail. The oldest one leaves it where it is full.
-    #[inline(never)]
-    fn keep(&mut self, call: &Exchange) {
-        if self.tail.len() == TAIL {
-            self.trim();
-        }
-        self.tail.push_back_reserved(Entry { call: *call });
+        self.totals.add(count);
         self.calls += 1;
     }
 }

@@ -6,6 +6,7 @@ ghost use Rattle.locked_node.specs.Replay.{fixed_of};
 ghost use Rattle.node_core.specs.View.{IsView};
 
 use crate::call::Call;
+use crate::call_count::CallCount;
 use crate::caller::Caller;
 use crate::journal::Journal;
 use crate::locked::Locked;
@@ -13,9 +14,9 @@ use crate::log::MOST;
 use crate::rule::{Both, Give, Hand, Look, Place, Return, Rule, Share, Take};
 use crate::turn::Turn;
 use atomic_table::Table;
+use crossbeam_utils::Backoff;
 use node_core::View;
 use std::alloc::{AllocError, Global};
-use std::hint::spin_loop;
 use std::marker::Model;
 use std::snapshot::Snapshot;
 use std::sync::Wait;
@@ -28,11 +29,9 @@ const TAKEN: u64 = 1;
 
 const AWAITED: u64 = 2;
 
-// How often a caller looks at a taken lock before it sleeps, and how often it pauses after each
-// look: a look takes the lock's word from the caller that has the lock.
+// How often a caller looks at a taken lock before it sleeps. It pauses after each look, longer each
+// time: a look takes the lock's word from the caller that has the lock.
 const LOOKS: u32 = 10;
-
-const PAUSES: u32 = 10;
 
 /// A node with its journal, behind a lock.
 #[derive(Drop)]
@@ -56,9 +55,9 @@ impl<S> Model for Shared<S> {
 
 impl<S: Drop> Shared<S> {
     ghost use Rattle.std.specs.Prelude.{◌≤◌, ◌+◌, IfOk, MatchBool, true};
-    ghost use Rattle.locked_node.specs.Totals.{all_calls, calls_at};
-    ghost use Rattle.locked_node.specs.Journal.{journal_view, log_all, CALL_LIMIT};
-    ghost use Rattle.locked_node.specs.Lock.{Somewhere, IsTotalOf, IsWhole, IsAmong, IsWithin};
+    ghost use Rattle.locked_node.specs.Totals.{IsCountOf, all_calls, calls_at};
+    ghost use Rattle.locked_node.specs.Journal.{journal_view, CALL_LIMIT};
+    ghost use Rattle.locked_node.specs.Lock.{Somewhere, IsWhole, IsAmong, IsWithin};
     ghost use Rattle.locked_node.specs.Lock.{HANDED, handing, handed, joined};
 
     /// A lock with this journal, and its first caller, which has the journal's totals and may make
@@ -68,11 +67,11 @@ impl<S: Drop> Shared<S> {
         ensures lock { IfOk result (λ made. made.1.lock ≡ made.0) }
         ensures start { IfOk result (λ made. made.1.start ≡ journal_view journal) }
         ensures allowance { IfOk result
-            (λ made. made.1.allowance + log_all journal.log ≡ CALL_LIMIT) }
+            (λ made. made.1.allowance + all_calls journal.log.totals ≡ CALL_LIMIT) }
         ensures none { IfOk result (λ made. (made.1.made ≡ []) × (made.1.places ≡ [])) }
-        ensures totals { IfOk result (λ made. IsTotalOf journal.log made.1.tally) }
+        ensures totals { IfOk result (λ made. made.1.tally ≡ journal.log.totals) }
     {
-        let tally = journal.totals();
+        let tally = *journal.totals();
         let allowance = journal.calls_left();
         let words = vec![in alloc; FREE; 1 + journal.view().slots()]?;
         let locked = Locked { journal };
@@ -153,20 +152,23 @@ impl<S: Drop> Shared<S> {
             == FREE
     }
 
-    // What the lock's word says, as soon as the lock is free or somebody sleeps, and after ten
-    // looks at most.
-    fn look(&self) -> u64 {
-        let shared = &self.table.shared;
+    // Takes the lock as soon as it is free. Gives up after ten looks.
+    fn spin(&self, seat: &mut Place<S>) -> bool
+        requires own { seat.old.table_id ≡ self.now }
+        requires some { 0 < stake seat.old.me.0 }
+        requires empty { seat.old.me.1 ≡ [] }
+        ensures own { seat.new.table_id ≡ seat.old.table_id }
+        ensures taken { MatchBool result (Takes seat.old.me seat.new.me)
+            (seat.new.me ≡ seat.old.me) }
+    {
+        let backoff = Backoff::new();
         for _ in 0..LOOKS {
-            let word = shared.peek(0);
-            if word != TAKEN {
-                return word;
+            if self.table.shared.peek(0) == FREE && self.try_take(seat) {
+                return true;
             }
-            for _ in 0..PAUSES {
-                spin_loop();
-            }
+            backoff.spin();
         }
-        TAKEN
+        false
     }
 
     // Takes the lock. A caller that finds it taken looks at it for a while, and then sleeps until
@@ -194,17 +196,16 @@ impl<S: Drop> Shared<S> {
         ensures own { seat.new.table_id ≡ seat.old.table_id }
         ensures took { Takes seat.old.me seat.new.me }
     {
-        let shared = &self.table.shared;
-        let mut word = self.look();
-        if word == FREE && self.try_take(seat) {
+        if self.spin(seat) {
             return;
         }
+        let shared = &self.table.shared;
+        // Whoever slept can't know that nobody else does, so it says that somebody may.
         for _ in rt.forever() {
-            if word != AWAITED && shared.swap::<Take>(seat, 0, AWAITED) == FREE {
+            if shared.swap::<Take>(seat, 0, AWAITED) == FREE {
                 return;
             }
             shared.park(rt, 0, AWAITED as u32);
-            word = self.look();
         }
         unreachable!()
     }
@@ -237,23 +238,26 @@ impl<S: Drop> Shared<S> {
         shared.load::<Look>(seat, 0);
     }
 
-    // Makes a call of any step, which hands this in, on the journal that the seat holds.
+    // Makes a call of any step on the journal that the seat holds. Tells what of it is counted, and
+    // whose turn it is then.
     #[inline(always)]
     pub(crate) fn make<C: Call<S>>(
         &self,
         seat: &mut Place<S>,
         call: C,
-        details: &C::Details,
-    ) -> (C::Reply, Turn)
+        count: &mut CallCount,
+        turn: &mut Turn,
+    ) -> C::Reply
         requires own { seat.old.table_id ≡ self.now }
-        requires details { C.handed call ≡ details.now }
+        requires empty { count.old.numbers.items ≡ [] }
         requires holds { Holds seat.old.me }
         requires can { C.can_make seat.old.me.0.start.view.pools call }
         ensures own { seat.new.table_id ≡ seat.old.table_id }
-        ensures calls { Calls seat.old.me (C.exchange (C.handed call) result.0) seat.new.me }
-        ensures streams { Somewhere (C.streams call result.0) }
+        ensures calls { Calls seat.old.me (C.exchange (C.handed call) result) seat.new.me }
+        ensures streams { Somewhere (C.streams call result) }
+        ensures count { IsCountOf (C.exchange (C.handed call) result) count.new }
     {
-        seat.slot_mut(&self.table.shared, 0).make(call, details)
+        seat.slot_mut(&self.table.shared, 0).make(call, count, turn)
     }
 
     // Gives the lock back, with one call more in the journal.

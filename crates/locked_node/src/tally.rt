@@ -3,10 +3,9 @@ ghost use Rattle.std.specs.Prelude.{◌≡◌, ◌+◌, ◌^◌, ◌<◌, slice_
 ghost use Rattle.locked_node.specs.CallNumbers.{KINDS};
 ghost use Rattle.locked_node.specs.declared.tally.TheConstants.{START};
 
+use crate::call_count::CallCount;
 use crate::call_kind::{CallKind, KINDS};
-use crate::keeper::Keeper;
-use crate::numbers::{WIDEST, add_call};
-use node_core::Exchange;
+use crate::numbers::WIDEST;
 
 // Where the cells of each kind begin, by the kind's place: one for the count of its calls, and then
 // one for each number that a call with its answer can have. Those of the last kind end at the end.
@@ -46,7 +45,8 @@ pub struct Tally {
 
 impl Tally {
     ghost use Rattle.locked_node.specs.CallNumbers.{index_of};
-    ghost use Rattle.locked_node.specs.Totals.{IsEmpty, Counts, AddsUp};
+    ghost use Rattle.node_core.specs.declared.exchange.Exchange.{Exchange as CallOf};
+    ghost use Rattle.locked_node.specs.Totals.{IsEmpty, IsCountOf, Counts, AddsUp};
     ghost use Rattle.locked_node.specs.Totals.{all_calls, calls_at, row_at};
 
     /// No calls.
@@ -72,14 +72,19 @@ impl Tally {
         &self.cells[START[kind] + 1..START[kind + 1]]
     }
 
-    /// Counts one more call.
+    /// Counts one more call, of which this is counted.
     #[inline(always)]
-    pub fn count(&mut self, call: &Exchange)
-        requires { all_calls self.old < 2 ^ 127 }
-        ensures { Counts self.old call.now self.new }
+    pub(crate) fn add(&mut self, count: &CallCount)
+        requires room { all_calls self.old < 2 ^ 127 }
+        requires kind { count.now.kind < KINDS }
+        ensures { (call : CallOf) → IsCountOf call count.now → Counts self.old call self.new }
     {
-        let start = start_of(CallKind::of(call).index());
-        add_call(&mut self.cells[start + 1..], call);
+        let start = start_of(count.kind);
+        let numbers = count.numbers.as_slice();
+        for i in 0..numbers.len() {
+            let at = start + 1 + i;
+            self.cells[at] = self.cells[at].wrapping_add(u128::from(numbers[i]));
+        }
         self.cells[start] += 1;
     }
 
@@ -91,18 +96,5 @@ impl Tally {
         for i in 0..CELLS {
             self.cells[i] = self.cells[i].wrapping_add(other.cells[i]);
         }
-    }
-}
-
-impl Keeper for Tally {
-    ghost use Rattle.locked_node.specs.Totals.{Counts, all_calls};
-
-    ghost has_room = { λ tally. all_calls tally < 2 ^ 127 };
-
-    ghost keeps = { Counts };
-
-    #[inline(always)]
-    fn keep(&mut self, call: &Exchange) {
-        self.count(call);
     }
 }

@@ -9,8 +9,12 @@ ghost use Rattle.node_core.specs.declared.exchange.Order.TheVariants as order;
 ghost use Rattle.node_core.specs.declared.refusal.CancelRefusal.TheVariants as cancel;
 
 use crate::call::Call;
-use crate::keeper::Keeper;
+use crate::call_answer::CallAnswer;
+use crate::call_kind::CallKind;
+use crate::log::Log;
+use crate::numbers::{Numbers, push_any_key, push_packet, push_server_key, push_ticket};
 use crate::turn::Woken;
+use cancel_router::RouteRefusal;
 use node_core::{
     CancelRefusal, DatabaseNo, EndedReply, Exchange, FailedReply, NodeCore, Order, Ticket,
     TicketRecord,
@@ -56,18 +60,60 @@ impl<S: Drop> Call<S> for Cancel {
     }
 
     #[inline(always)]
-    fn record<K: Keeper>(details: &Self::Details, reply: &Self::Reply, keeper: &mut K) {
+    fn kind(details: &Self::Details, reply: &Self::Reply) -> CallKind {
+        let answer = match reply {
+            Order::Serve(_, _, _) => CallAnswer::Served,
+            Order::Forward(_, _) => CallAnswer::Forwarded,
+            Order::Unwait(_) => CallAnswer::Unwaited,
+            Order::Refused(CancelRefusal::Route(RouteRefusal::Spent)) => CallAnswer::CancelSpent,
+            Order::Refused(CancelRefusal::Route(RouteRefusal::Unknown)) =>
+                CallAnswer::CancelUnknown,
+            Order::Refused(CancelRefusal::Route(RouteRefusal::NoPeer)) => CallAnswer::CancelNoPeer,
+            Order::Refused(CancelRefusal::Route(RouteRefusal::NoLink)) => CallAnswer::CancelNoLink,
+            Order::Refused(CancelRefusal::Busy) => CallAnswer::CancelBusy,
+            Order::Refused(CancelRefusal::Exhausted) => CallAnswer::CancelExhausted,
+        };
+        CallKind {
+            answer,
+            key: details.kind(),
+        }
+    }
+
+    #[inline(always)]
+    fn numbers(details: &Self::Details, reply: &Self::Reply, numbers: &mut Numbers) {
         match reply {
-            Order::Serve(ticket, database, key) => keeper.keep(&Exchange::Cancel(
+            Order::Serve(ticket, database, server) => {
+                push_ticket(numbers, &ticket.details());
+                numbers.push(u64::from(database.get()));
+                push_any_key(numbers, details);
+                push_server_key(numbers, server);
+            }
+            Order::Forward(peer, packet) => {
+                numbers.push(u64::from(peer.get()));
+                push_any_key(numbers, details);
+                push_packet(numbers, packet);
+            }
+            Order::Unwait(slot) => {
+                numbers.push(u64::from(slot.get()));
+                push_any_key(numbers, details);
+            }
+            Order::Refused(_) => push_any_key(numbers, details),
+        }
+    }
+
+    #[inline(never)]
+    fn record(details: &Self::Details, reply: &Self::Reply, log: &mut Log) {
+        match reply {
+            Order::Serve(ticket, database, key) => log.put(&Exchange::Cancel(
                 *details,
                 Order::Serve(ticket.details(), *database, *key),
             )),
-            Order::Forward(peer, packet) => keeper.keep(&Exchange::Cancel(
+            Order::Forward(peer, packet) => log.put(&Exchange::Cancel(
                 *details,
                 Order::Forward(*peer, *packet),
             )),
-            Order::Unwait(slot) => keeper.keep(&Exchange::Cancel(*details, Order::Unwait(*slot))),
-            Order::Refused(refusal) => keeper.keep(&Exchange::Cancel(
+            Order::Unwait(slot) => log.put(&Exchange::Cancel(*details, Order::Unwait(*slot))),
+            Order::Refused(refusal) => log.put(&Exchange::Cancel(
                 *details,
                 Order::Refused(*refusal),
             )),
@@ -110,8 +156,24 @@ impl<S: Drop> Call<S> for Ended {
     }
 
     #[inline(always)]
-    fn record<K: Keeper>(details: &Self::Details, reply: &Self::Reply, keeper: &mut K) {
-        keeper.keep(&Exchange::Ended(*details, *reply));
+    fn kind(_details: &Self::Details, reply: &Self::Reply) -> CallKind {
+        let answer = match reply {
+            EndedReply::Freed => CallAnswer::EndedFreed,
+            EndedReply::Counted => CallAnswer::EndedCounted,
+            EndedReply::Stale => CallAnswer::EndedStale,
+            EndedReply::Exhausted => CallAnswer::EndedExhausted,
+        };
+        CallKind::short(answer)
+    }
+
+    #[inline(always)]
+    fn numbers(details: &Self::Details, _reply: &Self::Reply, numbers: &mut Numbers) {
+        push_ticket(numbers, details);
+    }
+
+    #[inline(never)]
+    fn record(details: &Self::Details, reply: &Self::Reply, log: &mut Log) {
+        log.put(&Exchange::Ended(*details, *reply));
     }
 
     fn forfeit(self) -> Self::Reply {
@@ -154,21 +216,28 @@ impl<S: Drop> Call<S> for Failed {
     }
 
     #[inline(always)]
-    fn record<K: Keeper>(details: &Self::Details, reply: &Self::Reply, keeper: &mut K) {
+    fn kind(_details: &Self::Details, reply: &Self::Reply) -> CallKind {
+        let answer = match reply {
+            FailedReply::Condemned => CallAnswer::FailedCondemned,
+            FailedReply::Closed(_) => CallAnswer::FailedClosed,
+            FailedReply::Stale => CallAnswer::FailedStale,
+            FailedReply::Exhausted => CallAnswer::FailedExhausted,
+        };
+        CallKind::short(answer)
+    }
+
+    #[inline(always)]
+    fn numbers(details: &Self::Details, _reply: &Self::Reply, numbers: &mut Numbers) {
+        push_ticket(numbers, details);
+    }
+
+    #[inline(never)]
+    fn record(details: &Self::Details, reply: &Self::Reply, log: &mut Log) {
         match reply {
-            FailedReply::Condemned => keeper.keep(&Exchange::Failed(
-                *details,
-                FailedReply::Condemned,
-            )),
-            FailedReply::Closed(_) => keeper.keep(&Exchange::Failed(
-                *details,
-                FailedReply::Closed(()),
-            )),
-            FailedReply::Stale => keeper.keep(&Exchange::Failed(*details, FailedReply::Stale)),
-            FailedReply::Exhausted => keeper.keep(&Exchange::Failed(
-                *details,
-                FailedReply::Exhausted,
-            )),
+            FailedReply::Condemned => log.put(&Exchange::Failed(*details, FailedReply::Condemned)),
+            FailedReply::Closed(_) => log.put(&Exchange::Failed(*details, FailedReply::Closed(()))),
+            FailedReply::Stale => log.put(&Exchange::Failed(*details, FailedReply::Stale)),
+            FailedReply::Exhausted => log.put(&Exchange::Failed(*details, FailedReply::Exhausted)),
         }
     }
 

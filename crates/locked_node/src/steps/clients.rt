@@ -1,14 +1,19 @@
 //! The calls of a client: it logs in, leaves, and asks for a link.
-ghost use Rattle.std.specs.Prelude.{◌≡◌, ◌<◌, length, Err};
+ghost use Rattle.std.specs.Prelude.{◌≡◌, ◌<◌, [], length, Err};
 ghost use Rattle.link_pool.specs.Said.{acquire_said};
 ghost use Rattle.link_pool.specs.Streams.{AcquireStreams};
 ghost use Rattle.link_pool.specs.declared.replies.AcquireReply.TheVariants as acquire;
+ghost use Rattle.locked_node.specs.CallNumbers.{kind_of, numbers_of};
+ghost use Rattle.locked_node.specs.Journal.{Puts};
 ghost use Rattle.node_core.specs.declared.exchange.Exchange.TheVariants as call;
 ghost use Rattle.node_core.specs.declared.exchange.LeaveReply.TheVariants as leave;
 ghost use Rattle.node_core.specs.declared.refusal.JoinRefusal.TheVariants as join;
 
 use crate::call::Call;
-use crate::keeper::Keeper;
+use crate::call_answer::CallAnswer;
+use crate::call_kind::CallKind;
+use crate::log::Log;
+use crate::numbers::{Numbers, push_any_key, push_link, push_pass, push_permit};
 use node_core::{
     AcquireReply, DatabaseNo, Exchange, JoinRefusal, Lease, LeaveReply, NodeCore, Pass, PassRecord,
     Permit,
@@ -57,15 +62,40 @@ impl<S: Drop> Call<S> for Join {
     }
 
     #[inline(always)]
-    fn record<K: Keeper>(details: &Self::Details, reply: &Self::Reply, keeper: &mut K) {
+    fn kind(details: &Self::Details, reply: &Self::Reply) -> CallKind {
+        let answer = match reply {
+            Ok(_) => CallAnswer::Joined,
+            Err(JoinRefusal::Full) => CallAnswer::JoinFull,
+            Err(JoinRefusal::Exhausted) => CallAnswer::JoinExhausted,
+        };
+        CallKind {
+            answer,
+            key: details.2,
+        }
+    }
+
+    #[inline(always)]
+    fn numbers(details: &Self::Details, reply: &Self::Reply, numbers: &mut Numbers) {
+        if let Ok(pass) = reply {
+            push_pass(numbers, &pass.details());
+        }
+        numbers.push(u64::from(details.0.get()));
+        numbers.push(u64::from(details.1.get()));
+        if let Ok(pass) = reply {
+            push_any_key(numbers, &pass.details().key);
+        }
+    }
+
+    #[inline(never)]
+    fn record(details: &Self::Details, reply: &Self::Reply, log: &mut Log) {
         match reply {
-            Ok(pass) => keeper.keep(&Exchange::Join(
+            Ok(pass) => log.put(&Exchange::Join(
                 details.0,
                 details.1,
                 details.2,
                 Ok(pass.details()),
             )),
-            Err(refusal) => keeper.keep(&Exchange::Join(
+            Err(refusal) => log.put(&Exchange::Join(
                 details.0,
                 details.1,
                 details.2,
@@ -110,15 +140,41 @@ impl<S: Drop> Call<S> for Leave {
     }
 
     #[inline(always)]
-    fn record<K: Keeper>(details: &Self::Details, reply: &Self::Reply, keeper: &mut K) {
+    fn kind(details: &Self::Details, reply: &Self::Reply) -> CallKind {
+        let answer = match reply {
+            LeaveReply::Left => CallAnswer::Left,
+            LeaveReply::Holding(_) => CallAnswer::LeaveHolding,
+            LeaveReply::Stale => CallAnswer::LeaveStale,
+            LeaveReply::Exhausted => CallAnswer::LeaveExhausted,
+        };
+        CallKind {
+            answer,
+            key: details.key.kind(),
+        }
+    }
+
+    #[inline(always)]
+    fn numbers(details: &Self::Details, reply: &Self::Reply, numbers: &mut Numbers) {
+        push_pass(numbers, details);
+        if let LeaveReply::Holding(again) = reply {
+            push_pass(numbers, &again.details());
+            push_any_key(numbers, &details.key);
+            push_any_key(numbers, &again.details().key);
+        } else {
+            push_any_key(numbers, &details.key);
+        }
+    }
+
+    #[inline(never)]
+    fn record(details: &Self::Details, reply: &Self::Reply, log: &mut Log) {
         match reply {
-            LeaveReply::Left => keeper.keep(&Exchange::Leave(*details, LeaveReply::Left)),
-            LeaveReply::Holding(pass) => keeper.keep(&Exchange::Leave(
+            LeaveReply::Left => log.put(&Exchange::Leave(*details, LeaveReply::Left)),
+            LeaveReply::Holding(pass) => log.put(&Exchange::Leave(
                 *details,
                 LeaveReply::Holding(pass.details()),
             )),
-            LeaveReply::Stale => keeper.keep(&Exchange::Leave(*details, LeaveReply::Stale)),
-            LeaveReply::Exhausted => keeper.keep(&Exchange::Leave(*details, LeaveReply::Exhausted)),
+            LeaveReply::Stale => log.put(&Exchange::Leave(*details, LeaveReply::Stale)),
+            LeaveReply::Exhausted => log.put(&Exchange::Leave(*details, LeaveReply::Exhausted)),
         }
     }
 
@@ -162,36 +218,62 @@ impl<S: Drop> Call<S> for Acquire<'_> {
     }
 
     #[inline(always)]
-    fn record<K: Keeper>(details: &Self::Details, reply: &Self::Reply, keeper: &mut K)
-        requires { K.has_room keeper.old }
-        ensures { K.keeps keeper.old (call.Acquire details.now (acquire_said reply.now)) keeper.new }
+    fn kind(details: &Self::Details, reply: &Self::Reply) -> CallKind
+        ensures { result ≡ kind_of (call.Acquire details.now (acquire_said reply.now)) }
+    {
+        let answer = match reply {
+            AcquireReply::Got(_) => CallAnswer::AcquireGot,
+            AcquireReply::Open(_) => CallAnswer::AcquireOpen,
+            AcquireReply::Waiting => CallAnswer::AcquireWaiting,
+            AcquireReply::Cancelled => CallAnswer::AcquireCancelled,
+            AcquireReply::Holding => CallAnswer::AcquireHolding,
+            AcquireReply::Stale => CallAnswer::AcquireStale,
+            AcquireReply::Exhausted => CallAnswer::AcquireExhausted,
+        };
+        CallKind {
+            answer,
+            key: details.key.kind(),
+        }
+    }
+
+    #[inline(always)]
+    fn numbers(details: &Self::Details, reply: &Self::Reply, numbers: &mut Numbers)
+        requires { numbers.old.items ≡ [] }
+        ensures { numbers.new.items ≡ numbers_of (call.Acquire details.now (acquire_said reply.now)) }
+    {
+        push_pass(numbers, details);
+        match reply {
+            AcquireReply::Got(lease) => push_link(numbers, &lease.details()),
+            AcquireReply::Open(permit) => push_permit(numbers, &permit.details()),
+            _ => {}
+        }
+        push_any_key(numbers, &details.key);
+    }
+
+    #[inline(never)]
+    fn record(details: &Self::Details, reply: &Self::Reply, log: &mut Log)
+        ensures { Puts log.old (call.Acquire details.now (acquire_said reply.now)) log.new }
     {
         match reply {
-            AcquireReply::Got(lease) => keeper.keep(&Exchange::Acquire(
+            AcquireReply::Got(lease) => log.put(&Exchange::Acquire(
                 *details,
                 AcquireReply::Got(lease.details()),
             )),
-            AcquireReply::Open(permit) => keeper.keep(&Exchange::Acquire(
+            AcquireReply::Open(permit) => log.put(&Exchange::Acquire(
                 *details,
                 AcquireReply::Open(permit.details()),
             )),
-            AcquireReply::Waiting => keeper.keep(&Exchange::Acquire(
-                *details,
-                AcquireReply::Waiting,
-            )),
-            AcquireReply::Cancelled => keeper.keep(&Exchange::Acquire(
+            AcquireReply::Waiting => log.put(&Exchange::Acquire(*details, AcquireReply::Waiting)),
+            AcquireReply::Cancelled => log.put(&Exchange::Acquire(
                 *details,
                 AcquireReply::Cancelled,
             )),
-            AcquireReply::Holding => keeper.keep(&Exchange::Acquire(
-                *details,
-                AcquireReply::Holding,
-            )),
-            AcquireReply::Exhausted => keeper.keep(&Exchange::Acquire(
+            AcquireReply::Holding => log.put(&Exchange::Acquire(*details, AcquireReply::Holding)),
+            AcquireReply::Exhausted => log.put(&Exchange::Acquire(
                 *details,
                 AcquireReply::Exhausted,
             )),
-            AcquireReply::Stale => keeper.keep(&Exchange::Acquire(*details, AcquireReply::Stale)),
+            AcquireReply::Stale => log.put(&Exchange::Acquire(*details, AcquireReply::Stale)),
         }
     }
 

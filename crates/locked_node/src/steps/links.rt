@@ -8,7 +8,10 @@ ghost use Rattle.link_pool.specs.declared.replies.CloseReply.TheVariants as clos
 ghost use Rattle.node_core.specs.declared.exchange.Exchange.TheVariants as call;
 
 use crate::call::Call;
-use crate::keeper::Keeper;
+use crate::call_answer::CallAnswer;
+use crate::call_kind::CallKind;
+use crate::log::Log;
+use crate::numbers::{Numbers, push_link, push_permit, push_server_key};
 use node_core::{
     CloseReply, DatabaseNo, Exchange, Lease, LinkRecord, NodeCore, Permit, PermitRecord,
     ReleaseReply, UpFailedReply, UpReply,
@@ -48,28 +51,42 @@ impl<S: Drop> Call<S> for Up<S> {
     }
 
     #[inline(always)]
-    fn record<K: Keeper>(details: &Self::Details, reply: &Self::Reply, keeper: &mut K) {
+    fn kind(_details: &Self::Details, reply: &Self::Reply) -> CallKind {
+        let answer = match reply {
+            UpReply::Up(_) => CallAnswer::WentUp,
+            UpReply::Exhausted(_, _) => CallAnswer::UpExhausted,
+            UpReply::Stale(_) => CallAnswer::UpStale,
+            UpReply::AtEnd(_) => CallAnswer::UpAtEnd,
+        };
+        CallKind::short(answer)
+    }
+
+    #[inline(always)]
+    fn numbers(details: &Self::Details, reply: &Self::Reply, numbers: &mut Numbers) {
+        push_permit(numbers, &details.0);
         match reply {
-            UpReply::Up(lease) => keeper.keep(&Exchange::Up(
+            UpReply::Up(lease) => push_link(numbers, &lease.details()),
+            UpReply::Exhausted(again, _) => push_permit(numbers, &again.details()),
+            UpReply::Stale(_) | UpReply::AtEnd(_) => {}
+        }
+        push_server_key(numbers, &details.1);
+    }
+
+    #[inline(never)]
+    fn record(details: &Self::Details, reply: &Self::Reply, log: &mut Log) {
+        match reply {
+            UpReply::Up(lease) => log.put(&Exchange::Up(
                 details.0,
                 details.1,
                 UpReply::Up(lease.details()),
             )),
-            UpReply::Exhausted(permit, _) => keeper.keep(&Exchange::Up(
+            UpReply::Exhausted(permit, _) => log.put(&Exchange::Up(
                 details.0,
                 details.1,
                 UpReply::Exhausted(permit.details(), ()),
             )),
-            UpReply::Stale(_) => keeper.keep(&Exchange::Up(
-                details.0,
-                details.1,
-                UpReply::Stale(()),
-            )),
-            UpReply::AtEnd(_) => keeper.keep(&Exchange::Up(
-                details.0,
-                details.1,
-                UpReply::AtEnd(()),
-            )),
+            UpReply::Stale(_) => log.put(&Exchange::Up(details.0, details.1, UpReply::Stale(()))),
+            UpReply::AtEnd(_) => log.put(&Exchange::Up(details.0, details.1, UpReply::AtEnd(()))),
         }
     }
 
@@ -111,8 +128,23 @@ impl<S: Drop> Call<S> for UpFailed {
     }
 
     #[inline(always)]
-    fn record<K: Keeper>(details: &Self::Details, reply: &Self::Reply, keeper: &mut K) {
-        keeper.keep(&Exchange::UpFailed(*details, *reply));
+    fn kind(_details: &Self::Details, reply: &Self::Reply) -> CallKind {
+        let answer = match reply {
+            UpFailedReply::Freed => CallAnswer::UpFailedFreed,
+            UpFailedReply::Stale => CallAnswer::UpFailedStale,
+            UpFailedReply::Exhausted => CallAnswer::UpFailedExhausted,
+        };
+        CallKind::short(answer)
+    }
+
+    #[inline(always)]
+    fn numbers(details: &Self::Details, _reply: &Self::Reply, numbers: &mut Numbers) {
+        push_permit(numbers, details);
+    }
+
+    #[inline(never)]
+    fn record(details: &Self::Details, reply: &Self::Reply, log: &mut Log) {
+        log.put(&Exchange::UpFailed(*details, *reply));
     }
 
     fn forfeit(self) -> Self::Reply {
@@ -155,22 +187,39 @@ impl<S: Drop> Call<S> for Release<S> {
     }
 
     #[inline(always)]
-    fn record<K: Keeper>(details: &Self::Details, reply: &Self::Reply, keeper: &mut K) {
+    fn kind(_details: &Self::Details, reply: &Self::Reply) -> CallKind {
+        let answer = match reply {
+            ReleaseReply::Idle => CallAnswer::ReleasedIdle,
+            ReleaseReply::Quarantined => CallAnswer::ReleasedQuarantined,
+            ReleaseReply::Closed(_) => CallAnswer::ReleasedClosed,
+            ReleaseReply::Stale(_) => CallAnswer::ReleaseStale,
+            ReleaseReply::Exhausted(_) => CallAnswer::ReleaseExhausted,
+        };
+        CallKind::short(answer)
+    }
+
+    #[inline(always)]
+    fn numbers(details: &Self::Details, _reply: &Self::Reply, numbers: &mut Numbers) {
+        push_link(numbers, details);
+    }
+
+    #[inline(never)]
+    fn record(details: &Self::Details, reply: &Self::Reply, log: &mut Log) {
         match reply {
-            ReleaseReply::Idle => keeper.keep(&Exchange::Release(*details, ReleaseReply::Idle)),
-            ReleaseReply::Quarantined => keeper.keep(&Exchange::Release(
+            ReleaseReply::Idle => log.put(&Exchange::Release(*details, ReleaseReply::Idle)),
+            ReleaseReply::Quarantined => log.put(&Exchange::Release(
                 *details,
                 ReleaseReply::Quarantined,
             )),
-            ReleaseReply::Closed(_) => keeper.keep(&Exchange::Release(
+            ReleaseReply::Closed(_) => log.put(&Exchange::Release(
                 *details,
                 ReleaseReply::Closed(()),
             )),
-            ReleaseReply::Stale(_) => keeper.keep(&Exchange::Release(
+            ReleaseReply::Stale(_) => log.put(&Exchange::Release(
                 *details,
                 ReleaseReply::Stale(()),
             )),
-            ReleaseReply::Exhausted(_) => keeper.keep(&Exchange::Release(
+            ReleaseReply::Exhausted(_) => log.put(&Exchange::Release(
                 *details,
                 ReleaseReply::Exhausted(()),
             )),
@@ -216,14 +265,26 @@ impl<S: Drop> Call<S> for Close<S> {
     }
 
     #[inline(always)]
-    fn record<K: Keeper>(details: &Self::Details, reply: &Self::Reply, keeper: &mut K) {
+    fn kind(_details: &Self::Details, reply: &Self::Reply) -> CallKind {
+        let answer = match reply {
+            CloseReply::Closed(_) => CallAnswer::Closed,
+            CloseReply::Stale(_) => CallAnswer::CloseStale,
+            CloseReply::Exhausted(_) => CallAnswer::CloseExhausted,
+        };
+        CallKind::short(answer)
+    }
+
+    #[inline(always)]
+    fn numbers(details: &Self::Details, _reply: &Self::Reply, numbers: &mut Numbers) {
+        push_link(numbers, details);
+    }
+
+    #[inline(never)]
+    fn record(details: &Self::Details, reply: &Self::Reply, log: &mut Log) {
         match reply {
-            CloseReply::Closed(_) => keeper.keep(&Exchange::Close(
-                *details,
-                CloseReply::Closed(()),
-            )),
-            CloseReply::Stale(_) => keeper.keep(&Exchange::Close(*details, CloseReply::Stale(()))),
-            CloseReply::Exhausted(_) => keeper.keep(&Exchange::Close(
+            CloseReply::Closed(_) => log.put(&Exchange::Close(*details, CloseReply::Closed(()))),
+            CloseReply::Stale(_) => log.put(&Exchange::Close(*details, CloseReply::Stale(()))),
+            CloseReply::Exhausted(_) => log.put(&Exchange::Close(
                 *details,
                 CloseReply::Exhausted(()),
             )),

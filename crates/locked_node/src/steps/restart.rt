@@ -4,7 +4,10 @@ ghost use Rattle.link_pool.specs.declared.replies.RestartReply.TheVariants as re
 ghost use Rattle.node_core.specs.declared.exchange.Exchange.TheVariants as call;
 
 use crate::call::Call;
-use crate::keeper::Keeper;
+use crate::call_answer::CallAnswer;
+use crate::call_kind::CallKind;
+use crate::log::Log;
+use crate::numbers::Numbers;
 use crate::turn::Woken;
 use node_core::{DatabaseNo, Exchange, NodeCore, RestartReply};
 use pg_ids::Boot;
@@ -49,8 +52,22 @@ impl<S: Drop> Call<S> for Restart {
     }
 
     #[inline(always)]
-    fn record<K: Keeper>(details: &Self::Details, reply: &Self::Reply, keeper: &mut K) {
-        keeper.keep(&Exchange::Restart(*details, *reply));
+    fn kind(_details: &Self::Details, reply: &Self::Reply) -> CallKind {
+        let answer = match reply {
+            RestartReply::Restarted => CallAnswer::Restarted,
+            RestartReply::Exhausted => CallAnswer::RestartExhausted,
+        };
+        CallKind::short(answer)
+    }
+
+    #[inline(always)]
+    fn numbers(details: &Self::Details, _reply: &Self::Reply, numbers: &mut Numbers) {
+        numbers.push(details.get());
+    }
+
+    #[inline(never)]
+    fn record(details: &Self::Details, reply: &Self::Reply, log: &mut Log) {
+        log.put(&Exchange::Restart(*details, *reply));
     }
 
     fn forfeit(self) -> Self::Reply {

@@ -1,3 +1,5 @@
+use Rattle.std.proofs.Common.{ap}
+use Rattle.locked_node.specs.Totals.{all_calls}
 use Rattle.locked_node.specs.Journal.{journal_view}
 use Rattle.answer.proofs.CallLemmas.{may_order, may_reply}
 use Rattle.answer.proofs.decision.ordered.Goals as goal
@@ -6,12 +8,12 @@ pub returns-in-Ok : goal.returns-in-Ok
 returns-in-Ok g c =
     let made = c.in_ok-shared.ensures in
     may_order (journal_view c.args.journal) c.in_ok-shared.caller c.order_behind-order.new.caller
-    (journal_view c.into_journal.result) made.start made.allowance made.totals.all made.none
+    (journal_view c.into_journal.result) made.start made.allowance (ap all_calls made.totals) made.none
     c.into_journal.ensures.whole c.args.clients.now c.args.key c.in-Ok.order c.in-Ok.ensures
 
 pub returns-in-Err : goal.returns-in-Err
 returns-in-Err g c =
     let made = c.in_ok-shared.ensures in
     may_reply (journal_view c.args.journal) c.in_ok-shared.caller c.order_behind-order.new.caller
-    (journal_view c.into_journal.result) made.start made.allowance made.totals.all made.none
+    (journal_view c.into_journal.result) made.start made.allowance (ap all_calls made.totals) made.none
     c.into_journal.ensures.whole c.in-Err.reply c.in-Err.ensures

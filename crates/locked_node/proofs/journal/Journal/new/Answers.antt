@@ -1,5 +1,6 @@
 use Rattle.std.proofs.Common.{[], refl, sym, subst}
 use Rattle.locked_node.specs.Replay.{Replay}
+use Rattle.locked_node.specs.Journal.{IsTallyOf}
 use Rattle.locked_node.proofs.Histories.{tally_none}
 use Rattle.locked_node.proofs.journal.Journal.new.Goals as goal
 
@@ -10,5 +11,5 @@ invariant_of-result g c = record {
   base = c.args.core.view;
   before = refl;
   after = subst (λ t. Replay c.args.core.view t c.args.core.view) (sym c.in_ok-log.ensures.tail) refl;
-  totals = tally_none c.in_ok-log.log.trimmed c.in_ok-log.ensures.trimmed;
+  totals = subst (λ t. IsTallyOf t c.in_ok-log.log.totals) (sym c.in_ok-log.ensures.tail) (tally_none c.in_ok-log.log.totals c.in_ok-log.ensures.totals);
 }

@@ -2,7 +2,8 @@ use Rattle.std.proofs.Common.{rules, ◌≡◌, ◌+◌, ◌≤◌, ℕ, zero, s
 use Rattle.std.specs.Prelude.{slice_index}
 use Rattle.std.proofs.lemmas.List.{length-replicate}
 use Rattle.atomic_table.specs.Table.{opening}
-use Rattle.locked_node.specs.Journal.{JournalView, CALL_LIMIT, log_all}
+use Rattle.locked_node.specs.Journal.{JournalView, CALL_LIMIT}
+use Rattle.locked_node.specs.Totals.{all_calls}
 use Rattle.locked_node.specs.Lock.{IsLocked, first_share}
 use Rattle.locked_node.proofs.Locking.{opens}
 use Rattle.locked_node.proofs.shared.Shared.new.Goals as goal
@@ -15,8 +16,8 @@ pub new-requires : goal.new-requires
 new-requires g c =
     let start : JournalView = c.of-start.result.value in
     let left = c.calls_left-allowance.ensures in
-    let is : log_all start.log ≡ log_all c.args.journal.log = ap (λ (j : JournalView). log_all j.log) c.of-start.ensures in
-    let room : log_all start.log ≤ CALL_LIMIT = omega (arith, left, is) in
+    let is : all_calls start.log.totals ≡ all_calls c.args.journal.log.totals = ap (λ (j : JournalView). all_calls j.log.totals) c.of-start.ensures in
+    let room : all_calls start.log.totals ≤ CALL_LIMIT = omega (arith, left, is) in
     let there : start ∷ [] ≡ c.push.new.self.items = search rules in
     let many : ℕ = 1 + c.slots.result in
     let words : c.deref.result.now ≡ replicate many 0 = search rules in

@@ -1,5 +1,5 @@
 use Rattle.std.proofs.Common.{rules, ◌≡◌, ℕ, length, subst}
-use Rattle.locked_node.proofs.Cells.{AddedTo, added_all}
+use Rattle.locked_node.proofs.Tallies.{AddedTo, added_all}
 use Rattle.locked_node.proofs.tally.Tally.merge.Goals as goal
 
 pub returns : goal.returns
@@ -8,4 +8,4 @@ returns c =
     let same : length c.args.other.now.cells ≡ 654 = search rules in
     let ended : c.loop-i.i ≡ 654 = search rules in
     added_all c.args.self.now c.args.other.now c.loop-i.self long same
-    (subst (λ (n : ℕ). AddedTo n c.args.self.now.cells c.args.other.now.cells c.loop-i.self.cells) ended c.loop-i.invariant) c.requires
+    (subst (λ (n : ℕ). AddedTo 0 n c.args.self.now.cells c.args.other.now.cells c.loop-i.self.cells) ended c.loop-i.invariant) c.requires

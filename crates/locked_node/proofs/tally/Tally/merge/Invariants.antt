@@ -1,5 +1,5 @@
-use Rattle.locked_node.proofs.Cells.{AddedTo}
+use Rattle.locked_node.proofs.Tallies.{AddedTo}
 use Rattle.locked_node.proofs.tally.Tally.merge.Given as goal
 
 abbrev pub invariant-loop-i : goal.invariant-loop-i
-invariant-loop-i l = AddedTo l.i l.fn.self.cells l.other.cells l.self.cells
+invariant-loop-i l = AddedTo 0 l.i l.fn.self.cells l.other.cells l.self.cells
