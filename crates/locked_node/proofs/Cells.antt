@@ -13,7 +13,8 @@ use Rattle.locked_node.specs.Totals.{Row, rows, rows_in, row_at, all_calls, call
 abbrev pub no_row : Row
 no_row = record { calls = 0; sums = [] }
 
--- how many sums each kind has room for: of each answer with a short key or none, and with a long one
+-- how many sums each kind has room for, by answers: first with a short key, or with no key, and
+-- then with a long one
 abbrev rooms : List ℕ → List ℕ → List ℕ
 rooms [] keys = []
 rooms (rest ∷ rests) [] = []

@@ -249,7 +249,8 @@ giving st before found after = Given before after
 
 -- what a caller has is within the limit
 abbrev pub IsWithin : Share → Type 0
-IsWithin v = v.allowance + (sum_by (λ j. all_calls j.log.totals) v.begun + length v.made) ≤ CALL_LIMIT
+IsWithin v =
+    v.allowance + (sum_by (λ j. all_calls j.log.totals) v.begun + length v.made) ≤ CALL_LIMIT
 
 -- the seat holds nothing any more, and made no call
 abbrev pub Returned : Me JournalView Share → Me JournalView Share → Type 0
@@ -324,7 +325,8 @@ pub record JoinsUp (old other new : CallerView) : Type 0 where
 -- a caller's totals are those of its share
 pub record IsTotalOfShare (v : Share) (tally : Tally) : Type 0 where
   pub calls : (kind : ℕ)
-      → calls_at tally kind ≡ sum_by (λ j. calls_at j.log.totals kind) v.begun + calls_in kind v.made
+      → calls_at tally kind
+      ≡ sum_by (λ j. calls_at j.log.totals kind) v.begun + calls_in kind v.made
   pub sums : (kind position : ℕ)
       → SameSum (sum_at tally kind position)
       (sum_by (λ j. sum_at j.log.totals kind position) v.begun + sum_in kind position v.made)

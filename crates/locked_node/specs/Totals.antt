@@ -4,7 +4,7 @@ use Rattle.node_core.specs.declared.exchange.Exchange.{Exchange}
 use Rattle.locked_node.specs.CallNumbers.{kind_of, index_of, numbers_of}
 use Rattle.locked_node.specs.declared.tally.TheConstants.{START}
 use Rattle.locked_node.specs.declared.tally.Tally.{Tally}
-use Rattle.locked_node.specs.declared.call_count.CallCount.{CallCount}
+use Rattle.locked_node.specs.declared.call_note.CallNote.{CallNote}
 
 -- whether a call is of the kind at this place
 abbrev pub is_of : ℕ → Exchange → Bool
@@ -60,10 +60,10 @@ all_calls tally = sum_by (λ row. row.calls) (rows tally)
 abbrev pub SameSum : ℕ → ℕ → Type 0
 SameSum a b = a % 2 ^ 128 ≡ b % 2 ^ 128
 
--- this is counted of a call
-pub record IsCountOf (call : Exchange) (count : CallCount) : Type 0 where
-  pub kind : count.kind ≡ index_of (kind_of call)
-  pub numbers : count.numbers.items ≡ numbers_of call
+-- this was noted of a call: its kind and its numbers
+pub record IsCountOf (call : Exchange) (note : CallNote) : Type 0 where
+  pub kind : note.kind ≡ kind_of call
+  pub numbers : note.numbers.items ≡ numbers_of call
 
 -- a tally of no call
 pub record IsEmpty (tally : Tally) : Type 0 where

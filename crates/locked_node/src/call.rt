@@ -1,14 +1,12 @@
 //! What a call of a node is, whichever step it makes.
-ghost use Rattle.std.specs.Prelude.{◌≡◌, ℕ, [], List, Option, ⊤};
+ghost use Rattle.std.specs.Prelude.{◌≡◌, ℕ, List, Option, ⊤};
 ghost use Rattle.node_core.specs.declared.exchange.Exchange.{Exchange};
 ghost use Rattle.node_core.specs.NodeStep.{IsStep};
-ghost use Rattle.locked_node.specs.CallNumbers.{kind_of, numbers_of};
 ghost use Rattle.locked_node.specs.Journal.{Puts};
+ghost use Rattle.locked_node.specs.Totals.{IsCountOf};
 
-use crate::call_kind::CallKind;
+use crate::call_note::CallNote;
 use crate::log::Log;
-use crate::numbers::Numbers;
-use crate::turn::Woken;
 use node_core::{DatabaseNo, NodeCore};
 
 /// A call of one step, with what it hands in. `S` is the stream of a link.
@@ -46,27 +44,16 @@ pub trait Call<S>: Sized {
         ensures streams { streams self result core.old.stored core.new.stored };
 
     /// The database at which the step may make it another client's turn. No clause says so.
-    fn database(&self, core: &NodeCore<S>) -> Option<DatabaseNo>;
-
-    /// Whom the step wakes, whoever's turn it is. No clause says so.
-    fn woken(reply: &Self::Reply) -> Woken {
-        let _ = reply;
-        Woken::Nobody
+    fn database(&self, core: &NodeCore<S>) -> Option<DatabaseNo> {
+        let _ = core;
+        None
     }
 
-    /// The kind of the call, with its reply.
-    fn kind(details: &Self::Details, reply: &Self::Reply) -> CallKind
-        ensures { result ≡ kind_of (exchange details.now reply.now) };
-
-    /// The numbers of the call, with its reply.
-    fn numbers(details: &Self::Details, reply: &Self::Reply, numbers: &mut Numbers)
-        requires { numbers.old.items ≡ [] }
-        ensures { numbers.new.items ≡ numbers_of (exchange details.now reply.now) };
-
-    /// Puts the call with its reply in a log. Each kind of reply does so in an arm of its own, so
-    /// that no value is built that could be any of them.
-    fn record(details: &Self::Details, reply: &Self::Reply, log: &mut Log)
-        ensures { Puts log.old (exchange details.now reply.now) log.new };
+    /// Puts the call with its reply in a log, and notes what of it is counted, and whom it wakes.
+    /// No clause says whom.
+    fn record(details: &Self::Details, reply: &Self::Reply, log: &mut Log, note: &mut CallNote)
+        ensures put { Puts log.old (exchange details.now reply.now) log.new }
+        ensures count { IsCountOf (exchange details.now reply.now) note.new };
 
     /// Spends what was handed in, where no call is left.
     fn forfeit(self) -> Self::Reply

@@ -19,13 +19,12 @@ ghost use Rattle.node_core.specs.declared.refusal.JoinRefusal.TheVariants as joi
 ghost use Rattle.node_core.specs.declared.refusal.CancelRefusal.TheVariants as cancel;
 
 use crate::call::Call;
-use crate::call_count::CallCount;
+use crate::call_note::CallNote;
 use crate::caller::Caller;
 use crate::shared::Shared;
 use crate::steps::{
     Acquire, Cancel, Close, Ended, Failed, Join, Leave, Release, Restart, Up, UpFailed,
 };
-use crate::turn::Turn;
 use node_core::{
     AcquireReply, CloseReply, DatabaseNo, EndedReply, FailedReply, JoinRefusal, Lease, LeaveReply,
     Order, Pass, Permit, ReleaseReply, RestartReply, Ticket, UpFailedReply, UpReply,
@@ -48,14 +47,13 @@ impl<S: Drop> Shared<S> {
         if caller.allowance == 0 {
             return call.forfeit();
         }
-        let mut count = CallCount::new();
-        let mut turn = Turn::new();
+        let mut note = CallNote::new();
         self.take(rt, &mut caller.seat);
-        let reply = self.make(&mut caller.seat, call, &mut count, &mut turn);
+        let reply = self.make(&mut caller.seat, call, &mut note);
         self.give(&mut caller.seat);
         caller.allowance -= 1;
-        caller.tally.add(&count);
-        self.wake(rt, caller, &turn);
+        caller.tally.add(&note);
+        self.wake(rt, caller, &note.turn);
         reply
     }
 

@@ -3,10 +3,9 @@ ghost use Rattle.std.specs.Prelude.{◌≡◌, ◌+◌, ◌^◌, ◌<◌, ◌≤
 ghost use Rattle.node_core.specs.View.{NodeView, IsView};
 
 use crate::call::Call;
-use crate::call_count::CallCount;
+use crate::call_note::CallNote;
 use crate::log::{Entry, Log};
 use crate::tally::Tally;
-use crate::turn::Turn;
 use circular_buffer::Iter;
 use node_core::NodeCore;
 use std::alloc::{AllocError, Global};
@@ -94,32 +93,24 @@ impl<S: Drop> Journal<S> {
         self.log.totals()
     }
 
-    // Makes a call of any step, where one is left, and keeps it with its reply. Tells what of it is
+    // Makes a call of any step, where one is left, and keeps it with its reply. Notes what of it is
     // counted, and whose turn it is then.
-    #[inline(never)]
-    pub(crate) fn make<C: Call<S>>(
-        &mut self,
-        call: C,
-        count: &mut CallCount,
-        turn: &mut Turn,
-    ) -> C::Reply
-        requires empty { count.old.numbers.items ≡ [] }
+    #[inline(always)]
+    pub(crate) fn make<C: Call<S>>(&mut self, call: C, note: &mut CallNote) -> C::Reply
         requires room { all_calls self.old.log.totals < CALL_LIMIT }
         requires can { C.can_make self.old.view.pools call }
         ensures step { JournalStep (journal_view self.old) (C.exchange (C.handed call) result)
             (journal_view self.new) }
         ensures streams { C.streams call result self.old.stored self.new.stored }
-        ensures count { IsCountOf (C.exchange (C.handed call) result) count.new }
+        ensures count { IsCountOf (C.exchange (C.handed call) result) note.new }
     {
         self.core.incarnation();
         let details = call.details();
         let database = call.database(&self.core);
         let reply = call.make(&mut self.core);
-        count.kind = C::kind(&details, &reply).index();
-        C::numbers(&details, &reply, &mut count.numbers);
-        C::record(&details, &reply, &mut self.log);
-        self.log.count(count);
-        *turn = Turn::after(&self.core, C::woken(&reply), database);
+        C::record(&details, &reply, &mut self.log, note);
+        self.log.count(note);
+        note.turn.pass_on(&self.core, database);
         reply
     }
 
@@ -134,6 +125,6 @@ impl<S: Drop> Journal<S> {
         if self.log.is_full() {
             return call.forfeit();
         }
-        self.make(call, &mut CallCount::new(), &mut Turn::new())
+        self.make(call, &mut CallNote::new())
     }
 }

@@ -3,8 +3,8 @@
 
 mod call;
 mod call_answer;
-mod call_count;
 mod call_kind;
+mod call_note;
 mod caller;
 mod calls;
 mod journal;
@@ -30,4 +30,3 @@ pub use steps::{
     Acquire, Cancel, Close, Ended, Failed, Join, Leave, Release, Restart, Up, UpFailed,
 };
 pub use tally::Tally;
-pub use turn::Woken;

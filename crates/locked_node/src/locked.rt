@@ -1,8 +1,7 @@
 //! A journal as it lies in the lock's table.
 use crate::call::Call;
-use crate::call_count::CallCount;
+use crate::call_note::CallNote;
 use crate::journal::Journal;
-use crate::turn::Turn;
 use node_core::View;
 use std::alloc::{AllocError, Global};
 use std::marker::Model;
@@ -29,23 +28,17 @@ impl<S: Drop> Locked<S> {
     ghost use Rattle.locked_node.specs.Totals.{IsCountOf, calls_at, all_calls};
     ghost use Rattle.locked_node.specs.Lock.{Somewhere};
 
-    /// Makes a call of any step, where one is left. Tells what of it is counted, and whose turn it
+    /// Makes a call of any step, where one is left. Notes what of it is counted, and whose turn it
     /// is then.
     #[inline(always)]
-    pub(crate) fn make<C: Call<S>>(
-        &mut self,
-        call: C,
-        count: &mut CallCount,
-        turn: &mut Turn,
-    ) -> C::Reply
-        requires empty { count.old.numbers.items ≡ [] }
+    pub(crate) fn make<C: Call<S>>(&mut self, call: C, note: &mut CallNote) -> C::Reply
         requires room { all_calls self.old.log.totals < CALL_LIMIT }
         requires can { C.can_make self.old.view.pools call }
         ensures step { JournalStep self.old (C.exchange (C.handed call) result) self.new }
         ensures streams { Somewhere (C.streams call result) }
-        ensures count { IsCountOf (C.exchange (C.handed call) result) count.new }
+        ensures count { IsCountOf (C.exchange (C.handed call) result) note.new }
     {
-        self.journal.make(call, count, turn)
+        self.journal.make(call, note)
     }
 
     /// What the node is.

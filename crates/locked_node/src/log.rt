@@ -1,7 +1,7 @@
 //! The last calls of a node, and the totals of all.
 ghost use Rattle.std.specs.Prelude.{◌≡◌, ◌+◌, ◌<◌, ◌≤◌, [], length, IfOk, MatchBool};
 
-use crate::call_count::CallCount;
+use crate::call_note::CallNote;
 use crate::tally::Tally;
 use circular_buffer::{HeapCircularBuffer, Iter};
 use node_core::Exchange;
@@ -53,7 +53,6 @@ impl Model for Log {
 
 impl Log {
     ghost use Rattle.node_core.specs.declared.exchange.Exchange.{Exchange as CallOf};
-    ghost use Rattle.locked_node.specs.CallNumbers.{KINDS};
     ghost use Rattle.std.specs.Map.Iter.{ShowsInOrder, deref};
     ghost use Rattle.locked_node.specs.Journal.{Puts, CALL_LIMIT, TAIL_LIMIT};
     ghost use Rattle.locked_node.specs.Totals.{IsEmpty, IsCountOf, Counts, all_calls};
@@ -119,17 +118,16 @@ impl Log {
         self.tail.push_back(Entry { call: *call });
     }
 
-    /// Counts a call, of which this is counted.
+    /// Counts a call, of which this was noted.
     #[inline(always)]
-    pub(crate) fn count(&mut self, count: &CallCount)
+    pub(crate) fn count(&mut self, note: &CallNote)
         requires room { all_calls self.old.totals < CALL_LIMIT }
-        requires kind { count.now.kind < KINDS }
-        requires of { (call : CallOf) × IsCountOf call count.now }
+        requires of { (call : CallOf) × IsCountOf call note.now }
         ensures tail { self.new.tail ≡ self.old.tail }
-        ensures totals { (call : CallOf) → IsCountOf call count.now
+        ensures totals { (call : CallOf) → IsCountOf call note.now
             → Counts self.old.totals call self.new.totals }
     {
-        self.totals.add(count);
+        self.totals.add(note);
         self.calls += 1;
     }
 }

@@ -6,13 +6,12 @@ ghost use Rattle.locked_node.specs.Replay.{fixed_of};
 ghost use Rattle.node_core.specs.View.{IsView};
 
 use crate::call::Call;
-use crate::call_count::CallCount;
+use crate::call_note::CallNote;
 use crate::caller::Caller;
 use crate::journal::Journal;
 use crate::locked::Locked;
 use crate::log::MOST;
 use crate::rule::{Both, Give, Hand, Look, Place, Return, Rule, Share, Take};
-use crate::turn::Turn;
 use atomic_table::Table;
 use crossbeam_utils::Backoff;
 use node_core::View;
@@ -29,9 +28,10 @@ const TAKEN: u64 = 1;
 
 const AWAITED: u64 = 2;
 
-// How often a caller looks at a taken lock before it sleeps. It pauses after each look, longer each
-// time: a look takes the lock's word from the caller that has the lock.
-const LOOKS: u32 = 10;
+// How often a caller looks at a taken lock before it sleeps. It pauses before each look, longer
+// each time: a look takes the lock's word from the caller that has the lock, and in a pause that
+// one may make several calls.
+const LOOKS: u32 = 6;
 
 /// A node with its journal, behind a lock.
 #[derive(Drop)]
@@ -152,7 +152,7 @@ impl<S: Drop> Shared<S> {
             == FREE
     }
 
-    // Takes the lock as soon as it is free. Gives up after ten looks.
+    // Takes the lock if it is free at one of six looks.
     fn spin(&self, seat: &mut Place<S>) -> bool
         requires own { seat.old.table_id ≡ self.now }
         requires some { 0 < stake seat.old.me.0 }
@@ -163,10 +163,11 @@ impl<S: Drop> Shared<S> {
     {
         let backoff = Backoff::new();
         for _ in 0..LOOKS {
+            backoff.spin();
+            backoff.spin();
             if self.table.shared.peek(0) == FREE && self.try_take(seat) {
                 return true;
             }
-            backoff.spin();
         }
         false
     }
@@ -238,26 +239,24 @@ impl<S: Drop> Shared<S> {
         shared.load::<Look>(seat, 0);
     }
 
-    // Makes a call of any step on the journal that the seat holds. Tells what of it is counted, and
+    // Makes a call of any step on the journal that the seat holds. Notes what of it is counted, and
     // whose turn it is then.
     #[inline(always)]
     pub(crate) fn make<C: Call<S>>(
         &self,
         seat: &mut Place<S>,
         call: C,
-        count: &mut CallCount,
-        turn: &mut Turn,
+        note: &mut CallNote,
     ) -> C::Reply
         requires own { seat.old.table_id ≡ self.now }
-        requires empty { count.old.numbers.items ≡ [] }
         requires holds { Holds seat.old.me }
         requires can { C.can_make seat.old.me.0.start.view.pools call }
         ensures own { seat.new.table_id ≡ seat.old.table_id }
         ensures calls { Calls seat.old.me (C.exchange (C.handed call) result) seat.new.me }
         ensures streams { Somewhere (C.streams call result) }
-        ensures count { IsCountOf (C.exchange (C.handed call) result) count.new }
+        ensures count { IsCountOf (C.exchange (C.handed call) result) note.new }
     {
-        seat.slot_mut(&self.table.shared, 0).make(call, count, turn)
+        seat.slot_mut(&self.table.shared, 0).make(call, note)
     }
 
     // Gives the lock back, with one call more in the journal.

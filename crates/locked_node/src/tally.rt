@@ -3,8 +3,8 @@ ghost use Rattle.std.specs.Prelude.{◌≡◌, ◌+◌, ◌^◌, ◌<◌, slice_
 ghost use Rattle.locked_node.specs.CallNumbers.{KINDS};
 ghost use Rattle.locked_node.specs.declared.tally.TheConstants.{START};
 
-use crate::call_count::CallCount;
 use crate::call_kind::{CallKind, KINDS};
+use crate::call_note::CallNote;
 use crate::numbers::WIDEST;
 
 // Where the cells of each kind begin, by the kind's place: one for the count of its calls, and then
@@ -17,7 +17,8 @@ const START: [usize; KINDS + 1] = [
     292, 298, 304, 310, 316, 322, // UpFailed
     328, 334, 340, 346, 352, 358, 364, 370, 376, 382, // Release
     388, 394, 400, 406, 412, 418, // Close
-    424, 436, 448, 456, 464, 469, 474, 478, 482, 486, 490, 494, 498, 502, 506, 510, 514, 518, // Cancel
+    424, 436, 448, 456, 464, 469, // Cancel
+    474, 478, 482, 486, 490, 494, 498, 502, 506, 510, 514, 518, // Cancel, refused
     522, 529, 536, 543, 550, 557, 564, 571, // Ended
     578, 585, 592, 599, 606, 613, 620, 627, // Failed
     634, 636, 638, 640, // Restart
@@ -72,15 +73,15 @@ impl Tally {
         &self.cells[START[kind] + 1..START[kind + 1]]
     }
 
-    /// Counts one more call, of which this is counted.
+    /// Counts one more call, of which this was noted.
     #[inline(always)]
-    pub(crate) fn add(&mut self, count: &CallCount)
+    pub(crate) fn add(&mut self, note: &CallNote)
         requires room { all_calls self.old < 2 ^ 127 }
-        requires kind { count.now.kind < KINDS }
-        ensures { (call : CallOf) → IsCountOf call count.now → Counts self.old call self.new }
+        ensures { (call : CallOf) → IsCountOf call note.now → Counts self.old call self.new }
     {
-        let start = start_of(count.kind);
-        let numbers = count.numbers.as_slice();
+        let kind = note.kind.index();
+        let start = start_of(kind);
+        let numbers = note.numbers.as_slice();
         for i in 0..numbers.len() {
             let at = start + 1 + i;
             self.cells[at] = self.cells[at].wrapping_add(u128::from(numbers[i]));

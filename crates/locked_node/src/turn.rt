@@ -4,7 +4,7 @@ use pg_ids::SlotNo;
 
 /// Clients that sleep until it is their turn to get a link.
 #[derive(Clone, Copy, Debug, PartialEq, Eq)]
-pub enum Woken {
+pub(crate) enum Woken {
     /// Nobody is woken.
     Nobody,
     /// The client of this slot is woken.
@@ -21,32 +21,14 @@ pub(crate) struct Turn {
 }
 
 impl Turn {
-    // Nobody's.
+    // A step was made, which may have made it another client's turn at a database.
     #[inline(always)]
-    pub(crate) fn new() -> Turn {
-        Turn {
-            incarnation: 0,
-            woken: Woken::Nobody,
-        }
-    }
-
-    // After a step that wakes somebody, or may have made it another client's turn at a database.
-    #[inline(always)]
-    pub(crate) fn after<S: Drop>(
-        core: &NodeCore<S>,
-        woken: Woken,
-        database: Option<DatabaseNo>,
-    ) -> Turn {
-        let woken = match (woken, database) {
-            (Woken::Nobody, Some(database)) => match core.turn(database) {
-                Some(slot) => Woken::One(slot),
-                None => Woken::Nobody,
-            },
-            _ => woken,
-        };
-        Turn {
-            incarnation: core.incarnation(),
-            woken,
+    pub(crate) fn pass_on<S: Drop>(&mut self, core: &NodeCore<S>, database: Option<DatabaseNo>) {
+        self.incarnation = core.incarnation();
+        if let (Woken::Nobody, Some(database)) = (self.woken, database) {
+            if let Some(slot) = core.turn(database) {
+                self.woken = Woken::One(slot);
+            }
         }
     }
 }

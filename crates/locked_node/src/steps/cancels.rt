@@ -10,16 +10,16 @@ ghost use Rattle.node_core.specs.declared.refusal.CancelRefusal.TheVariants as c
 
 use crate::call::Call;
 use crate::call_answer::CallAnswer;
-use crate::call_kind::CallKind;
+use crate::call_note::CallNote;
 use crate::log::Log;
-use crate::numbers::{Numbers, push_any_key, push_packet, push_server_key, push_ticket};
+use crate::numbers::{push_any_key, push_packet, push_server_key, push_ticket};
 use crate::turn::Woken;
 use cancel_router::RouteRefusal;
 use node_core::{
     CancelRefusal, DatabaseNo, EndedReply, Exchange, FailedReply, NodeCore, Order, Ticket,
     TicketRecord,
 };
-use pg_ids::AnyKey;
+use pg_ids::{AnyKey, Kind};
 
 /// A cancel request with this key comes.
 #[derive(Drop)]
@@ -47,76 +47,45 @@ impl<S: Drop> Call<S> for Cancel {
     }
 
     #[inline(always)]
-    fn database(&self, _core: &NodeCore<S>) -> Option<DatabaseNo> {
-        None
-    }
-
-    #[inline(always)]
-    fn woken(reply: &Self::Reply) -> Woken {
-        match reply {
-            Order::Unwait(slot) => Woken::One(*slot),
-            _ => Woken::Nobody,
-        }
-    }
-
-    #[inline(always)]
-    fn kind(details: &Self::Details, reply: &Self::Reply) -> CallKind {
-        let answer = match reply {
-            Order::Serve(_, _, _) => CallAnswer::Served,
-            Order::Forward(_, _) => CallAnswer::Forwarded,
-            Order::Unwait(_) => CallAnswer::Unwaited,
-            Order::Refused(CancelRefusal::Route(RouteRefusal::Spent)) => CallAnswer::CancelSpent,
-            Order::Refused(CancelRefusal::Route(RouteRefusal::Unknown)) =>
-                CallAnswer::CancelUnknown,
-            Order::Refused(CancelRefusal::Route(RouteRefusal::NoPeer)) => CallAnswer::CancelNoPeer,
-            Order::Refused(CancelRefusal::Route(RouteRefusal::NoLink)) => CallAnswer::CancelNoLink,
-            Order::Refused(CancelRefusal::Busy) => CallAnswer::CancelBusy,
-            Order::Refused(CancelRefusal::Exhausted) => CallAnswer::CancelExhausted,
-        };
-        CallKind {
-            answer,
-            key: details.kind(),
-        }
-    }
-
-    #[inline(always)]
-    fn numbers(details: &Self::Details, reply: &Self::Reply, numbers: &mut Numbers) {
+    fn record(details: &Self::Details, reply: &Self::Reply, log: &mut Log, note: &mut CallNote) {
+        let key = details.kind();
         match reply {
             Order::Serve(ticket, database, server) => {
-                push_ticket(numbers, &ticket.details());
-                numbers.push(u64::from(database.get()));
-                push_any_key(numbers, details);
-                push_server_key(numbers, server);
+                let ticket = ticket.details();
+                log.put(&Exchange::Cancel(*details, Order::Serve(ticket, *database, *server)));
+                note.begin(CallAnswer::Served, key);
+                push_ticket(&mut note.numbers, &ticket);
+                note.numbers.push(u64::from(database.get()));
+                push_any_key(&mut note.numbers, details);
+                push_server_key(&mut note.numbers, server);
             }
             Order::Forward(peer, packet) => {
-                numbers.push(u64::from(peer.get()));
-                push_any_key(numbers, details);
-                push_packet(numbers, packet);
+                log.put(&Exchange::Cancel(*details, Order::Forward(*peer, *packet)));
+                note.begin(CallAnswer::Forwarded, key);
+                note.numbers.push(u64::from(peer.get()));
+                push_any_key(&mut note.numbers, details);
+                push_packet(&mut note.numbers, packet);
             }
             Order::Unwait(slot) => {
-                numbers.push(u64::from(slot.get()));
-                push_any_key(numbers, details);
+                log.put(&Exchange::Cancel(*details, Order::Unwait(*slot)));
+                note.begin(CallAnswer::Unwaited, key);
+                note.turn.woken = Woken::One(*slot);
+                note.numbers.push(u64::from(slot.get()));
+                push_any_key(&mut note.numbers, details);
             }
-            Order::Refused(_) => push_any_key(numbers, details),
-        }
-    }
-
-    #[inline(never)]
-    fn record(details: &Self::Details, reply: &Self::Reply, log: &mut Log) {
-        match reply {
-            Order::Serve(ticket, database, key) => log.put(&Exchange::Cancel(
-                *details,
-                Order::Serve(ticket.details(), *database, *key),
-            )),
-            Order::Forward(peer, packet) => log.put(&Exchange::Cancel(
-                *details,
-                Order::Forward(*peer, *packet),
-            )),
-            Order::Unwait(slot) => log.put(&Exchange::Cancel(*details, Order::Unwait(*slot))),
-            Order::Refused(refusal) => log.put(&Exchange::Cancel(
-                *details,
-                Order::Refused(*refusal),
-            )),
+            Order::Refused(refusal) => {
+                let answer = match refusal {
+                    CancelRefusal::Route(RouteRefusal::Spent) => CallAnswer::CancelSpent,
+                    CancelRefusal::Route(RouteRefusal::Unknown) => CallAnswer::CancelUnknown,
+                    CancelRefusal::Route(RouteRefusal::NoPeer) => CallAnswer::CancelNoPeer,
+                    CancelRefusal::Route(RouteRefusal::NoLink) => CallAnswer::CancelNoLink,
+                    CancelRefusal::Busy => CallAnswer::CancelBusy,
+                    CancelRefusal::Exhausted => CallAnswer::CancelExhausted,
+                };
+                log.put(&Exchange::Cancel(*details, Order::Refused(*refusal)));
+                note.begin(answer, key);
+                push_any_key(&mut note.numbers, details);
+            }
         }
     }
 
@@ -156,24 +125,16 @@ impl<S: Drop> Call<S> for Ended {
     }
 
     #[inline(always)]
-    fn kind(_details: &Self::Details, reply: &Self::Reply) -> CallKind {
+    fn record(details: &Self::Details, reply: &Self::Reply, log: &mut Log, note: &mut CallNote) {
         let answer = match reply {
             EndedReply::Freed => CallAnswer::EndedFreed,
             EndedReply::Counted => CallAnswer::EndedCounted,
             EndedReply::Stale => CallAnswer::EndedStale,
             EndedReply::Exhausted => CallAnswer::EndedExhausted,
         };
-        CallKind::short(answer)
-    }
-
-    #[inline(always)]
-    fn numbers(details: &Self::Details, _reply: &Self::Reply, numbers: &mut Numbers) {
-        push_ticket(numbers, details);
-    }
-
-    #[inline(never)]
-    fn record(details: &Self::Details, reply: &Self::Reply, log: &mut Log) {
         log.put(&Exchange::Ended(*details, *reply));
+        note.begin(answer, Kind::Short);
+        push_ticket(&mut note.numbers, details);
     }
 
     fn forfeit(self) -> Self::Reply {
@@ -216,29 +177,16 @@ impl<S: Drop> Call<S> for Failed {
     }
 
     #[inline(always)]
-    fn kind(_details: &Self::Details, reply: &Self::Reply) -> CallKind {
-        let answer = match reply {
-            FailedReply::Condemned => CallAnswer::FailedCondemned,
-            FailedReply::Closed(_) => CallAnswer::FailedClosed,
-            FailedReply::Stale => CallAnswer::FailedStale,
-            FailedReply::Exhausted => CallAnswer::FailedExhausted,
+    fn record(details: &Self::Details, reply: &Self::Reply, log: &mut Log, note: &mut CallNote) {
+        let (answer, said) = match reply {
+            FailedReply::Condemned => (CallAnswer::FailedCondemned, FailedReply::Condemned),
+            FailedReply::Closed(_) => (CallAnswer::FailedClosed, FailedReply::Closed(())),
+            FailedReply::Stale => (CallAnswer::FailedStale, FailedReply::Stale),
+            FailedReply::Exhausted => (CallAnswer::FailedExhausted, FailedReply::Exhausted),
         };
-        CallKind::short(answer)
-    }
-
-    #[inline(always)]
-    fn numbers(details: &Self::Details, _reply: &Self::Reply, numbers: &mut Numbers) {
-        push_ticket(numbers, details);
-    }
-
-    #[inline(never)]
-    fn record(details: &Self::Details, reply: &Self::Reply, log: &mut Log) {
-        match reply {
-            FailedReply::Condemned => log.put(&Exchange::Failed(*details, FailedReply::Condemned)),
-            FailedReply::Closed(_) => log.put(&Exchange::Failed(*details, FailedReply::Closed(()))),
-            FailedReply::Stale => log.put(&Exchange::Failed(*details, FailedReply::Stale)),
-            FailedReply::Exhausted => log.put(&Exchange::Failed(*details, FailedReply::Exhausted)),
-        }
+        log.put(&Exchange::Failed(*details, said));
+        note.begin(answer, Kind::Short);
+        push_ticket(&mut note.numbers, details);
     }
 
     fn forfeit(self) -> Self::Reply {

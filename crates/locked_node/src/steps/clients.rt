@@ -3,17 +3,17 @@ ghost use Rattle.std.specs.Prelude.{◌≡◌, ◌<◌, [], length, Err};
 ghost use Rattle.link_pool.specs.Said.{acquire_said};
 ghost use Rattle.link_pool.specs.Streams.{AcquireStreams};
 ghost use Rattle.link_pool.specs.declared.replies.AcquireReply.TheVariants as acquire;
-ghost use Rattle.locked_node.specs.CallNumbers.{kind_of, numbers_of};
 ghost use Rattle.locked_node.specs.Journal.{Puts};
+ghost use Rattle.locked_node.specs.Totals.{IsCountOf};
 ghost use Rattle.node_core.specs.declared.exchange.Exchange.TheVariants as call;
 ghost use Rattle.node_core.specs.declared.exchange.LeaveReply.TheVariants as leave;
 ghost use Rattle.node_core.specs.declared.refusal.JoinRefusal.TheVariants as join;
 
 use crate::call::Call;
 use crate::call_answer::CallAnswer;
-use crate::call_kind::CallKind;
+use crate::call_note::CallNote;
 use crate::log::Log;
-use crate::numbers::{Numbers, push_any_key, push_link, push_pass, push_permit};
+use crate::numbers::{push_any_key, push_link, push_pass, push_permit};
 use node_core::{
     AcquireReply, DatabaseNo, Exchange, JoinRefusal, Lease, LeaveReply, NodeCore, Pass, PassRecord,
     Permit,
@@ -57,50 +57,28 @@ impl<S: Drop> Call<S> for Join {
     }
 
     #[inline(always)]
-    fn database(&self, _core: &NodeCore<S>) -> Option<DatabaseNo> {
-        None
-    }
-
-    #[inline(always)]
-    fn kind(details: &Self::Details, reply: &Self::Reply) -> CallKind {
-        let answer = match reply {
-            Ok(_) => CallAnswer::Joined,
-            Err(JoinRefusal::Full) => CallAnswer::JoinFull,
-            Err(JoinRefusal::Exhausted) => CallAnswer::JoinExhausted,
-        };
-        CallKind {
-            answer,
-            key: details.2,
-        }
-    }
-
-    #[inline(always)]
-    fn numbers(details: &Self::Details, reply: &Self::Reply, numbers: &mut Numbers) {
-        if let Ok(pass) = reply {
-            push_pass(numbers, &pass.details());
-        }
-        numbers.push(u64::from(details.0.get()));
-        numbers.push(u64::from(details.1.get()));
-        if let Ok(pass) = reply {
-            push_any_key(numbers, &pass.details().key);
-        }
-    }
-
-    #[inline(never)]
-    fn record(details: &Self::Details, reply: &Self::Reply, log: &mut Log) {
+    fn record(details: &Self::Details, reply: &Self::Reply, log: &mut Log, note: &mut CallNote) {
+        let (database, secret, kind) = details;
         match reply {
-            Ok(pass) => log.put(&Exchange::Join(
-                details.0,
-                details.1,
-                details.2,
-                Ok(pass.details()),
-            )),
-            Err(refusal) => log.put(&Exchange::Join(
-                details.0,
-                details.1,
-                details.2,
-                Err(*refusal),
-            )),
+            Ok(pass) => {
+                let pass = pass.details();
+                log.put(&Exchange::Join(*database, *secret, *kind, Ok(pass)));
+                note.begin(CallAnswer::Joined, *kind);
+                push_pass(&mut note.numbers, &pass);
+                note.numbers.push(u64::from(database.get()));
+                note.numbers.push(u64::from(secret.get()));
+                push_any_key(&mut note.numbers, &pass.key);
+            }
+            Err(refusal) => {
+                let answer = match refusal {
+                    JoinRefusal::Full => CallAnswer::JoinFull,
+                    JoinRefusal::Exhausted => CallAnswer::JoinExhausted,
+                };
+                log.put(&Exchange::Join(*database, *secret, *kind, Err(*refusal)));
+                note.begin(answer, *kind);
+                note.numbers.push(u64::from(database.get()));
+                note.numbers.push(u64::from(secret.get()));
+            }
         }
     }
 
@@ -140,41 +118,25 @@ impl<S: Drop> Call<S> for Leave {
     }
 
     #[inline(always)]
-    fn kind(details: &Self::Details, reply: &Self::Reply) -> CallKind {
-        let answer = match reply {
-            LeaveReply::Left => CallAnswer::Left,
-            LeaveReply::Holding(_) => CallAnswer::LeaveHolding,
-            LeaveReply::Stale => CallAnswer::LeaveStale,
-            LeaveReply::Exhausted => CallAnswer::LeaveExhausted,
+    fn record(details: &Self::Details, reply: &Self::Reply, log: &mut Log, note: &mut CallNote) {
+        let (answer, said) = match reply {
+            LeaveReply::Left => (CallAnswer::Left, LeaveReply::Left),
+            LeaveReply::Holding(again) => (
+                CallAnswer::LeaveHolding,
+                LeaveReply::Holding(again.details()),
+            ),
+            LeaveReply::Stale => (CallAnswer::LeaveStale, LeaveReply::Stale),
+            LeaveReply::Exhausted => (CallAnswer::LeaveExhausted, LeaveReply::Exhausted),
         };
-        CallKind {
-            answer,
-            key: details.key.kind(),
-        }
-    }
-
-    #[inline(always)]
-    fn numbers(details: &Self::Details, reply: &Self::Reply, numbers: &mut Numbers) {
-        push_pass(numbers, details);
+        log.put(&Exchange::Leave(*details, said));
+        note.begin(answer, details.key.kind());
+        push_pass(&mut note.numbers, details);
         if let LeaveReply::Holding(again) = reply {
-            push_pass(numbers, &again.details());
-            push_any_key(numbers, &details.key);
-            push_any_key(numbers, &again.details().key);
-        } else {
-            push_any_key(numbers, &details.key);
+            push_pass(&mut note.numbers, &again.details());
         }
-    }
-
-    #[inline(never)]
-    fn record(details: &Self::Details, reply: &Self::Reply, log: &mut Log) {
-        match reply {
-            LeaveReply::Left => log.put(&Exchange::Leave(*details, LeaveReply::Left)),
-            LeaveReply::Holding(pass) => log.put(&Exchange::Leave(
-                *details,
-                LeaveReply::Holding(pass.details()),
-            )),
-            LeaveReply::Stale => log.put(&Exchange::Leave(*details, LeaveReply::Stale)),
-            LeaveReply::Exhausted => log.put(&Exchange::Leave(*details, LeaveReply::Exhausted)),
+        push_any_key(&mut note.numbers, &details.key);
+        if let LeaveReply::Holding(again) = reply {
+            push_any_key(&mut note.numbers, &again.details().key);
         }
     }
 
@@ -218,63 +180,34 @@ impl<S: Drop> Call<S> for Acquire<'_> {
     }
 
     #[inline(always)]
-    fn kind(details: &Self::Details, reply: &Self::Reply) -> CallKind
-        ensures { result ≡ kind_of (call.Acquire details.now (acquire_said reply.now)) }
+    fn record(details: &Self::Details, reply: &Self::Reply, log: &mut Log, note: &mut CallNote)
+        ensures put { Puts log.old (call.Acquire details.now (acquire_said reply.now)) log.new }
+        ensures count { IsCountOf (call.Acquire details.now (acquire_said reply.now)) note.new }
     {
-        let answer = match reply {
-            AcquireReply::Got(_) => CallAnswer::AcquireGot,
-            AcquireReply::Open(_) => CallAnswer::AcquireOpen,
-            AcquireReply::Waiting => CallAnswer::AcquireWaiting,
-            AcquireReply::Cancelled => CallAnswer::AcquireCancelled,
-            AcquireReply::Holding => CallAnswer::AcquireHolding,
-            AcquireReply::Stale => CallAnswer::AcquireStale,
-            AcquireReply::Exhausted => CallAnswer::AcquireExhausted,
+        let (answer, said) = match reply {
+            AcquireReply::Got(lease) => (
+                CallAnswer::AcquireGot,
+                AcquireReply::Got(lease.details()),
+            ),
+            AcquireReply::Open(permit) => (
+                CallAnswer::AcquireOpen,
+                AcquireReply::Open(permit.details()),
+            ),
+            AcquireReply::Waiting => (CallAnswer::AcquireWaiting, AcquireReply::Waiting),
+            AcquireReply::Cancelled => (CallAnswer::AcquireCancelled, AcquireReply::Cancelled),
+            AcquireReply::Holding => (CallAnswer::AcquireHolding, AcquireReply::Holding),
+            AcquireReply::Stale => (CallAnswer::AcquireStale, AcquireReply::Stale),
+            AcquireReply::Exhausted => (CallAnswer::AcquireExhausted, AcquireReply::Exhausted),
         };
-        CallKind {
-            answer,
-            key: details.key.kind(),
-        }
-    }
-
-    #[inline(always)]
-    fn numbers(details: &Self::Details, reply: &Self::Reply, numbers: &mut Numbers)
-        requires { numbers.old.items ≡ [] }
-        ensures { numbers.new.items ≡ numbers_of (call.Acquire details.now (acquire_said reply.now)) }
-    {
-        push_pass(numbers, details);
+        log.put(&Exchange::Acquire(*details, said));
+        note.begin(answer, details.key.kind());
+        push_pass(&mut note.numbers, details);
         match reply {
-            AcquireReply::Got(lease) => push_link(numbers, &lease.details()),
-            AcquireReply::Open(permit) => push_permit(numbers, &permit.details()),
+            AcquireReply::Got(lease) => push_link(&mut note.numbers, &lease.details()),
+            AcquireReply::Open(permit) => push_permit(&mut note.numbers, &permit.details()),
             _ => {}
         }
-        push_any_key(numbers, &details.key);
-    }
-
-    #[inline(never)]
-    fn record(details: &Self::Details, reply: &Self::Reply, log: &mut Log)
-        ensures { Puts log.old (call.Acquire details.now (acquire_said reply.now)) log.new }
-    {
-        match reply {
-            AcquireReply::Got(lease) => log.put(&Exchange::Acquire(
-                *details,
-                AcquireReply::Got(lease.details()),
-            )),
-            AcquireReply::Open(permit) => log.put(&Exchange::Acquire(
-                *details,
-                AcquireReply::Open(permit.details()),
-            )),
-            AcquireReply::Waiting => log.put(&Exchange::Acquire(*details, AcquireReply::Waiting)),
-            AcquireReply::Cancelled => log.put(&Exchange::Acquire(
-                *details,
-                AcquireReply::Cancelled,
-            )),
-            AcquireReply::Holding => log.put(&Exchange::Acquire(*details, AcquireReply::Holding)),
-            AcquireReply::Exhausted => log.put(&Exchange::Acquire(
-                *details,
-                AcquireReply::Exhausted,
-            )),
-            AcquireReply::Stale => log.put(&Exchange::Acquire(*details, AcquireReply::Stale)),
-        }
+        push_any_key(&mut note.numbers, &details.key);
     }
 
     fn forfeit(self) -> Self::Reply {

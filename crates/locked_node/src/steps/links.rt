@@ -9,14 +9,14 @@ ghost use Rattle.node_core.specs.declared.exchange.Exchange.TheVariants as call;
 
 use crate::call::Call;
 use crate::call_answer::CallAnswer;
-use crate::call_kind::CallKind;
+use crate::call_note::CallNote;
 use crate::log::Log;
-use crate::numbers::{Numbers, push_link, push_permit, push_server_key};
+use crate::numbers::{push_link, push_permit, push_server_key};
 use node_core::{
     CloseReply, DatabaseNo, Exchange, Lease, LinkRecord, NodeCore, Permit, PermitRecord,
     ReleaseReply, UpFailedReply, UpReply,
 };
-use pg_ids::ServerKey;
+use pg_ids::{Kind, ServerKey};
 
 /// A link is open, over this stream, and its server cancels by this key.
 pub struct Up<S>(pub Permit, pub S, pub ServerKey);
@@ -46,48 +46,35 @@ impl<S: Drop> Call<S> for Up<S> {
     }
 
     #[inline(always)]
-    fn database(&self, _core: &NodeCore<S>) -> Option<DatabaseNo> {
-        None
-    }
-
-    #[inline(always)]
-    fn kind(_details: &Self::Details, reply: &Self::Reply) -> CallKind {
-        let answer = match reply {
-            UpReply::Up(_) => CallAnswer::WentUp,
-            UpReply::Exhausted(_, _) => CallAnswer::UpExhausted,
-            UpReply::Stale(_) => CallAnswer::UpStale,
-            UpReply::AtEnd(_) => CallAnswer::UpAtEnd,
-        };
-        CallKind::short(answer)
-    }
-
-    #[inline(always)]
-    fn numbers(details: &Self::Details, reply: &Self::Reply, numbers: &mut Numbers) {
-        push_permit(numbers, &details.0);
+    fn record(details: &Self::Details, reply: &Self::Reply, log: &mut Log, note: &mut CallNote) {
+        let (permit, key) = details;
         match reply {
-            UpReply::Up(lease) => push_link(numbers, &lease.details()),
-            UpReply::Exhausted(again, _) => push_permit(numbers, &again.details()),
-            UpReply::Stale(_) | UpReply::AtEnd(_) => {}
+            UpReply::Up(lease) => {
+                let lease = lease.details();
+                log.put(&Exchange::Up(*permit, *key, UpReply::Up(lease)));
+                note.begin(CallAnswer::WentUp, Kind::Short);
+                push_permit(&mut note.numbers, permit);
+                push_link(&mut note.numbers, &lease);
+            }
+            UpReply::Exhausted(again, _) => {
+                let again = again.details();
+                log.put(&Exchange::Up(*permit, *key, UpReply::Exhausted(again, ())));
+                note.begin(CallAnswer::UpExhausted, Kind::Short);
+                push_permit(&mut note.numbers, permit);
+                push_permit(&mut note.numbers, &again);
+            }
+            UpReply::Stale(_) => {
+                log.put(&Exchange::Up(*permit, *key, UpReply::Stale(())));
+                note.begin(CallAnswer::UpStale, Kind::Short);
+                push_permit(&mut note.numbers, permit);
+            }
+            UpReply::AtEnd(_) => {
+                log.put(&Exchange::Up(*permit, *key, UpReply::AtEnd(())));
+                note.begin(CallAnswer::UpAtEnd, Kind::Short);
+                push_permit(&mut note.numbers, permit);
+            }
         }
-        push_server_key(numbers, &details.1);
-    }
-
-    #[inline(never)]
-    fn record(details: &Self::Details, reply: &Self::Reply, log: &mut Log) {
-        match reply {
-            UpReply::Up(lease) => log.put(&Exchange::Up(
-                details.0,
-                details.1,
-                UpReply::Up(lease.details()),
-            )),
-            UpReply::Exhausted(permit, _) => log.put(&Exchange::Up(
-                details.0,
-                details.1,
-                UpReply::Exhausted(permit.details(), ()),
-            )),
-            UpReply::Stale(_) => log.put(&Exchange::Up(details.0, details.1, UpReply::Stale(()))),
-            UpReply::AtEnd(_) => log.put(&Exchange::Up(details.0, details.1, UpReply::AtEnd(()))),
-        }
+        push_server_key(&mut note.numbers, key);
     }
 
     fn forfeit(self) -> Self::Reply {
@@ -128,23 +115,15 @@ impl<S: Drop> Call<S> for UpFailed {
     }
 
     #[inline(always)]
-    fn kind(_details: &Self::Details, reply: &Self::Reply) -> CallKind {
+    fn record(details: &Self::Details, reply: &Self::Reply, log: &mut Log, note: &mut CallNote) {
         let answer = match reply {
             UpFailedReply::Freed => CallAnswer::UpFailedFreed,
             UpFailedReply::Stale => CallAnswer::UpFailedStale,
             UpFailedReply::Exhausted => CallAnswer::UpFailedExhausted,
         };
-        CallKind::short(answer)
-    }
-
-    #[inline(always)]
-    fn numbers(details: &Self::Details, _reply: &Self::Reply, numbers: &mut Numbers) {
-        push_permit(numbers, details);
-    }
-
-    #[inline(never)]
-    fn record(details: &Self::Details, reply: &Self::Reply, log: &mut Log) {
         log.put(&Exchange::UpFailed(*details, *reply));
+        note.begin(answer, Kind::Short);
+        push_permit(&mut note.numbers, details);
     }
 
     fn forfeit(self) -> Self::Reply {
@@ -187,43 +166,23 @@ impl<S: Drop> Call<S> for Release<S> {
     }
 
     #[inline(always)]
-    fn kind(_details: &Self::Details, reply: &Self::Reply) -> CallKind {
-        let answer = match reply {
-            ReleaseReply::Idle => CallAnswer::ReleasedIdle,
-            ReleaseReply::Quarantined => CallAnswer::ReleasedQuarantined,
-            ReleaseReply::Closed(_) => CallAnswer::ReleasedClosed,
-            ReleaseReply::Stale(_) => CallAnswer::ReleaseStale,
-            ReleaseReply::Exhausted(_) => CallAnswer::ReleaseExhausted,
-        };
-        CallKind::short(answer)
-    }
-
-    #[inline(always)]
-    fn numbers(details: &Self::Details, _reply: &Self::Reply, numbers: &mut Numbers) {
-        push_link(numbers, details);
-    }
-
-    #[inline(never)]
-    fn record(details: &Self::Details, reply: &Self::Reply, log: &mut Log) {
-        match reply {
-            ReleaseReply::Idle => log.put(&Exchange::Release(*details, ReleaseReply::Idle)),
-            ReleaseReply::Quarantined => log.put(&Exchange::Release(
-                *details,
+    fn record(details: &Self::Details, reply: &Self::Reply, log: &mut Log, note: &mut CallNote) {
+        let (answer, said) = match reply {
+            ReleaseReply::Idle => (CallAnswer::ReleasedIdle, ReleaseReply::Idle),
+            ReleaseReply::Quarantined => (
+                CallAnswer::ReleasedQuarantined,
                 ReleaseReply::Quarantined,
-            )),
-            ReleaseReply::Closed(_) => log.put(&Exchange::Release(
-                *details,
-                ReleaseReply::Closed(()),
-            )),
-            ReleaseReply::Stale(_) => log.put(&Exchange::Release(
-                *details,
-                ReleaseReply::Stale(()),
-            )),
-            ReleaseReply::Exhausted(_) => log.put(&Exchange::Release(
-                *details,
+            ),
+            ReleaseReply::Closed(_) => (CallAnswer::ReleasedClosed, ReleaseReply::Closed(())),
+            ReleaseReply::Stale(_) => (CallAnswer::ReleaseStale, ReleaseReply::Stale(())),
+            ReleaseReply::Exhausted(_) => (
+                CallAnswer::ReleaseExhausted,
                 ReleaseReply::Exhausted(()),
-            )),
-        }
+            ),
+        };
+        log.put(&Exchange::Release(*details, said));
+        note.begin(answer, Kind::Short);
+        push_link(&mut note.numbers, details);
     }
 
     fn forfeit(self) -> Self::Reply {
@@ -265,30 +224,15 @@ impl<S: Drop> Call<S> for Close<S> {
     }
 
     #[inline(always)]
-    fn kind(_details: &Self::Details, reply: &Self::Reply) -> CallKind {
-        let answer = match reply {
-            CloseReply::Closed(_) => CallAnswer::Closed,
-            CloseReply::Stale(_) => CallAnswer::CloseStale,
-            CloseReply::Exhausted(_) => CallAnswer::CloseExhausted,
+    fn record(details: &Self::Details, reply: &Self::Reply, log: &mut Log, note: &mut CallNote) {
+        let (answer, said) = match reply {
+            CloseReply::Closed(_) => (CallAnswer::Closed, CloseReply::Closed(())),
+            CloseReply::Stale(_) => (CallAnswer::CloseStale, CloseReply::Stale(())),
+            CloseReply::Exhausted(_) => (CallAnswer::CloseExhausted, CloseReply::Exhausted(())),
         };
-        CallKind::short(answer)
-    }
-
-    #[inline(always)]
-    fn numbers(details: &Self::Details, _reply: &Self::Reply, numbers: &mut Numbers) {
-        push_link(numbers, details);
-    }
-
-    #[inline(never)]
-    fn record(details: &Self::Details, reply: &Self::Reply, log: &mut Log) {
-        match reply {
-            CloseReply::Closed(_) => log.put(&Exchange::Close(*details, CloseReply::Closed(()))),
-            CloseReply::Stale(_) => log.put(&Exchange::Close(*details, CloseReply::Stale(()))),
-            CloseReply::Exhausted(_) => log.put(&Exchange::Close(
-                *details,
-                CloseReply::Exhausted(()),
-            )),
-        }
+        log.put(&Exchange::Close(*details, said));
+        note.begin(answer, Kind::Short);
+        push_link(&mut note.numbers, details);
     }
 
     fn forfeit(self) -> Self::Reply {

@@ -5,12 +5,11 @@ ghost use Rattle.node_core.specs.declared.exchange.Exchange.TheVariants as call;
 
 use crate::call::Call;
 use crate::call_answer::CallAnswer;
-use crate::call_kind::CallKind;
+use crate::call_note::CallNote;
 use crate::log::Log;
-use crate::numbers::Numbers;
 use crate::turn::Woken;
-use node_core::{DatabaseNo, Exchange, NodeCore, RestartReply};
-use pg_ids::Boot;
+use node_core::{Exchange, NodeCore, RestartReply};
+use pg_ids::{Boot, Kind};
 
 /// A new start, with this boot.
 #[derive(Drop)]
@@ -40,34 +39,15 @@ impl<S: Drop> Call<S> for Restart {
     }
 
     #[inline(always)]
-    fn database(&self, _core: &NodeCore<S>) -> Option<DatabaseNo> {
-        None
-    }
-
-    fn woken(reply: &Self::Reply) -> Woken {
-        match reply {
-            RestartReply::Restarted => Woken::All,
-            RestartReply::Exhausted => Woken::Nobody,
-        }
-    }
-
-    #[inline(always)]
-    fn kind(_details: &Self::Details, reply: &Self::Reply) -> CallKind {
-        let answer = match reply {
-            RestartReply::Restarted => CallAnswer::Restarted,
-            RestartReply::Exhausted => CallAnswer::RestartExhausted,
+    fn record(details: &Self::Details, reply: &Self::Reply, log: &mut Log, note: &mut CallNote) {
+        let (answer, woken) = match reply {
+            RestartReply::Restarted => (CallAnswer::Restarted, Woken::All),
+            RestartReply::Exhausted => (CallAnswer::RestartExhausted, Woken::Nobody),
         };
-        CallKind::short(answer)
-    }
-
-    #[inline(always)]
-    fn numbers(details: &Self::Details, _reply: &Self::Reply, numbers: &mut Numbers) {
-        numbers.push(details.get());
-    }
-
-    #[inline(never)]
-    fn record(details: &Self::Details, reply: &Self::Reply, log: &mut Log) {
         log.put(&Exchange::Restart(*details, *reply));
+        note.begin(answer, Kind::Short);
+        note.numbers.push(details.get());
+        note.turn.woken = woken;
     }
 
     fn forfeit(self) -> Self::Reply {

@@ -1,0 +1,43 @@
+//! What is noted of a call as it is made.
+ghost use Rattle.std.specs.Prelude.{◌≡◌, []};
+
+use crate::call_answer::CallAnswer;
+use crate::call_kind::CallKind;
+use crate::numbers::Numbers;
+use crate::turn::{Turn, Woken};
+use pg_ids::Kind;
+
+/// What is noted of a call: its kind and its numbers, which are counted, and whom it wakes.
+#[derive(Drop)]
+pub struct CallNote {
+    pub(crate) kind: CallKind,
+    pub(crate) numbers: Numbers,
+    pub(crate) turn: Turn,
+}
+
+impl CallNote {
+    // Room for what is noted of a call.
+    #[inline(always)]
+    pub(crate) fn new() -> CallNote {
+        CallNote {
+            kind: CallKind::short(CallAnswer::Joined),
+            numbers: Numbers::new(),
+            turn: Turn {
+                incarnation: 0,
+                woken: Woken::Nobody,
+            },
+        }
+    }
+
+    // A call with this answer, and with a key of this kind. Its numbers are to follow. It wakes
+    // nobody.
+    #[inline(always)]
+    pub(crate) fn begin(&mut self, answer: CallAnswer, key: Kind)
+        ensures kind { self.new.kind ≡ record { answer = answer; key = key } }
+        ensures numbers { self.new.numbers.items ≡ [] }
+    {
+        self.kind = CallKind { answer, key };
+        self.numbers.clear();
+        self.turn.woken = Woken::Nobody;
+    }
+}
