@@ -22,6 +22,11 @@ pub enum ListenError {
 }
 
 impl From<AllocError> for ListenError {
+    ghost use Rattle.std.specs.Prelude.{◌≡◌};
+    ghost use Rattle.group_server.specs.declared.group.ListenError.TheVariants.{Memory};
+
+    ghost from_gives = { λ _ error. error ≡ Memory };
+
     fn from(_: AllocError) -> ListenError {
         ListenError::Memory
     }

@@ -152,7 +152,8 @@ impl<S: Drop> Shared<S> {
             == FREE
     }
 
-    // Takes the lock if it is free at one of six looks.
+    // Takes the lock if it is free at one of six looks. Before these it pauses 3, 12 and 48 times,
+    // and then 128 times each.
     fn spin(&self, seat: &mut Place<S>) -> bool
         requires own { seat.old.table_id ≡ self.now }
         requires some { 0 < stake seat.old.me.0 }
