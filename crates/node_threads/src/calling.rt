@@ -1,8 +1,9 @@
 //! A node that serves clients, and who calls it.
-ghost use Rattle.std.specs.Prelude.{◌≡◌, ◌<◌, ◌≤◌, length, slice_get, Some};
+ghost use Rattle.std.specs.Prelude.{◌≡◌, ℕ, ◌<◌, ◌≤◌, length, slice_get, Some};
 ghost use Rattle.std.specs.Option.{ForSome};
 ghost use Rattle.std.specs.Arc.{arc_value};
 ghost use Rattle.node_threads.specs.Balance.{Balanced};
+ghost use Rattle.node_threads.specs.Restarting.{boot_after, RestartsAt};
 
 use crate::restarting::restart;
 use crate::{Admission, Link, Seats, Secrets};
@@ -105,6 +106,8 @@ impl<L: Drop> Calling<L> {
 
     /// Starts the node anew with its next boot, if the process has one left.
     pub fn restart<R: Wait>(&mut self, rt: &R) -> RestartReply
+        ensures restarts { (boot now : ℕ)
+            × RestartsAt (boot_after boot) boot self.old.caller result now self.new.caller }
         ensures balanced { Balanced self.old.caller self.new.caller }
     {
         let mut boot = self.node.boot.lock(rt);
