@@ -1,5 +1,6 @@
--- What the admin console answers to a query (own queries and columns; the messages are those of
--- PostgreSQL manual, "Message Formats").
+-- The answers of the admin console (own queries and columns; PostgreSQL manual, "Message Formats").
+-- `Asks`: which text is which query. `AreRows`: the rows of each query. `Answers`: the messages
+-- that answer a text.
 use Rattle.std.specs.Prelude.{ℕ, zero, suc, ◌≡◌, ◌==◌, ◌⊎◌, Bool, true, false, not, List, [], ◌∷◌, ◌++◌, length, map, filter, flat_map, take, codes, decimal, slice_get, slice_index, IsPermutation, Option, Some, None}
 use Rattle.std.specs.Char.{to_ascii_lowercase}
 use Rattle.std.specs.List.Sorted.{IsNonDecreasingBy}
@@ -41,6 +42,13 @@ IsSameInAnyCase a b = map to_ascii_lowercase a ≡ map to_ascii_lowercase b
 abbrev pub Asks : List ℕ → Query → Type 0
 Asks text query = IsSameInAnyCase text (text_of query)
     ⊎ IsSameInAnyCase text (text_of query ++ codes ";")
+
+-- the rows of a query are of the node's state
+abbrev pub shows_node : Query → Bool
+shows_node Peers = false
+shows_node Links = true
+shows_node Clients = true
+shows_node Cancels = false
 
 -- ---- messages
 

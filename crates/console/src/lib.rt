@@ -12,4 +12,4 @@ mod numbered_row;
 mod peers;
 mod query;
 
-pub use answer::rows;
+pub use answer::{rows, rows_without_view};

@@ -1,4 +1,6 @@
--- The kinds of a call with its answer, and the numbers in it (own).
+-- The kinds of calls, and the numbers in them (own). The kind of a call is its step with its
+-- answer, and the kind of its key. `numbers_of` are the numbers of the values handed in and out, in
+-- order; the kind fixes how many there are.
 use Rattle.std.specs.Prelude.{ℕ, ◌+◌, ◌*◌, List, [], ◌∷◌, ◌++◌, drop, Ok, Err}
 use Rattle.byteorder.specs.Endian.{big_number}
 use Rattle.pg_ids.specs.Key.{key_bytes}

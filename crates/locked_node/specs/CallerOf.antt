@@ -1,4 +1,4 @@
--- What is true of the fields of a caller.
+-- The invariant of the fields of a caller (internal).
 use Rattle.std.specs.Prelude.{◌≡◌, ◌+◌, ◌<◌, ◌≤◌, [], None}
 use Rattle.locked_node.specs.Totals.{all_calls}
 use Rattle.locked_node.specs.Journal.{CALL_LIMIT}

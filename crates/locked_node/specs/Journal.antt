@@ -1,4 +1,6 @@
--- The journal of a node's calls (own).
+-- The journal of a node's calls (own). `JournalStep`: one call more. `Journaled`: the same below
+-- 2^127 calls, and no change at that limit. `HasHistory`: calls from some first state led to the
+-- present one. `trimmed`: how many calls of a kind have left the tail.
 use Rattle.std.specs.Prelude.{ℕ, ◌≡◌, ◌+◌, ◌-◌, ◌^◌, ◌<◌, ◌≤◌, List, Option, [], ◌∷◌, ◌++◌, length, take}
 use Rattle.circular_buffer.specs.Buffer.{keep_last}
 use Rattle.node_core.specs.View.{NodeView, IsView}

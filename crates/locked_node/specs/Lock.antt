@@ -1,4 +1,7 @@
--- The rule of a node's lock (own).
+-- The invariant of a node's lock (own). `IsLocked` holds between any two exchanges of the lock's
+-- word. `CallerStep`: what a call does to its caller, and that the node allows its reply.
+-- `Counted`: the same with allowance left, and no change without. `IsWhole`: what a caller knows
+-- that all others were joined to.
 use Rattle.std.specs.Prelude.{ℕ, ◌≡◌, ◌≢◌, ◌+◌, ◌-◌, ◌*◌, ◌^◌, ◌<◌, ◌≤◌, ◌⊎◌, List, [], ◌∷◌, ◌++◌, length, drop, slice_index, slice_get, sum_by, All, AllPairs, Some, None}
 use Rattle.std.specs.List.{AllZip}
 use mathlib.Core.Option.{some, none}

@@ -1,4 +1,6 @@
--- What a list of calls makes of a node (own).
+-- What a list of calls makes of a node (own). `Replay first calls last`: views from the first to
+-- the last, one step for each call with its reply. `IsPossible`: some state of this node allows the
+-- reply.
 use Rattle.std.specs.Prelude.{ℕ, ◌≡◌, List, [], ◌∷◌}
 use Rattle.node_core.specs.View.{NodeView, IsView}
 use Rattle.node_core.specs.declared.exchange.Exchange.{Exchange}

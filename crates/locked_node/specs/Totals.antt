@@ -1,4 +1,4 @@
--- Calls counted by their kind, with the sums of their numbers (own).
+-- Calls counted by their kind, with the sums of their numbers modulo 2^128 (own).
 use Rattle.std.specs.Prelude.{ℕ, ◌≡◌, ◌+◌, ◌%◌, ◌^◌, ◌==◌, Bool, List, [], ◌∷◌, slice_index, slice_range, slice_index_or, if◌then◌else◌, count_by, sum_by}
 use Rattle.node_core.specs.declared.exchange.Exchange.{Exchange}
 use Rattle.locked_node.specs.CallNumbers.{kind_of, index_of, numbers_of}

@@ -13,6 +13,7 @@ use crate::turn::{Turn, Woken};
 use lease::Pass;
 use pg_ids::SlotNo;
 use std::sync::Wait;
+use std::time::Duration;
 
 // What a slot's word says of its client: it was called since it last waited, or it sleeps;
 // otherwise neither.
@@ -21,6 +22,9 @@ const CALLED: u64 = 1;
 const ASLEEP: u64 = 2;
 
 const STATES: u64 = 4;
+
+// How long a client sleeps at most, in milliseconds.
+const LONGEST_SLEEP: u64 = 500;
 
 // The word of an incarnation in which the client does this.
 fn word_of(incarnation: u64, state: u64) -> u64 {
@@ -106,9 +110,10 @@ impl<S: Drop> Shared<S> {
     }
 
     /// Sleeps until it may be the turn of the client of a pass: a link is idle or a place is free
-    /// and nobody waits before it, its wait was cancelled, or the node was started anew. It may
-    /// also return for no reason, so ask for a link again, and wait again if there is none. It is
-    /// no call of the node: it takes no lock and isn't counted.
+    /// and nobody waits before it, its wait was cancelled, or the node was started anew. It returns
+    /// after 500 milliseconds at the latest, and may return for no reason, so ask for a link again,
+    /// and wait again if there is none. It is no call of the node: it takes no lock and isn't
+    /// counted.
     ///
     /// A client that asks and then waits misses no turn that came in between. Steps that make it
     /// somebody's turn wake that client alone.
@@ -123,8 +128,9 @@ impl<S: Drop> Shared<S> {
         self.sleep(rt, &mut caller.seat, word, pass.incarnation);
     }
 
-    // Sleeps on a slot's word until its client of this incarnation is called, or another
-    // incarnation has begun.
+    // Sleeps on a slot's word, for a limited time, until its client of this incarnation is called
+    // or another incarnation has begun. The client doesn't sleep from then on, and whoever finds
+    // its word so calls it without waking it.
     fn sleep<R: Wait>(&self, rt: &R, seat: &mut Place<S>, word: usize, incarnation: u64)
         requires own { seat.old.table_id ≡ self.now }
         requires word { (word ≢ 0) × (word < self.now.words) }
@@ -133,19 +139,23 @@ impl<S: Drop> Shared<S> {
     {
         let called = word_of(incarnation, CALLED);
         let asleep = word_of(incarnation, ASLEEP);
+        let expected = (asleep % (1 << 32)) as u32;
+        let longest = Duration::from_millis(LONGEST_SLEEP);
+        let mut slept = false;
         for _ in rt.forever() {
             let found = self.table.shared.peek(word);
             if found / STATES > incarnation {
                 return;
             }
-            if found == called {
+            if slept || found == called {
                 if self.change(seat, word, found, word_of(incarnation, 0)) {
                     return;
                 }
             } else if found == asleep || self.change(seat, word, found, asleep) {
                 self.table
                     .shared
-                    .park(rt, word, (asleep % (1 << 32)) as u32);
+                    .park_timeout(rt, word, expected, longest);
+                slept = true;
             }
         }
         unreachable!()

@@ -1,4 +1,4 @@
--- The bytes of a buffer.
+-- The bytes in the buffer of a `Flow` (internal).
 use Rattle.std.specs.Prelude.{ℕ, List, ◌-◌, drop, take}
 use Rattle.pg_frames.specs.declared.buffer.Buffer.{Buffer}
 

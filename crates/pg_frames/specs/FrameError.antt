@@ -1,4 +1,4 @@
--- The numbers of the errors (own).
+-- Numbers of the errors in frames, 10 to 13 (own).
 use Rattle.std.specs.Prelude.{ℕ}
 use Rattle.pg_frames.specs.declared.error.FrameError.{FrameError}
 use Rattle.pg_frames.specs.declared.error.FrameError.TheVariants.{BadLength, TooLong, BadType, Memory}

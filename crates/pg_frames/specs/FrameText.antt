@@ -1,5 +1,8 @@
--- The text of frames, and the cutting of a stream into frames (PostgreSQL manual, "Messaging
--- Overview" and "Message Formats"; the greatest length field is own).
+-- Frames, and how a byte stream is cut into them (PostgreSQL manual, "Messaging Overview" and
+-- "Message Formats"; the greatest length is own). `text` gives the bytes of a frame. `IsFrame`: its
+-- type is an ASCII letter or digit and its length is in range. `Cuts stream frames rest`: the
+-- stream is the bytes of these frames, and then a rest that begins with no frame. `fault_at` is the
+-- fault at the front of a rest.
 use Rattle.std.specs.Prelude.{ℕ, ◌≡◌, ◌+◌, ◌≤◌, Bool, List, [], ◌∷◌, ◌++◌, length, IsTrue, not, nat_lt, if◌then◌else◌, Option, Some, None, Result, Ok, Err}
 use Rattle.std.specs.List.{AllByRecursion, flat_map}
 use Rattle.std.specs.Char.{is_ascii_alphanumeric}

@@ -1,4 +1,4 @@
--- The front of a frame, as the code reads it.
+-- The first five bytes of a frame, as the code reads them (internal).
 use Rattle.std.specs.Prelude.{ℕ, ◌≡◌, ◌≤◌, List, length, drop, slice_index, IsTrue}
 use Rattle.byteorder.specs.Endian.{big_number}
 use Rattle.pg_frames.specs.declared.header.Header.{Header}

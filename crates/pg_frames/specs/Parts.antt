@@ -1,4 +1,5 @@
--- What is handed out of a stream of frames that is passed on in pieces (own).
+-- That the pieces handed out of a stream are the heads, parts and tails of its frames, in order
+-- (own): `HandsOut`.
 use Rattle.std.specs.Prelude.{ℕ, ◌≡◌, ◌+◌, ◌<◌, ◌⊎◌, List, [], ◌∷◌, ◌++◌, length, map, Option, None, Some}
 use Rattle.std.specs.List.{AllByRecursion, flat_map}
 use Rattle.pg_frames.specs.declared.frame.Frame.{Frame}

@@ -1,5 +1,5 @@
--- Frames that are handed out in pieces (own; the frames are those of PostgreSQL manual, "Message
--- Formats").
+-- What a `Flow` hands out of the bytes that it was fed (own): heads, parts of bodies, and tails.
+-- `Hands` relates the state before a piece, the piece, and the state after it.
 use Rattle.std.specs.Prelude.{ℕ, ◌≡◌, ◌+◌, ◌-◌, ◌<◌, ◌≤◌, List, [], ◌∷◌, ◌++◌, length, drop, IsTrue, Option, Some, None, Result, Ok, Err, unwrap_or}
 use Rattle.byteorder.specs.Endian.{big_bytes}
 use Rattle.pg_frames.specs.declared.error.FrameError.{FrameError}

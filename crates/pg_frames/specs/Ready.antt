@@ -1,4 +1,4 @@
--- How a cutter keeps what was fed: the whole frames first, then the rest.
+-- How a cutter keeps what it was fed: the whole frames first, then the rest (internal).
 use Rattle.std.specs.Prelude.{ℕ, ◌≡◌, List, ◌++◌, length, drop}
 use Rattle.pg_frames.specs.declared.frame.Frame.{Frame}
 use Rattle.pg_frames.specs.FrameText.{text, texts, IsFrame, Cuts}

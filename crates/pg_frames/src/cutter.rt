@@ -12,6 +12,9 @@ use bytes::BytesMut;
 use std::alloc::Global;
 use std::marker::Model;
 
+// How many bytes of memory a cutter keeps at most once all was handed out.
+const KEPT: usize = 16_384;
+
 /// What was fed of a stream and isn't handed out yet. In contracts it is these bytes.
 #[derive(Drop)]
 pub struct Cutter {
@@ -79,7 +82,8 @@ impl Cutter {
         fault_after(self.bytes.as_slice(), self.ready)
     }
 
-    /// Hands out the next frame, if it is whole. The only error is `Memory`.
+    /// Hands out the next frame, if it is whole. The only error is `Memory`. Once all was handed
+    /// out, at most 16,384 bytes of memory are kept.
     pub fn next(&mut self) -> Result<Option<Frame>, FrameError>
         ensures frame { IfOk result (λ found. IfSome found
             (λ frame. IsFrame frame × (self.old ≡ text frame ++ self.new))) }
@@ -94,6 +98,7 @@ impl Cutter {
         let len = HEADER_LEN + frame.body.len();
         self.bytes.advance(len);
         self.ready -= len;
+        give_back(&mut self.bytes, self.alloc);
         Ok(Some(frame))
     }
 
@@ -102,6 +107,27 @@ impl Cutter {
         ensures { result.now ≡ self.now }
     {
         self.bytes.as_slice()
+    }
+
+    /// How many bytes it has memory for, those that aren't handed out among them.
+    pub fn capacity(&self) -> usize
+        ensures { length self.now ≤ result }
+    {
+        self.bytes.capacity()
+    }
+}
+
+// An empty buffer is filled from its start again, and frees its memory if that is large.
+fn give_back(bytes: &mut BytesMut, alloc: Global)
+    ensures items { bytes.new.items ≡ bytes.old.items }
+    ensures small { bytes.old.items ≡ [] → bytes.new.spare ≤ 16384 }
+{
+    if !bytes.is_empty() {
+        return;
+    }
+    bytes.clear();
+    if bytes.capacity() > KEPT {
+        *bytes = BytesMut::new(alloc);
     }
 }
 

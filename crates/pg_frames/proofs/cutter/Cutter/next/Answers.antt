@@ -33,10 +33,13 @@ pub invariant_of-self : goal.invariant_of-self
 invariant_of-self c =
     let says = c.in_ok-frame.ensures in
     let next = next_read c.self.invariant (omega arith) c.as_slice.ensures says.kind says.body in
-    rw (c.advance.ensures.items, c.len-len.ensures) next.left
+    rw (c.give_back.ensures.items, c.advance.ensures.items, c.len-len.ensures) next.left
 
 pub returns-clause-frame : goal.returns-clause-frame
 returns-clause-frame c =
     let says = c.in_ok-frame.ensures in
-    let next = next_read c.self.invariant (omega arith) c.as_slice.ensures says.kind says.body in
-    (next.is, rw (c.advance.ensures.items, c.len-len.ensures, ← c.self.view_is) next.whole)
+    let next = next_read c.self.invariant (omega arith) c.as_slice.ensures says.kind says.body in (
+      next.is,
+      rw (c.give_back.ensures.items, c.advance.ensures.items, c.len-len.ensures, ← c.self.view_is)
+          next.whole,
+    )
