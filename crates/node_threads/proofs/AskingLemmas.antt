@@ -11,8 +11,8 @@ use Rattle.client_state.specs.Session.{Session}
 use Rattle.client_state.specs.ClientMessage.{client_message}
 use Rattle.client_state.specs.declared.client_message.ClientMessage.{ClientMessage}
 use Rattle.client_state.specs.declared.client_message.ClientMessage.TheVariants as message
-use Rattle.node_threads.specs.declared.asking.Found.{Found}
-use Rattle.node_threads.specs.declared.asking.Found.TheVariants.{More, Request, End}
+use Rattle.node_threads.specs.declared.session.requests.Found.{Found}
+use Rattle.node_threads.specs.declared.session.requests.Found.TheVariants.{More, Request, End}
 use Rattle.node_threads.specs.StreamCalls.{SomeCalls, Read, ReadToEnd}
 use Rattle.node_threads.specs.Asking.{IsError, AreGathered, Asks, request_of, Says, Faulty, Silent, NoMemory}
 use Rattle.node_threads.specs.Progress.{asking}

@@ -45,8 +45,8 @@ use Rattle.peer_forward.specs.declared.outcome.Outcome.{Outcome}
 use Rattle.peer_forward.specs.declared.outcome.Outcome.TheVariants as outcome
 use Rattle.client_state.specs.Session.{Session}
 use Rattle.client_state.specs.Acts.{start}
-use Rattle.node_threads.specs.declared.stayed.Stayed.{Stayed}
-use Rattle.node_threads.specs.declared.stayed.Stayed.TheVariants as stayed
+use Rattle.node_threads.specs.declared.session.outcome.Stayed.{Stayed}
+use Rattle.node_threads.specs.declared.session.outcome.Stayed.TheVariants as stayed
 use Rattle.node_threads.specs.Progress.{asking}
 use Rattle.node_threads.specs.Turn.{handed_in, GoesOnWithout}
 use Rattle.node_threads.specs.Desks.{reported, Tells}

@@ -15,8 +15,8 @@ use Rattle.client_state.specs.declared.act.Act.TheVariants.{Release as ReleaseAc
 use Rattle.client_state.specs.LinkMessage.{status_of}
 use Rattle.client_state.specs.declared.link_message.Status.{Status}
 use Rattle.client_state.specs.declared.link_message.Status.TheVariants.{Idle, InTransaction, Unknown}
-use Rattle.node_threads.specs.declared.stayed.Stayed.{Stayed}
-use Rattle.node_threads.specs.declared.stayed.Stayed.TheVariants.{End}
+use Rattle.node_threads.specs.declared.session.outcome.Stayed.{Stayed}
+use Rattle.node_threads.specs.declared.session.outcome.Stayed.TheVariants.{End}
 use Rattle.node_threads.specs.StreamCalls.{SomeCalls, Wrote, WroteSome}
 use Rattle.node_threads.specs.Asking.{IsError}
 use Rattle.node_threads.specs.Replying.{IsPassedOn, ReplyEnd, Ready, Unclear, Unfit, Untold, heard, passed_on, ReadsReply, WritesReply, ready_outcome}

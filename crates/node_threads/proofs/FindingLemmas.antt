@@ -9,8 +9,8 @@ use Rattle.client_state.specs.declared.act.Act.{Act}
 use Rattle.client_state.specs.declared.act.Act.TheVariants.{ToLink, ToClient, Need, Release, Close, End as Ends}
 use Rattle.client_state.specs.declared.client_message.ClientMessage.{ClientMessage}
 use Rattle.client_state.specs.declared.client_message.ClientMessage.TheVariants as message
-use Rattle.node_threads.specs.declared.asking.Found.{Found}
-use Rattle.node_threads.specs.declared.asking.Found.TheVariants.{More, Request, End}
+use Rattle.node_threads.specs.declared.session.requests.Found.{Found}
+use Rattle.node_threads.specs.declared.session.requests.Found.TheVariants.{More, Request, End}
 use Rattle.node_threads.specs.Asking.{IsSaid}
 use Rattle.node_threads.specs.Progress.{asking}
 use Rattle.node_threads.specs.Finding.{gathering, Comes, Finds}

@@ -15,9 +15,9 @@ use Rattle.client_state.specs.Text.{is_one_of}
 use Rattle.client_state.specs.LinkMessage.{link_message}
 use Rattle.client_state.specs.declared.link_message.LinkMessage.{LinkMessage}
 use Rattle.client_state.specs.declared.link_message.LinkMessage.TheVariants.{PassOn, Ready as ReadyHead, Refused as RefusedHead}
-use Rattle.node_threads.specs.declared.place.Place.{Place}
-use Rattle.node_threads.specs.declared.place.Place.TheVariants.{Between, Inside, AtReady, Status}
-use Rattle.node_threads.specs.declared.place.Handed.{Handed}
+use Rattle.node_threads.specs.declared.session.place.Place.{Place}
+use Rattle.node_threads.specs.declared.session.place.Place.TheVariants.{Between, Inside, AtReady, Status}
+use Rattle.node_threads.specs.declared.session.place.Handed.{Handed}
 use Rattle.node_threads.specs.Replying.{IsPassedOn}
 use Rattle.node_threads.specs.Progress.{asking, IsShown, HandedOut, HandedLast, HandedUnfit, HandsOut, KeepsSession, HeadMeans, PieceMeans, after_part, after_tail}
 use Rattle.node_threads.proofs.CallLists.{each-append}

@@ -16,11 +16,11 @@ use Rattle.link_state.specs.declared.head.Head.TheVariants as meaning
 use Rattle.link_state.specs.declared.part.Part.TheVariants.{Number, Key, Status}
 use Rattle.link_state.specs.Message.{head_of, part_of}
 use Rattle.link_state.specs.Login.{Login, GoOn, IsUpAt, HasRead, HasReadHead, Reaches, ReadsOn, body_part}
-use Rattle.node_threads.specs.declared.login_place.LoginPlace.{LoginPlace}
-use Rattle.node_threads.specs.declared.login_place.LoginPlace.TheVariants.{Between, Passing, Reading, Up}
-use Rattle.node_threads.specs.declared.login_place.Taken.{Taken}
-use Rattle.node_threads.specs.declared.login_place.Taken.TheVariants.{More, Done, Failed}
-use Rattle.node_threads.specs.declared.login_place.Mark.TheVariants.{Part}
+use Rattle.node_threads.specs.declared.login.place.LoginPlace.{LoginPlace}
+use Rattle.node_threads.specs.declared.login.place.LoginPlace.TheVariants.{Between, Passing, Reading, Up}
+use Rattle.node_threads.specs.declared.login.place.Taken.{Taken}
+use Rattle.node_threads.specs.declared.login.place.Taken.TheVariants.{More, Done, Failed}
+use Rattle.node_threads.specs.declared.login.place.Mark.TheVariants.{Part}
 use Rattle.node_threads.specs.StreamCalls.{SomeCalls, Wrote, Read}
 use Rattle.node_threads.specs.LoggingIn.{ReadsLogin, LogsIn, IsOpen, OfEach, IsAt, HasCome, IsDone, Takes, TakesBody, Handed, frame_of, mark_of, after_tail}
 use Rattle.node_threads.proofs.CallLists.{Makes-append, Read-append, Read-nothing, each-append}

@@ -22,8 +22,8 @@ use Rattle.startup.specs.declared.startup_error.StartupError.TheVariants.{Memory
 use Rattle.startup.specs.declared.first.First.{First}
 use Rattle.startup.specs.declared.first.First.TheVariants as first
 use Rattle.client_state.specs.Acts.{fatal}
-use Rattle.node_threads.specs.declared.opening.Opened.{Opened}
-use Rattle.node_threads.specs.declared.opening.Opened.TheVariants.{Session, Cancel, Over}
+use Rattle.node_threads.specs.declared.login.first_packets.Opened.{Opened}
+use Rattle.node_threads.specs.declared.login.first_packets.Opened.TheVariants.{Session, Cancel, Over}
 use Rattle.node_threads.specs.StreamCalls.{given, IsDone, IsWrite, IsFailedWrite, IsRead, Wrote, WroteSome, Read, SomeCalls}
 use Rattle.node_threads.specs.Opening.{Negotiation, Ssl, Gss, packet_of, Asks, Negotiated, WritesError, IsRefusedFor, EndsBy, Ends, Opens, Begins, IsSession}
 use Rattle.node_threads.proofs.CallLists.{Makes-append, taken-append, given-append, each-append}

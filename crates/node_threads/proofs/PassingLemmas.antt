@@ -3,9 +3,9 @@ use Rattle.std.proofs.Common.{◌≡◌, IfSome, ℕ, ◌≤◌, List, [], ◌++
 use Rattle.peer_forward.specs.Calls.{Call, Effect, Makes}
 use Rattle.pg_frames.specs.Passage.{Passage, head_text}
 use Rattle.client_state.specs.Acts.{ready_text}
-use Rattle.node_threads.specs.declared.place.Place.{Place}
-use Rattle.node_threads.specs.declared.place.Place.TheVariants.{Between}
-use Rattle.node_threads.specs.declared.stayed.Stayed.{Stayed}
+use Rattle.node_threads.specs.declared.session.place.Place.{Place}
+use Rattle.node_threads.specs.declared.session.place.Place.TheVariants.{Between}
+use Rattle.node_threads.specs.declared.session.outcome.Stayed.{Stayed}
 use Rattle.node_threads.specs.StreamCalls.{SomeCalls, Wrote, Read}
 use Rattle.node_threads.specs.Replying.{ReplyEnd, Ready, Unclear, Unfit, Faulty, Lost, Cut, Untold, ReadsReply, WritesReply}
 use Rattle.node_threads.specs.Progress.{HandedOut, HandedLast, HandedUnfit, Finishes, EndsHere, GoesOn}

@@ -1,5 +1,5 @@
 -- A reply is passed on as far as it was handed out, and more of it is read, or it ends.
-use Rattle.std.proofs.Common.{◌≡◌, ◌≢◌, ◌⊎◌, inl, inr, true, is_some, ℕ, ◌+◌, ◌-◌, ◌<◌, List, [], ◌∷◌, ◌++◌, length, take, drop, Option, Some, None, refl, sym, ap, ◌∙◌, subst, arith, append_assoc, append-nil, unwrap_or}
+use Rattle.std.proofs.Common.{◌≡◌, ◌≢◌, ◌⊎◌, inl, inr, true, false, is_some, ℕ, ◌+◌, ◌-◌, ◌<◌, List, [], ◌∷◌, ◌++◌, length, take, drop, Option, Some, None, refl, sym, ap, ◌∙◌, subst, arith, append_assoc, append-nil, unwrap_or}
 use Rattle.std.proofs.lemmas.Bool.{false≢true}
 use Rattle.std.proofs.lemmas.List.{drop_all}
 use Rattle.std.specs.List.{AllByRecursion}
@@ -9,10 +9,10 @@ use Rattle.pg_frames.specs.declared.error.FrameError.{FrameError}
 use Rattle.pg_frames.specs.FrameText.{text, texts, IsFrame, BeginsNoFrame, fault_at, HasFault}
 use Rattle.pg_frames.specs.Passage.{Passage, head_text, after, fed, forgotten, HasNoNext, BeginsNoHead}
 use Rattle.startup.specs.declared.error_code.ErrorCode.TheVariants.{ConnectionFailure}
-use Rattle.node_threads.specs.declared.place.Place.{Place}
-use Rattle.node_threads.specs.declared.place.Place.TheVariants.{Between, Inside, AtReady, Status}
-use Rattle.node_threads.specs.declared.stayed.Stayed.{Stayed}
-use Rattle.node_threads.specs.declared.stayed.Stayed.TheVariants.{End}
+use Rattle.node_threads.specs.declared.session.place.Place.{Place}
+use Rattle.node_threads.specs.declared.session.place.Place.TheVariants.{Between, Inside, AtReady, Status}
+use Rattle.node_threads.specs.declared.session.outcome.Stayed.{Stayed}
+use Rattle.node_threads.specs.declared.session.outcome.Stayed.TheVariants.{End}
 use Rattle.node_threads.specs.StreamCalls.{Wrote, WroteSome, IsFailedRead}
 use Rattle.node_threads.specs.Asking.{IsError}
 use Rattle.node_threads.specs.Replying.{Faulty, Lost, Cut, Untold, IsForClient}
@@ -191,11 +191,12 @@ lost_at : (stream written : List ℕ) (place : Place) (passage : Passage) (rest 
     (call : Call) (tells : List Call) (reply : List ℕ) (stayed : Stayed)
     (out : HandedOut stream written place passage) → out.shown ≡ []
     → withheld place ++ passage.bytes ≡ rest → BeginsNoHead rest ⊎ (rest ≡ head_text 90 5)
+    → fault_at rest ≡ None
     → Wrote (take (length passage.passed - length (withheld place)) passage.passed) tells
     → IsFailedRead call → IsError ConnectionFailure reply → stayed ≡ End reply
     → EndsHere stream written (call ∷ []) tells stayed
-lost_at stream written place passage rest call tells reply stayed out shown_is rest_is unbegun told
-    failed error is = (
+lost_at stream written place passage rest call tells reply stayed out shown_is rest_is unbegun
+    sound told failed error is = (
       Lost rest,
       ends_with stream written out.frames (Lost rest) out.front (call ∷ []) tells out.each
           (out.stream_is ∙ ap (λ xs. texts out.frames ++ (xs ++ (withheld place ++ passage.bytes)))
@@ -205,32 +206,49 @@ lost_at stream written place passage rest call tells reply stayed out shown_is r
           ∙ append-nil (texts out.frames))
           (subst (λ xs. Wrote xs tells) (front_is passage.passed out.front (withheld place)
           (length (withheld place)) out.passed_is refl) told),
-      (unbegun, (reply, error, is)),
+      (unbegun, sound, (reply, error, is)),
     )
 
-pub lost_ends : (stream written : List ℕ) (place : Place) (passage : Passage) (count : ℕ)
+-- the head of a ReadyForQuery is no fault
+no_fault-ready : fault_at (head_text 90 5) ≡ None
+unfolding fault_at
+no_fault-ready = refl
+
+-- no fault was found
+none_found : (found : Option FrameError) → is_some found ≡ false → found ≡ None
+none_found None clean = refl
+none_found (Some fault) clean = absurd (false≢true (sym clean))
+
+pub lost_ends : (stream written : List ℕ) (place : Place) (passage : Passage)
+    (found : Option FrameError) (count : ℕ)
     (call : Call) (tells : List Call) (reply : List ℕ) (stayed : Stayed) → place ≢ Inside
-    → count ≡ length (withheld place) → HasNoNext passage.left passage.bytes
+    → count ≡ length (withheld place) → is_some found ≡ false → HasFault (after passage) found
+    → HasNoNext passage.left passage.bytes
     → Wrote (take (length passage.passed - count) passage.passed) tells → IsFailedRead call
     → IsError ConnectionFailure reply → stayed ≡ End reply
     → HandedOut stream written place passage → EndsHere stream written (call ∷ []) tells stayed
-lost_ends stream written Between passage count call tells reply stayed outside count_is dry told
-    failed error is out =
+lost_ends stream written Between passage found count call tells reply stayed outside count_is clean
+    has dry told failed error is out =
+    let unbegun : BeginsNoHead passage.bytes =
+    subst (λ l. HasNoNext l passage.bytes) out.is_shown.0 dry in
+    let here : HasFault passage.bytes found =
+    subst (λ l. HasFault (drop (unwrap_or l 0) passage.bytes) found) out.is_shown.0 has in
     lost_at stream written Between passage passage.bytes call tells reply stayed out out.is_shown.1
-    refl (inl (subst (λ l. HasNoNext l passage.bytes) out.is_shown.0 dry))
+    refl (inl unbegun)
+    (fault_here passage.bytes found (no_frame passage.bytes unbegun) here ∙ none_found found clean)
     (subst (λ n. Wrote (take (length passage.passed - n) passage.passed) tells) count_is told)
     failed error is
-lost_ends stream written Inside passage count call tells reply stayed outside count_is dry told
-    failed error is out = absurd (outside refl)
-lost_ends stream written AtReady passage count call tells reply stayed outside count_is dry told
-    failed error is out =
+lost_ends stream written Inside passage found count call tells reply stayed outside count_is clean has
+    dry told failed error is out = absurd (outside refl)
+lost_ends stream written AtReady passage found count call tells reply stayed outside count_is clean has
+    dry told failed error is out =
     let now = subst (λ l. HasNoNext l passage.bytes) out.is_shown.0 dry in
     lost_at stream written AtReady passage (head_text 90 5) call tells reply stayed out
-    out.is_shown.1 (ap (λ xs. head_text 90 5 ++ xs) now.1) (inr refl)
+    out.is_shown.1 (ap (λ xs. head_text 90 5 ++ xs) now.1) (inr refl) no_fault-ready
     (subst (λ n. Wrote (take (length passage.passed - n) passage.passed) tells) count_is told)
     failed error is
-lost_ends stream written (Status status) passage count call tells reply stayed outside count_is dry
-    told failed error is out =
+lost_ends stream written (Status status) passage found count call tells reply stayed outside
+    count_is clean has dry told failed error is out =
     let now = subst (λ l. HasNoNext l passage.bytes) out.is_shown.0 dry in
     absurd (omega (arith, now.0))
 

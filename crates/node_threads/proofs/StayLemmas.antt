@@ -4,8 +4,8 @@ use Rattle.peer_forward.specs.Calls.{Call, Effect, Makes}
 use Rattle.pg_frames.specs.Passage.{Passage, start}
 use Rattle.startup.specs.declared.error_code.ErrorCode.TheVariants.{ConnectionFailure}
 use Rattle.client_state.specs.Session.{Session}
-use Rattle.node_threads.specs.declared.stayed.Stayed.{Stayed}
-use Rattle.node_threads.specs.declared.stayed.Stayed.TheVariants.{End}
+use Rattle.node_threads.specs.declared.session.outcome.Stayed.{Stayed}
+use Rattle.node_threads.specs.declared.session.outcome.Stayed.TheVariants.{End}
 use Rattle.node_threads.specs.StreamCalls.{SomeCalls, Wrote, WroteSome}
 use Rattle.node_threads.specs.Asking.{IsError}
 use Rattle.node_threads.specs.Replying.{ReplyEnd, Ready, Replies, WritesReply}

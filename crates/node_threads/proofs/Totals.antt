@@ -5,7 +5,7 @@ use Rattle.peer_forward.specs.Calls.{Call, WriteCall, ReadCall, taken}
 use Rattle.pg_frames.specs.declared.frame.Frame.{Frame}
 use Rattle.pg_frames.specs.FrameText.{texts}
 use Rattle.client_state.specs.Acts.{ready_text}
-use Rattle.node_threads.specs.declared.stayed.Stayed.{Stayed}
+use Rattle.node_threads.specs.declared.session.outcome.Stayed.{Stayed}
 use Rattle.node_threads.specs.StreamCalls.{given, IsWrite, IsFailedWrite, IsRead, IsFailedRead, IsDone, Wrote, WroteSome, Read, ReadToEnd}
 use Rattle.node_threads.specs.Asking.{Leaving, Says, Faulty, Silent, NoMemory, Leaves}
 use Rattle.node_threads.specs.Replying.{ReplyEnd, Ready, Unclear, Unfit, Faulty as FaultyEnd, Lost, Cut, Untold, passed_on, ReadsReply, WritesReply, EndsStay}

@@ -1,5 +1,5 @@
--- What a client asks for in an open transaction (own, after PgBouncer's transaction pooling; the
--- messages are those of PostgreSQL manual, "Message Flow").
+-- How a client goes on in an open transaction: its next request, or its end (own, after PgBouncer's
+-- transaction pooling; PostgreSQL manual, "Message Flow").
 use Rattle.std.specs.Prelude.{◌≡◌, ◌⊎◌, ℕ, List, [], ◌∷◌, ◌++◌, length, Some, None}
 use Rattle.peer_forward.specs.Calls.{Call}
 use Rattle.pg_frames.specs.declared.frame.Frame.{Frame}

@@ -1,4 +1,6 @@
--- What a caller's steps made and spent, by its counts (own).
+-- Which replies make and which consume a pass, a permit, a lease or a ticket (own). `Moves`: the
+-- steps that a caller counted lead from these values in hand to those. `Balanced`: from none to
+-- none.
 use Rattle.std.specs.Prelude.{ℕ, ◌≡◌, ◌+◌, ◌<◌, ◌≤◌, List, [], ◌∷◌}
 use Rattle.locked_node.specs.declared.call_answer.CallAnswer.{CallAnswer}
 use Rattle.locked_node.specs.declared.call_answer.CallAnswer.TheVariants as answer

@@ -1,4 +1,5 @@
--- How a cancel connection is served (own).
+-- How a cancel connection is served (own). `ServesCancel`: one order for its key, one report of its
+-- ticket, what is counted, and the verdict for the requester.
 use Rattle.std.specs.Prelude.{ℕ, ◌≡◌, ◌<◌, ◌⊎◌, List, [], ◌∷◌}
 use Rattle.pg_ids.specs.declared.any_key.AnyKey.{AnyKey}
 use Rattle.lease.specs.declared.ticket.TicketRecord.{TicketRecord}

@@ -1,4 +1,5 @@
--- The calls of a desk, and what they do (own).
+-- The calls of a desk (own). `reported`: a clean end is reported as ended, any other as failed.
+-- `Tells`: one counted step of that name at a lock. `Lists`: one call more in a list.
 use Rattle.std.specs.Prelude.{ℕ, ◌≡◌, ◌+◌, List, [], ◌∷◌, ◌++◌}
 use Rattle.lease.specs.declared.ticket.TicketRecord.{TicketRecord}
 use Rattle.link_pool.specs.declared.replies.EndedReply.{EndedReply}
@@ -13,8 +14,8 @@ use Rattle.node_core.specs.declared.exchange.Exchange.TheVariants as step
 use Rattle.locked_node.specs.Lock.{CallerView, Counted}
 use Rattle.peer_forward.specs.declared.outcome.Outcome.{Outcome}
 use Rattle.peer_forward.specs.declared.outcome.Outcome.TheVariants as outcome
-use Rattle.node_threads.specs.declared.desk_call.DeskCall.{DeskCall}
-use Rattle.node_threads.specs.declared.desk_call.DeskCall.TheVariants.{Ended, Failed, Release, Close}
+use Rattle.node_threads.specs.declared.desk.call.DeskCall.{DeskCall}
+use Rattle.node_threads.specs.declared.desk.call.DeskCall.TheVariants.{Ended, Failed, Release, Close}
 
 -- the call that reports how a ticket's request was carried: as ended exactly after a clean end
 abbrev pub reported : Outcome → TicketRecord → DeskCall

@@ -1,4 +1,4 @@
--- How far a request has come, while it is read from a client.
+-- How much of a client's next request was read (internal).
 use Rattle.std.specs.Prelude.{◌≡◌, ◌⊎◌, ℕ, Bool, List, [], ◌++◌, length, Some, None, Result, Ok, Err}
 use Rattle.peer_forward.specs.Calls.{Call}
 use Rattle.pg_frames.specs.declared.frame.Frame.{Frame}
@@ -10,8 +10,8 @@ use Rattle.client_state.specs.Session.{Session}
 use Rattle.client_state.specs.ClientMessage.{client_message}
 use Rattle.client_state.specs.declared.client_message.ClientMessage.{ClientMessage}
 use Rattle.client_state.specs.declared.client_message.ClientMessage.TheVariants as message
-use Rattle.node_threads.specs.declared.asking.Found.{Found}
-use Rattle.node_threads.specs.declared.asking.Found.TheVariants.{More, Request, End}
+use Rattle.node_threads.specs.declared.session.requests.Found.{Found}
+use Rattle.node_threads.specs.declared.session.requests.Found.TheVariants.{More, Request, End}
 use Rattle.node_threads.specs.StreamCalls.{Read, ReadToEnd}
 use Rattle.node_threads.specs.Asking.{IsError, IsSaid, AreGathered, Asks, request_of, Leaving, Leaves}
 use Rattle.node_threads.specs.Progress.{asking}

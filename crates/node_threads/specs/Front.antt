@@ -1,4 +1,4 @@
--- How connections are dealt to the nodes of a group (own).
+-- How connections are dealt to the nodes of a group in turn (own).
 use Rattle.std.specs.Prelude.{ℕ, ◌≡◌, ◌%◌}
 
 -- the number of nodes, and the place of the next one

@@ -1,4 +1,6 @@
--- How a pooler logs in at a server (PostgreSQL manual, "Message Flow": Start-up).
+-- A login at a server over a stream (PostgreSQL manual, "Message Flow": Start-up). `LogsIn`: the
+-- StartupMessage was written whole, and the server's messages were read up to the one that
+-- completes the login, and no byte more.
 use Rattle.std.specs.Prelude.{◌≡◌, ℕ, ◌+◌, ◌<◌, List, [], ◌∷◌, ◌++◌, length, Option, Some, None}
 use Rattle.std.specs.Borrow.{Bor}
 use Rattle.std.specs.List.{AllByRecursion}
@@ -10,12 +12,12 @@ use Rattle.pg_frames.specs.FrameText.{texts, IsFrame}
 use Rattle.pg_frames.specs.Passage.{Passage, IsHead, head_text, Hands, HasNoNext}
 use Rattle.startup.specs.StartupMessage.{startup_request}
 use Rattle.link_state.specs.Login.{Login, IsUpAt, HasRead, HasReadHead, Reaches, body_part}
-use Rattle.node_threads.specs.declared.login_place.LoginPlace.{LoginPlace}
-use Rattle.node_threads.specs.declared.login_place.LoginPlace.TheVariants.{Between, Passing, Reading, Up}
-use Rattle.node_threads.specs.declared.login_place.Taken.{Taken}
-use Rattle.node_threads.specs.declared.login_place.Taken.TheVariants.{More, Done, Failed}
-use Rattle.node_threads.specs.declared.login_place.Mark.{Mark}
-use Rattle.node_threads.specs.declared.login_place.Mark.TheVariants.{Head, Part, Tail}
+use Rattle.node_threads.specs.declared.login.place.LoginPlace.{LoginPlace}
+use Rattle.node_threads.specs.declared.login.place.LoginPlace.TheVariants.{Between, Passing, Reading, Up}
+use Rattle.node_threads.specs.declared.login.place.Taken.{Taken}
+use Rattle.node_threads.specs.declared.login.place.Taken.TheVariants.{More, Done, Failed}
+use Rattle.node_threads.specs.declared.login.place.Mark.{Mark}
+use Rattle.node_threads.specs.declared.login.place.Mark.TheVariants.{Head, Part, Tail}
 use Rattle.node_threads.specs.StreamCalls.{Wrote, Read}
 
 -- The calls read the server's messages up to the one with which the link is up with this key, and

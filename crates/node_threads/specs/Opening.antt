@@ -1,5 +1,6 @@
--- How a connection begins, up to its StartupMessage or its CancelRequest (PostgreSQL manual,
--- "Message Flow": Start-up; the refusals are own).
+-- How a connection begins (PostgreSQL manual, "Message Flow": Start-up; the refusals are own).
+-- `Opens`: each request for encryption was declined; then a StartupMessage or a CancelRequest was
+-- read, or the connection ended, with the error that was written.
 use Rattle.std.specs.Prelude.{◌≡◌, ◌⊎◌, ℕ, Bool, true, false, List, [], ◌∷◌, ◌++◌, length, replicate, string_bytes, Option, Some, None}
 use Rattle.std.specs.List.{AllByRecursion, flat_map}
 use Rattle.peer_forward.specs.Calls.{Call, taken}
@@ -13,8 +14,8 @@ use Rattle.startup.specs.declared.error_code.ErrorCode.{ErrorCode}
 use Rattle.startup.specs.declared.startup_error.StartupError.{StartupError}
 use Rattle.startup.specs.declared.startup_error.StartupError.TheVariants.{Memory}
 use Rattle.client_state.specs.Acts.{fatal}
-use Rattle.node_threads.specs.declared.opening.Opened.{Opened}
-use Rattle.node_threads.specs.declared.opening.Opened.TheVariants.{Session, Cancel, Over}
+use Rattle.node_threads.specs.declared.login.first_packets.Opened.{Opened}
+use Rattle.node_threads.specs.declared.login.first_packets.Opened.TheVariants.{Session, Cancel, Over}
 use Rattle.node_threads.specs.StreamCalls.{given, IsDone}
 
 -- a request for encryption

@@ -1,4 +1,4 @@
--- How far a reply has come, while it is read and passed on.
+-- How much of a reply was read and passed on (internal).
 use Rattle.std.specs.Prelude.{◌≡◌, ◌⊎◌, ℕ, ◌+◌, true, List, [], ◌∷◌, ◌++◌, length, Option, Some, None}
 use Rattle.std.specs.List.{AllByRecursion}
 use Rattle.peer_forward.specs.Calls.{Call}
@@ -15,12 +15,12 @@ use Rattle.client_state.specs.Session.{Session}
 use Rattle.client_state.specs.LinkMessage.{link_message, status_of}
 use Rattle.client_state.specs.declared.link_message.Status.TheVariants.{Idle, InTransaction}
 use Rattle.client_state.specs.declared.link_message.LinkMessage.TheVariants.{PassOn, Refused as RefusedHead}
-use Rattle.node_threads.specs.declared.place.Place.{Place}
-use Rattle.node_threads.specs.declared.place.Place.TheVariants.{Between, Inside, AtReady, Status}
-use Rattle.node_threads.specs.declared.place.Handed.{Handed}
-use Rattle.node_threads.specs.declared.place.Handed.TheVariants.{More, Ready, Refused}
-use Rattle.node_threads.specs.declared.stayed.Stayed.{Stayed}
-use Rattle.node_threads.specs.declared.stayed.Stayed.TheVariants.{Release, Close, End}
+use Rattle.node_threads.specs.declared.session.place.Place.{Place}
+use Rattle.node_threads.specs.declared.session.place.Place.TheVariants.{Between, Inside, AtReady, Status}
+use Rattle.node_threads.specs.declared.session.place.Handed.{Handed}
+use Rattle.node_threads.specs.declared.session.place.Handed.TheVariants.{More, Ready, Refused}
+use Rattle.node_threads.specs.declared.session.outcome.Stayed.{Stayed}
+use Rattle.node_threads.specs.declared.session.outcome.Stayed.TheVariants.{Release, Close, End}
 use Rattle.node_threads.specs.Asking.{IsError}
 use Rattle.node_threads.specs.StreamCalls.{Wrote, WroteSome}
 use Rattle.node_threads.specs.Replying.{IsPassedOn, ReplyEnd, Ready as ReadyEnd, heard, passed_on, ReadsReply, WritesReply, EndsStay, ready_outcome}

@@ -1,6 +1,7 @@
--- How a reply comes from the link and goes to the client (own, after PgBouncer's transaction
--- pooling; the frames are those of PostgreSQL manual, "Message Flow").
-use Rattle.std.specs.Prelude.{◌≡◌, ◌⊎◌, ℕ, ◌+◌, ◌<◌, List, [], ◌∷◌, ◌++◌, length, Some}
+-- How a reply is read from the link and passed on to the client, how it may end, and what each end
+-- means for the stay (own, after PgBouncer's transaction pooling; PostgreSQL manual, "Message
+-- Flow").
+use Rattle.std.specs.Prelude.{◌≡◌, ◌⊎◌, ℕ, ◌+◌, ◌<◌, List, [], ◌∷◌, ◌++◌, length, Some, None}
 use Rattle.std.specs.List.{AllByRecursion}
 use Rattle.peer_forward.specs.Calls.{Call}
 use Rattle.pg_frames.specs.declared.frame.Frame.{Frame}
@@ -14,8 +15,8 @@ use Rattle.client_state.specs.LinkMessage.{link_message, status_of}
 use Rattle.client_state.specs.declared.link_message.LinkMessage.TheVariants.{PassOn, Refused}
 use Rattle.client_state.specs.declared.link_message.Status.{Status}
 use Rattle.client_state.specs.declared.link_message.Status.TheVariants.{Idle, InTransaction, Unknown}
-use Rattle.node_threads.specs.declared.stayed.Stayed.{Stayed}
-use Rattle.node_threads.specs.declared.stayed.Stayed.TheVariants.{Release, Close, End}
+use Rattle.node_threads.specs.declared.session.outcome.Stayed.{Stayed}
+use Rattle.node_threads.specs.declared.session.outcome.Stayed.TheVariants.{Release, Close, End}
 use Rattle.node_threads.specs.StreamCalls.{Wrote, WroteSome, Read, ReadToEnd}
 use Rattle.node_threads.specs.Asking.{IsError}
 
@@ -118,7 +119,7 @@ EndsStay (Unfit kind size after) outcome = (code : ErrorCode) × IsHead kind siz
     × (link_message kind size ≡ Refused code) × EndsBy code outcome
 EndsStay (Faulty rest fault) outcome =
     (fault_at rest ≡ Some fault) × EndsBy ConnectionFailure outcome
-EndsStay (Lost rest) outcome =
-    (BeginsNoHead rest ⊎ (rest ≡ head_text 90 5)) × EndsBy ConnectionFailure outcome
+EndsStay (Lost rest) outcome = (BeginsNoHead rest ⊎ (rest ≡ head_text 90 5))
+    × (fault_at rest ≡ None) × EndsBy ConnectionFailure outcome
 EndsStay (Cut kind size body) outcome = IsBegun kind size body × (outcome ≡ End [])
 EndsStay (Untold begun after) outcome = IsForClient begun × (outcome ≡ End [])

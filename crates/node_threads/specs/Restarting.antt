@@ -1,4 +1,5 @@
--- How a node is started anew in a process that goes on (own).
+-- A restart of a node in a running process (own). `boot_after`: the next boot number, none after
+-- the last. `RestartsAt`: one counted step with it.
 use Rattle.std.specs.Prelude.{ℕ, ◌≡◌, ◌+◌, ◌%◌, ◌^◌, Option, Some, None, if◌then◌else◌, nat_eq}
 use Rattle.link_pool.specs.declared.replies.RestartReply.{RestartReply}
 use Rattle.link_pool.specs.declared.replies.RestartReply.TheVariants.{Restarted, Exhausted}

@@ -1,5 +1,5 @@
--- Secrets drawn from a seed (own): the words of ChaCha with 20 rounds, whose block counter and
--- stream number have 64 bits each.
+-- Secrets drawn from a seed (own): words of ChaCha20 with a 64-bit block counter and a 64-bit
+-- stream number, counted modulo 2^68.
 use Rattle.std.specs.Prelude.{ℕ, ◌+◌, ◌%◌, ◌^◌, List}
 use Rattle.rand_chacha.specs.ChaCha.{key_of, word_at}
 

@@ -1,6 +1,7 @@
--- What a session does with a link from a request on, until the link is given back or closed (own,
--- after PgBouncer's transaction pooling; requests and replies are those of PostgreSQL manual,
--- "Message Flow").
+-- What a session does on a link from a request on, until the link is released or closed (own, after
+-- PgBouncer's transaction pooling; PostgreSQL manual, "Message Flow"). `Stay`: rounds of a request,
+-- its whole reply, and the next request; then how it ends. `to_link` and `to_client` are what each
+-- side gets.
 use Rattle.std.specs.Prelude.{◌≡◌, ℕ, List, [], ◌∷◌, ◌++◌}
 use Rattle.std.specs.List.{AllByRecursion, flat_map}
 use Rattle.peer_forward.specs.Calls.{Call, taken}
@@ -11,8 +12,8 @@ use Rattle.client_state.specs.Acts.{ready_text}
 use Rattle.client_state.specs.LinkMessage.{status_of}
 use Rattle.client_state.specs.declared.client_message.ClientMessage.TheVariants.{Request}
 use Rattle.client_state.specs.declared.link_message.Status.TheVariants.{InTransaction}
-use Rattle.node_threads.specs.declared.stayed.Stayed.{Stayed}
-use Rattle.node_threads.specs.declared.stayed.Stayed.TheVariants.{Release, Close, End}
+use Rattle.node_threads.specs.declared.session.outcome.Stayed.{Stayed}
+use Rattle.node_threads.specs.declared.session.outcome.Stayed.TheVariants.{Release, Close, End}
 use Rattle.node_threads.specs.StreamCalls.{given, IsDone, Wrote, WroteSome, Read}
 use Rattle.node_threads.specs.Asking.{Asks, request_of, Leaving, Says, Faulty, Silent, NoMemory, Leaves}
 use Rattle.node_threads.specs.Replying.{ReplyEnd, Ready, Replies, passed_on, EndsBy, EndsStay}

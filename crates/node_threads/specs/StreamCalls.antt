@@ -1,4 +1,5 @@
--- What the calls of a stream wrote and read (own).
+-- Which calls of a stream write a text or a prefix of it, and which read bytes, or all up to the
+-- end (own).
 use Rattle.std.specs.Prelude.{◌≡◌, ℕ, ◌<◌, ◌≤◌, List, [], ◌∷◌, ◌++◌, length, take, Ok, Err}
 use Rattle.std.specs.List.{AllByRecursion}
 use Rattle.peer_forward.specs.Calls.{Call, WriteCall, ReadCall, Effect, Makes, taken}

@@ -1,12 +1,12 @@
--- How a lease is handed in once a session doesn't need its link any more (own).
+-- How a lease is handed in after a stay (own): released exactly after `Release`, otherwise closed.
 use Rattle.std.specs.Prelude.{◌≡◌}
 use Rattle.client_state.specs.Session.{Session}
 use Rattle.client_state.specs.Acts.{over}
 use Rattle.lease.specs.declared.link_record.LinkRecord.{LinkRecord}
-use Rattle.node_threads.specs.declared.desk_call.DeskCall.{DeskCall}
-use Rattle.node_threads.specs.declared.desk_call.DeskCall.TheVariants as call
-use Rattle.node_threads.specs.declared.stayed.Stayed.{Stayed}
-use Rattle.node_threads.specs.declared.stayed.Stayed.TheVariants.{Release, Close, End}
+use Rattle.node_threads.specs.declared.desk.call.DeskCall.{DeskCall}
+use Rattle.node_threads.specs.declared.desk.call.DeskCall.TheVariants as call
+use Rattle.node_threads.specs.declared.session.outcome.Stayed.{Stayed}
+use Rattle.node_threads.specs.declared.session.outcome.Stayed.TheVariants.{Release, Close, End}
 
 -- the link is given back exactly where the stay says so, and closed otherwise
 abbrev pub handed_in : Stayed → LinkRecord → DeskCall

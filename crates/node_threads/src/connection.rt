@@ -1,10 +1,11 @@
 //! A client's connection, from its first packet to its end.
 ghost use Rattle.std.specs.Prelude.{◌≡◌, ◌≤◌, length};
+ghost use Rattle.std.specs.Arc.{arc_value};
 ghost use Rattle.node_threads.specs.Balance.{Balanced};
 
-use crate::refusing::refuse;
+use crate::login::refuse;
 use crate::{
-    CONSOLE, Calling, Entrance, Gate, Opened, Opener, open, serve_cancel, serve_client,
+    CONSOLE, Calling, Gate, Link, Node, Opened, Opener, Service, open, serve_cancel, serve_client,
     serve_console,
 };
 use peer_forward::{ReadCalls, WriteCalls};
@@ -36,30 +37,45 @@ where
     let mut cutter = Cutter::new(alloc);
     match open(rt, alloc, client, &mut cutter) {
         Opened::Session { database, kind } => {
-            serve_session(
+            let name = database.as_str();
+            if name == CONSOLE {
+                serve_console(rt, alloc, calling, client, &mut cutter);
+            } else {
+                let visit = Visit {
+                    rt,
+                    alloc,
+                    opener,
+                    gate,
+                };
+                serve_session(visit, calling, client, &mut cutter, name, kind);
+            }
+        }
+        Opened::Cancel(key) => {
+            let visit = Visit {
                 rt,
                 alloc,
-                calling,
                 opener,
                 gate,
-                client,
-                &mut cutter,
-                database.as_str(),
-                kind,
-            );
+            };
+            serve_cancel_connection(visit, calling, client, key);
         }
-        Opened::Cancel(key) => serve_request(rt, calling, opener, gate, client, key),
         Opened::Over => {}
     }
 }
 
+// What a connection is served with, but for its node.
+#[derive(Drop)]
+struct Visit<'a, R, O, G> {
+    rt: &'a R,
+    alloc: Global,
+    opener: &'a O,
+    gate: &'a G,
+}
+
 // Serves a session on the database of this name.
 fn serve_session<R, O, G, C>(
-    rt: &R,
-    alloc: Global,
+    visit: Visit<'_, R, O, G>,
     calling: &mut Calling<O::Stream>,
-    opener: &O,
-    gate: &G,
     client: &mut C,
     cutter: &mut Cutter,
     name: &str,
@@ -72,28 +88,15 @@ where
     C: WriteCalls + ReadCalls,
     ensures balanced { Balanced calling.old.caller calling.new.caller }
 {
-    if name == CONSOLE {
-        serve_console(rt, alloc, calling, client, cutter);
-        return;
-    }
     let Some(database) = calling.node.settings().find_database(name) else {
-        refuse(alloc, client, ErrorCode::InvalidCatalogName);
+        refuse(visit.alloc, client, ErrorCode::InvalidCatalogName);
         return;
     };
-    let Ok(entrance) = Entrance::new(alloc, &calling.node.admission) else {
-        refuse(alloc, client, ErrorCode::OutOfMemory);
-        return;
-    };
-    let secret = calling.node.secret(rt);
+    let secret = calling.node.secret(visit.rt);
+    let service = visit.to(&calling.node);
     serve_client(
-        rt,
-        alloc,
-        &calling.node.shared,
+        service,
         &mut calling.caller,
-        calling.node.settings(),
-        &entrance,
-        opener,
-        gate,
         client,
         cutter,
         database,
@@ -102,13 +105,12 @@ where
     );
 }
 
-// Serves a cancel request with this key.
+// Serves a cancel request with this key. A client that waits to ask for a link asks first, so that
+// the request finds it waiting.
 #[inline(never)]
-fn serve_request<R, O, G, C>(
-    rt: &R,
+fn serve_cancel_connection<R, O, G, C>(
+    visit: Visit<'_, R, O, G>,
     calling: &mut Calling<O::Stream>,
-    opener: &O,
-    gate: &G,
     client: &mut C,
     key: AnyKey,
 )
@@ -119,20 +121,39 @@ where
     C: WriteCalls + ReadCalls,
     ensures balanced { Balanced calling.old.caller calling.new.caller }
 {
-    let Some(mut counting) = calling.node.seats.take(rt) else {
+    let is_own = key.peer() == calling.node.settings().peer_id();
+    let Some(mut seat) = calling.node.seats.take(visit.rt, key, is_own) else {
         return;
     };
-    let counted = &mut counting;
+    if is_own {
+        calling.node.admission.tell_to_ask(visit.rt, key.slot());
+    }
+    let counting = &mut seat.counting;
+    let service = visit.to(&calling.node);
     serve_cancel(
-        rt,
-        &calling.node.shared,
+        service,
         &mut calling.caller,
-        &counted.board,
-        &mut counted.seat,
-        opener,
-        gate,
+        &counting.board,
+        &mut counting.seat,
         client,
         key,
     );
-    calling.node.seats.give_back(rt, counting);
+    calling.node.seats.give_back(visit.rt, seat);
+}
+
+impl<'a, R, O: Opener, G> Visit<'a, R, O, G> {
+    // The service of a node.
+    fn to(&self, node: &'a Node<O::Stream>) -> Service<'a, R, Link<O::Stream>, O, G>
+        ensures { result.shared.now ≡ node.now.shared }
+    {
+        Service {
+            rt: self.rt,
+            alloc: self.alloc,
+            shared: &node.shared,
+            settings: node.settings(),
+            admission: &node.admission,
+            opener: self.opener,
+            gate: self.gate,
+        }
+    }
 }

@@ -1,17 +1,40 @@
-//! Connections to servers and to other poolers.
+//! The servers and the other poolers that a client's connection reaches.
 use pg_ids::{DatabaseNo, PeerNo};
 use std::io;
 use std::io::{Read, Write};
 use std::sync::Wait;
 
-/// What connects to the servers of a node's databases and to its peers.
+/// What connects a client's connection to the servers of a node's databases and to its peers, and
+/// knows how the client and a link do. There is one for each connection.
 pub trait Opener {
     /// A connection. It is closed when it is dropped.
     type Stream: Read + Write + Drop;
 
-    /// Connects to the server of this database.
+    /// Connects to the server of this database, for a link.
     fn server<R: Wait>(&self, rt: &R, database: DatabaseNo) -> io::Result<Self::Stream>;
 
-    /// Connects to this peer.
+    /// Connects to the server of this database, for a cancel request.
+    fn cancel<R: Wait>(&self, rt: &R, database: DatabaseNo) -> io::Result<Self::Stream> {
+        self.server(rt, database)
+    }
+
+    /// Connects to this peer, for a cancel request.
     fn peer<R: Wait>(&self, rt: &R, peer: PeerNo) -> io::Result<Self::Stream>;
+
+    /// Whether the stream of a link that nobody used is as it was left: it is open, and nothing
+    /// came on it. It doesn't wait.
+    fn is_quiet(&self, _stream: &Self::Stream) -> bool {
+        true
+    }
+
+    /// The client has this link from now on. A read of it fails once the client is gone.
+    fn attach(&self, _stream: &mut Self::Stream) {}
+
+    /// The client has no link from now on.
+    fn detach(&self) {}
+
+    /// Whether the client is gone. It doesn't wait.
+    fn is_gone(&self) -> bool {
+        false
+    }
 }

@@ -1,0 +1,17 @@
+use Rattle.std.proofs.Common.{Option, sym, subst}
+use Rattle.pg_frames.specs.declared.piece.Piece.{Piece}
+use Rattle.pg_frames.specs.Passage.{Hands}
+use Rattle.node_threads.specs.declared.login.place.Mark.{Mark}
+use Rattle.node_threads.specs.LoggingIn.{Handed}
+use Rattle.node_threads.proofs.LoginLemmas.{handed_piece}
+use Rattle.node_threads.proofs.login.server.take_pieces.Goals as goal
+
+pub returns-in-Done-clause-takes : goal.returns-in-Done-clause-takes
+returns-in-Done-clause-takes c stream come =
+    let new = c.next.follows.lender-at-none in
+    let hands =
+    subst (λ (found : Option Piece). Hands c.loop-piece.flow found new) c.in-Some.is
+    c.next.follows.holds-at-none in
+    c.in-Done.ensures.takes stream c.loop-piece.flow (c.loop-piece.invariant stream come)
+    (subst (λ (m : Mark). Handed c.loop-piece.flow m new) (sym c.of-mark.ensures)
+    (handed_piece c.loop-piece.flow new c.in-Some.piece hands))

@@ -1,0 +1,17 @@
+use Rattle.std.proofs.Common.{◌≡◌, List, ℕ, length}
+use Rattle.client_state.specs.Session.{Session}
+use Rattle.node_threads.specs.declared.session.requests.Found.{Found}
+use Rattle.node_threads.specs.Finding.{gathering, Finds}
+use Rattle.node_threads.proofs.session.requests.cut_request.Given as goal
+
+-- what is found in the rest is found in all
+abbrev pub invariant-loop-found : goal.invariant-loop-found
+invariant-loop-found l =
+    (l.session ≡ gathering l.session.leased l.session.database l.session.gathered)
+    × ((found : Found) (new : Session) (left : List ℕ)
+    → Finds (gathering l.session.leased l.session.database l.session.gathered) l.cutter found new left
+    → Finds l.fn.session l.fn.cutter found new left)
+
+-- each frame takes bytes
+abbrev pub decreases-loop-found : goal.decreases-loop-found
+decreases-loop-found l = length l.cutter

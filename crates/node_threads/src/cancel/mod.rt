@@ -1,0 +1,12 @@
+//! Cancel requests: who may send one on at this moment, the order that the node gives for it, and
+//! the report of its end.
+
+mod counting;
+mod orders;
+mod reports;
+mod seats;
+
+pub use counting::Counting;
+pub use orders::serve_cancel;
+pub use reports::{relay, report};
+pub use seats::{Seat, Seats};

@@ -1,0 +1,121 @@
+//! The seats at a node's board, for its cancel connections.
+use crate::Counting;
+use pg_ids::{AnyKey, Identity};
+use std::alloc::{AllocError, Global};
+use std::sync::{Mutex, Wait};
+
+// How often the first seat is halved, all of its parts likewise: there are 256 seats.
+const HALVINGS: u32 = 8;
+
+// How many seats requests for other poolers have at most, and how many those of one key.
+const SHARE: usize = 128;
+
+/// The seats at a node's board: those that no cancel connection has, and one for the console.
+#[derive(Drop)]
+pub struct Seats {
+    free: Mutex<Free>,
+    console: Mutex<Counting>,
+}
+
+/// A seat that a cancel connection has.
+#[derive(Drop)]
+pub struct Seat {
+    /// What it counts by.
+    pub counting: Counting,
+    purpose: Purpose,
+}
+
+// The seats that are free, and what the others are for.
+#[derive(Drop)]
+struct Free {
+    seats: Vec<Counting>,
+    taken: Vec<Purpose>,
+}
+
+// What a seat is for.
+#[derive(Clone, Copy, Debug, PartialEq, Eq)]
+enum Purpose {
+    // A request for another pooler.
+    Forward,
+    // A request for the client with this key.
+    Own(Identity),
+}
+
+impl Seats {
+    /// A board on which nothing is counted, with 256 seats, which may count as much as each other.
+    pub fn new(alloc: Global) -> Result<Seats, AllocError> {
+        let mut seats = Vec::with_capacity(alloc, 1 << HALVINGS)?;
+        let console = Counting::new(alloc)?;
+        seats.push(console)?;
+        for _ in 0..HALVINGS {
+            halve_each(alloc, &mut seats)?;
+        }
+        let Some(console) = seats.pop() else {
+            return Err(AllocError);
+        };
+        let taken = Vec::with_capacity(alloc, seats.len())?;
+        Ok(Seats {
+            free: Mutex::new(Free { seats, taken }),
+            console: Mutex::new(console),
+        })
+    }
+
+    /// Takes a seat for a request with this key, if one is free. A request of another pooler's
+    /// client gets none while such requests have half of the seats, nor does one with a key of
+    /// which requests have half of them: so neither keeps the node's other clients from cancelling.
+    pub fn take<R: Wait>(&self, rt: &R, key: AnyKey, is_own: bool) -> Option<Seat> {
+        let purpose = if is_own {
+            Purpose::Own(key.identity())
+        } else {
+            Purpose::Forward
+        };
+        self.free.lock(rt).take(purpose)
+    }
+
+    /// Gives a seat back.
+    pub fn give_back<R: Wait>(&self, rt: &R, seat: Seat) {
+        self.free.lock(rt).give_back(seat);
+    }
+
+    /// The words of the board, in the order of its counters.
+    pub fn words<R: Wait>(&self, rt: &R) -> [u64; 8] {
+        self.console.lock(rt).words()
+    }
+}
+
+impl Free {
+    fn take(&mut self, purpose: Purpose) -> Option<Seat> {
+        let mut alike: usize = 0;
+        for taken in &self.taken {
+            if *taken == purpose {
+                alike = alike.saturating_add(1);
+            }
+        }
+        if alike >= SHARE {
+            return None;
+        }
+        let counting = self.seats.pop()?;
+        let _ = self.taken.push(purpose);
+        Some(Seat { counting, purpose })
+    }
+
+    fn give_back(&mut self, seat: Seat) {
+        let Seat { counting, purpose } = seat;
+        let _ = self.seats.push(counting);
+        for place in 0..self.taken.len() {
+            if self.taken.get(place) == Some(&purpose) {
+                self.taken.swap_remove(place);
+                return;
+            }
+        }
+    }
+}
+
+// Halves each seat, and puts the new halves behind them.
+fn halve_each(alloc: Global, seats: &mut Vec<Counting>) -> Result<(), AllocError> {
+    let mut halves = Vec::with_capacity(alloc, seats.len())?;
+    for seat in seats.iter_mut() {
+        halves.push(seat.split()?)?;
+    }
+    seats.append(&mut halves)
+}

@@ -1,0 +1,116 @@
+//! A node that serves clients, and who calls it.
+ghost use Rattle.std.specs.Prelude.{◌≡◌, ℕ, ◌<◌, ◌≤◌, length, slice_get, Some};
+ghost use Rattle.std.specs.Option.{ForSome};
+ghost use Rattle.std.specs.Arc.{arc_value};
+ghost use Rattle.node_threads.specs.Balance.{Balanced};
+ghost use Rattle.node_threads.specs.Restarting.{boot_after, RestartsAt};
+
+use crate::node::restarts::restart;
+use crate::{Admission, Link, Seats, Secrets};
+use ini_config::{Group, Settings};
+use link_pool::RestartReply;
+use locked_node::{Caller, Journal, Shared};
+use node_core::NodeCore;
+use pg_ids::{Boot, Secret};
+use std::alloc::{AllocError, Global};
+use std::sync::{Arc, Mutex, Wait};
+
+/// What the threads of a node share.
+#[derive(Drop)]
+pub struct Node<L: Drop> {
+    pub(crate) shared: Shared<Link<L>>,
+    pub(crate) seats: Seats,
+    pub(crate) admission: Admission,
+    group: Arc<Group, Global>,
+    place: usize,
+    secrets: Mutex<Secrets>,
+    boot: Mutex<Boot>,
+    ghost listed: { place < length (arc_value group) },
+}
+
+impl<L: Drop> Node<L> {
+    /// Its settings.
+    pub fn settings(&self) -> &Settings
+        ensures { slice_get (arc_value self.now.group) self.now.place ≡ Some result.now }
+    {
+        &self.group.nodes()[self.place]
+    }
+
+    /// The secret for a login.
+    pub(crate) fn secret<R: Wait>(&self, rt: &R) -> Secret {
+        self.secrets.lock(rt).draw()
+    }
+}
+
+/// A node, with who calls it. A thread that serves a connection has one of its own.
+#[derive(Drop)]
+pub struct Calling<L: Drop> {
+    pub(crate) node: Arc<Node<L>, Global>,
+    pub(crate) caller: Caller<Link<L>>,
+    ghost own: { caller.lock ≡ (arc_value node).shared },
+    ghost databases: { ForSome (slice_get (arc_value (arc_value node).group) (arc_value node).place)
+        (λ settings. length settings.databases ≤ length caller.start.view.pools) },
+}
+
+impl<L: Drop> Calling<L> {
+    /// The node at a place of the group, without clients and links, with its first caller. Its
+    /// secrets are drawn from the seed.
+    pub fn new(
+        alloc: Global,
+        group: &Arc<Group, Global>,
+        place: usize,
+        seed: [u8; 32],
+        boot: Boot,
+    ) -> Result<Calling<L>, AllocError>
+        requires { place < length (arc_value group.now) }
+    {
+        let settings = &group.nodes()[place];
+        let core = NodeCore::new(alloc, settings, boot)?;
+        let (shared, caller) = Shared::new(alloc, Journal::new(alloc, core)?)?;
+        let secrets = Secrets::new(seed, settings.peer_id());
+        let seats = Seats::new(alloc)?;
+        let admission = Admission::new(alloc, settings)?;
+        let group = Arc::try_clone(group)?;
+        let node = Node {
+            shared,
+            seats,
+            admission,
+            group,
+            place,
+            secrets: Mutex::new(secrets),
+            boot: Mutex::new(boot),
+        };
+        let node = Arc::new(alloc, node)?;
+        Ok(Calling { node, caller })
+    }
+
+    /// Another caller of the same node, for 2^64 calls. There is none where memory is refused, or
+    /// if this one has no more calls than that left.
+    pub fn split(&mut self) -> Option<Calling<L>> {
+        let Ok(node) = Arc::try_clone(&self.node) else {
+            return None;
+        };
+        let caller = self.caller.split(&node.shared)?;
+        Some(Calling { node, caller })
+    }
+
+    /// The calls that were made here.
+    pub fn caller(&self) -> &Caller<Link<L>> {
+        &self.caller
+    }
+
+    /// The node.
+    pub fn node(&self) -> &Node<L> {
+        &self.node
+    }
+
+    /// Starts the node anew with its next boot, if the process has one left.
+    pub fn restart<R: Wait>(&mut self, rt: &R) -> RestartReply
+        ensures restarts { (boot now : ℕ)
+            × RestartsAt (boot_after boot) boot self.old.caller result now self.new.caller }
+        ensures balanced { Balanced self.old.caller self.new.caller }
+    {
+        let mut boot = self.node.boot.lock(rt);
+        restart(rt, &self.node.shared, &mut self.caller, &mut boot)
+    }
+}

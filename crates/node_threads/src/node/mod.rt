@@ -1,0 +1,13 @@
+//! A running node: what its threads share, who calls it, its secrets, and its restarts.
+
+mod admission;
+mod calling;
+mod front;
+mod restarts;
+mod secrets;
+
+pub use admission::{Admission, Entrance};
+pub use calling::{Calling, Node};
+pub use front::Front;
+pub use restarts::restart;
+pub use secrets::Secrets;

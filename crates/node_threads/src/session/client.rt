@@ -1,0 +1,258 @@
+//! A client's session, from its login to its end.
+ghost use Rattle.std.specs.Prelude.{◌≡◌, ◌<◌, [], None, length};
+ghost use Rattle.client_state.specs.Acts.{start};
+ghost use Rattle.pg_frames.specs.Passage.{start as passage_start};
+ghost use Rattle.node_threads.specs.Balance.{Moves, Balanced, nothing, a_pass, a_lease};
+ghost use Rattle.node_threads.specs.Desks.{Tells};
+ghost use Rattle.node_threads.specs.Turn.{handed_in, GoesOnWithout};
+ghost use Rattle.node_threads.specs.Progress.{asking};
+
+use crate::login::refuse;
+use crate::session::leases::{Acquired, acquire};
+use crate::session::replies::lost;
+use crate::session::requests::next_request;
+use crate::stream::write_whole;
+use crate::{Entrance, Gate, Link, LockDesk, Opener, Point, Service, Stayed, turn};
+use client_state::{Client, Reply, Request};
+use lease::{Lease, Pass};
+use locked_node::{Caller, Shared};
+use node_core::LeaveReply;
+use peer_forward::{ReadCalls, WriteCalls};
+use pg_frames::Cutter;
+use pg_ids::{DatabaseNo, Kind, Secret};
+use startup::{ErrorCode, Severity, write_login};
+use std::alloc::Global;
+use std::sync::Wait;
+
+/// Serves a client's session on a database from its login to its end: its requests are carried over
+/// links of the node's pool, each lease for one transaction. What is written to it at the end is
+/// written once nothing is held.
+pub fn serve_client<R, O, G, C>(
+    service: Service<'_, R, Link<O::Stream>, O, G>,
+    caller: &mut Caller<Link<O::Stream>>,
+    client: &mut C,
+    cutter: &mut Cutter,
+    database: DatabaseNo,
+    secret: Secret,
+    kind: Kind,
+)
+where
+    R: Wait,
+    O: Opener,
+    G: Gate,
+    C: WriteCalls + ReadCalls,
+    requires own { caller.old.lock ≡ service.shared.now }
+    requires database { database < length caller.old.start.view.pools }
+    // Each pass, permit and lease that was made was spent.
+    ensures balanced { Balanced caller.old caller.new }
+{
+    let shared = service.shared;
+    let Ok(pass) = shared.join(service.rt, caller, database, secret, kind) else {
+        refuse(service.alloc, client, ErrorCode::TooManyConnections);
+        return;
+    };
+    let end = serve_pass(service, caller, client, cutter, database, &pass);
+    service.admission.forget(service.rt, pass.key().slot());
+    leave(service.rt, shared, caller, pass);
+    let _ = write_whole(client, end.as_slice());
+}
+
+// Greets the client of a pass and serves its requests. Returns what is to be written to it at the
+// end.
+fn serve_pass<R, O, G, C>(
+    service: Service<'_, R, Link<O::Stream>, O, G>,
+    caller: &mut Caller<Link<O::Stream>>,
+    client: &mut C,
+    cutter: &mut Cutter,
+    database: DatabaseNo,
+    pass: &Pass,
+) -> Reply
+where
+    R: Wait,
+    O: Opener,
+    G: Gate,
+    C: WriteCalls + ReadCalls,
+    requires own { caller.old.lock ≡ service.shared.now }
+    ensures balanced { Balanced caller.old caller.new }
+{
+    let alloc = service.alloc;
+    let Ok(entrance) = Entrance::new(service.rt, alloc, service.admission, pass.key().slot()) else {
+        return error(alloc, ErrorCode::OutOfMemory);
+    };
+    if let Some(end) = greet(alloc, client, pass) {
+        return end;
+    }
+    let mut session = Client::new(alloc, database);
+    for _ in service.rt.forever() {
+        let ended = serve_request(
+            service,
+            caller,
+            &entrance,
+            pass,
+            client,
+            cutter,
+            &mut session,
+        );
+        if let Some(end) = ended {
+            return end;
+        }
+    }
+    unreachable!()
+}
+
+// Writes the messages of a login. Returns what is to be written to the client if this ends the
+// session.
+fn greet<C: WriteCalls + ReadCalls>(alloc: Global, client: &mut C, pass: &Pass) -> Option<Reply> {
+    let mut login = Vec::new(alloc);
+    if write_login(Some(pass.key()), &mut login).is_err() {
+        return Some(error(alloc, ErrorCode::OutOfMemory));
+    }
+    if write_whole(client, login.as_slice()) {
+        None
+    } else {
+        Some(Reply::nothing())
+    }
+}
+
+// Reads a client's next request and serves its transaction. Returns what is to be written to the
+// client where the session ends.
+fn serve_request<R, O, G, C>(
+    service: Service<'_, R, Link<O::Stream>, O, G>,
+    caller: &mut Caller<Link<O::Stream>>,
+    entrance: &Entrance<'_>,
+    pass: &Pass,
+    client: &mut C,
+    cutter: &mut Cutter,
+    session: &mut Client,
+) -> Option<Reply>
+where
+    R: Wait,
+    O: Opener,
+    G: Gate,
+    C: WriteCalls + ReadCalls,
+    requires own { caller.old.lock ≡ service.shared.now }
+    requires session { session.old ≡ start session.old.database }
+    ensures balanced { Balanced caller.old caller.new }
+    ensures session { result ≡ None → session.new ≡ start session.old.database }
+{
+    let request = match next_request(service.rt, session, client, cutter) {
+        Ok(request) => request,
+        Err(end) => return Some(end),
+    };
+    let database = session.database();
+    let acquired = acquire(service, caller, entrance, pass, database);
+    entrance.catch_up(service.rt, database);
+    let end = match acquired {
+        Acquired::Lease(lease) => ride(service, caller, client, cutter, session, lease, request),
+        Acquired::Cancelled => {
+            session.drop_request();
+            tell_cancelled(service.alloc, client)
+        }
+        Acquired::Refused(code) => Some(error(service.alloc, code)),
+        Acquired::Ended => Some(Reply::nothing()),
+    };
+    entrance.leave(service.rt, database);
+    end
+}
+
+// Serves a transaction on the link of a lease. Returns what is to be written to the client where
+// the session ends.
+fn ride<R, O, G, C>(
+    service: Service<'_, R, Link<O::Stream>, O, G>,
+    caller: &mut Caller<Link<O::Stream>>,
+    client: &mut C,
+    cutter: &mut Cutter,
+    session: &mut Client,
+    lease: Lease<Link<O::Stream>>,
+    request: Request,
+) -> Option<Reply>
+where
+    R: Wait,
+    O: Opener,
+    G: Gate,
+    C: WriteCalls + ReadCalls,
+    requires own { caller.old.lock ≡ service.shared.now }
+    requires session { session.old ≡ asking session.old.database }
+    ensures moves { Moves a_lease caller.old nothing caller.new }
+    ensures session { result ≡ None → session.new ≡ start session.old.database }
+{
+    service.gate.pass(service.rt, Point::Acquired);
+    // A link is given back as it was at its start. No clause of the lock says so.
+    if !lease.stream().flow.is_at_start() {
+        service.gate.pass(service.rt, Point::Ready);
+        let _reply = service.shared.close(service.rt, caller, lease);
+        return Some(lost(session));
+    }
+    let mut lease = lease;
+    service.opener.attach(&mut lease.stream_mut().stream);
+    let stayed = take_turn(service, caller, client, cutter, session, lease, request);
+    service.opener.detach();
+    match stayed {
+        Stayed::Release | Stayed::Close => None,
+        Stayed::End(end) => Some(end),
+    }
+}
+
+// Takes a turn at a desk that is the node behind its lock.
+fn take_turn<R, O, G, C>(
+    service: Service<'_, R, Link<O::Stream>, O, G>,
+    caller: &mut Caller<Link<O::Stream>>,
+    client: &mut C,
+    cutter: &mut Cutter,
+    session: &mut Client,
+    lease: Lease<Link<O::Stream>>,
+    request: Request,
+) -> Stayed
+where
+    R: Wait,
+    O: Opener,
+    G: Gate,
+    C: WriteCalls + ReadCalls,
+    requires own { caller.old.lock ≡ service.shared.now }
+    requires session { session.old ≡ asking session.old.database }
+    requires at_start { lease.stream.flow ≡ passage_start }
+    ensures told { Tells (handed_in result lease.details) caller.old caller.new }
+    ensures session { GoesOnWithout result session.old session.new }
+{
+    let shared = service.shared;
+    let mut desk = LockDesk { shared, caller };
+    let context = service.context();
+    turn(context, &mut desk, session, client, cutter, lease, request)
+}
+
+// Tells a client that its request was cancelled while it waited for a link; its session goes on.
+fn tell_cancelled<C: WriteCalls + ReadCalls>(alloc: Global, client: &mut C) -> Option<Reply> {
+    let Ok(cancelled) = Reply::error(alloc, Severity::Error, ErrorCode::QueryCanceled) else {
+        return Some(Reply::nothing());
+    };
+    let ready = Reply::ready(b'I');
+    if write_whole(client, cancelled.as_slice()) && write_whole(client, ready.as_slice()) {
+        None
+    } else {
+        Some(Reply::nothing())
+    }
+}
+
+// Gives a pass back. A client that still holds a link or a permit would stay; it doesn't, but the
+// lock can't tell.
+fn leave<R: Wait, S: Drop>(rt: &R, shared: &Shared<S>, caller: &mut Caller<S>, pass: Pass)
+    requires own { caller.old.lock ≡ shared.now }
+    ensures moves { Moves a_pass caller.old nothing caller.new }
+{
+    let mut pass = pass;
+    for _ in rt.forever() {
+        match shared.leave(rt, caller, pass) {
+            LeaveReply::Holding(held) => pass = held,
+            LeaveReply::Left | LeaveReply::Stale | LeaveReply::Exhausted => return,
+        }
+    }
+    unreachable!()
+}
+
+// The error that ends a session, or nothing where memory for it was refused.
+fn error(alloc: Global, code: ErrorCode) -> Reply {
+    match Reply::error(alloc, Severity::Fatal, code) {
+        Ok(reply) => reply,
+        Err(_) => Reply::nothing(),
+    }
+}

@@ -1,0 +1,214 @@
+//! A link for a client's request: an idle one, or a new one that is opened.
+ghost use Rattle.std.specs.Prelude.{◌≡◌, ◌+◌, ◌≤◌, length, IsTrue};
+ghost use Rattle.startup.specs.StartupMessage.{HasNoZero};
+ghost use Rattle.node_threads.specs.Balance.{Moves, nothing, a_lease, a_permit};
+ghost use Rattle.node_threads.specs.Leasing.{hand_of, hand_of_answer};
+
+use crate::login::{LinkError, LoggedIn, log_in};
+use crate::{Entrance, Gate, Link, Opener, Point, Service};
+use lease::{Lease, Pass, Permit};
+use link_pool::{AcquireReply, UpReply};
+use locked_node::Caller;
+use pg_ids::DatabaseNo;
+use startup::ErrorCode;
+use std::io;
+use std::io::ErrorKind;
+use std::sync::Wait;
+
+// How long the two names of a login may be together, in bytes.
+const MAX_NAMES: usize = 8_000;
+
+/// What came of a client's asking for a link. `L` is its lease.
+pub enum Acquired<L> {
+    /// The client has this link.
+    Lease(L),
+    /// Its wait was cancelled.
+    Cancelled,
+    /// It gets no link, and its session ends with this error.
+    Refused(ErrorCode),
+    /// It gets no link, and its session ends without a word: it is gone, or memory was refused.
+    Ended,
+}
+
+/// Asks for a link for a client, opens one if the node says so, and waits for its turn otherwise.
+pub fn acquire<R: Wait, O: Opener, G: Gate>(
+    service: Service<'_, R, Link<O::Stream>, O, G>,
+    caller: &mut Caller<Link<O::Stream>>,
+    entrance: &Entrance<'_>,
+    pass: &Pass,
+    database: DatabaseNo,
+) -> Acquired<Lease<Link<O::Stream>>>
+    requires own { caller.old.lock ≡ service.shared.now }
+    // A lease was made where one is returned, and no permit is left.
+    ensures moves { Moves nothing caller.old (hand_of result) caller.new }
+{
+    let has_waited = entrance.enter(service.rt, database);
+    if has_waited && service.opener.is_gone() {
+        return Acquired::Ended;
+    }
+    for _ in service.rt.forever() {
+        if let Some(acquired) = ask(service, caller, entrance, pass, database) {
+            return acquired;
+        }
+    }
+    unreachable!()
+}
+
+// Asks once, and waits for the client's turn where there is no link. It returns nothing where the
+// client is to ask again.
+fn ask<R: Wait, O: Opener, G: Gate>(
+    service: Service<'_, R, Link<O::Stream>, O, G>,
+    caller: &mut Caller<Link<O::Stream>>,
+    entrance: &Entrance<'_>,
+    pass: &Pass,
+    database: DatabaseNo,
+) -> Option<Acquired<Lease<Link<O::Stream>>>>
+    requires own { caller.old.lock ≡ service.shared.now }
+    ensures moves { Moves nothing caller.old (hand_of_answer result) caller.new }
+{
+    let answer = service.shared.acquire(service.rt, caller, pass);
+    entrance.asked();
+    match answer {
+        AcquireReply::Got(lease) => take(service, caller, lease),
+        AcquireReply::Open(permit) => {
+            let opened = open(service, caller, database, permit);
+            Some(unless_gone(service, caller, opened))
+        }
+        AcquireReply::Waiting => {
+            entrance.queue(service.rt, database);
+            service.shared.wait_turn(service.rt, caller, pass);
+            if service.opener.is_gone() {
+                Some(Acquired::Ended)
+            } else {
+                None
+            }
+        }
+        AcquireReply::Cancelled => Some(Acquired::Cancelled),
+        AcquireReply::Stale => Some(Acquired::Refused(ErrorCode::AdminShutdown)),
+        AcquireReply::Holding | AcquireReply::Exhausted => {
+            Some(Acquired::Refused(ErrorCode::TooManyConnections))
+        }
+    }
+}
+
+// Takes a link that nobody used. One that isn't as it was left is closed: its server ended it, or
+// sent what nobody asked for.
+fn take<R: Wait, O: Opener, G: Gate>(
+    service: Service<'_, R, Link<O::Stream>, O, G>,
+    caller: &mut Caller<Link<O::Stream>>,
+    lease: Lease<Link<O::Stream>>,
+) -> Option<Acquired<Lease<Link<O::Stream>>>>
+    requires own { caller.old.lock ≡ service.shared.now }
+    ensures moves { Moves a_lease caller.old (hand_of_answer result) caller.new }
+{
+    if service.opener.is_quiet(&lease.stream().stream) {
+        return Some(Acquired::Lease(lease));
+    }
+    service.gate.pass(service.rt, Point::Ready);
+    let _reply = service.shared.close(service.rt, caller, lease);
+    None
+}
+
+// Opens the link of a permit.
+fn open<R: Wait, O: Opener, G: Gate>(
+    service: Service<'_, R, Link<O::Stream>, O, G>,
+    caller: &mut Caller<Link<O::Stream>>,
+    database: DatabaseNo,
+    permit: Permit,
+) -> Acquired<Lease<Link<O::Stream>>>
+    requires own { caller.old.lock ≡ service.shared.now }
+    ensures moves { Moves a_permit caller.old (hand_of result) caller.new }
+{
+    match connect(service, database) {
+        Ok(opened) => put_up(service, caller, permit, opened),
+        Err(error) => {
+            let _reply = service.shared.up_failed(service.rt, caller, permit);
+            match error {
+                LinkError::Lost => Acquired::Refused(ErrorCode::ConnectionFailure),
+                LinkError::Memory => Acquired::Ended,
+            }
+        }
+    }
+}
+
+// The link of a client that left while it was opened is closed: its request isn't to run.
+fn unless_gone<R: Wait, O: Opener, G: Gate>(
+    service: Service<'_, R, Link<O::Stream>, O, G>,
+    caller: &mut Caller<Link<O::Stream>>,
+    opened: Acquired<Lease<Link<O::Stream>>>,
+) -> Acquired<Lease<Link<O::Stream>>>
+    requires own { caller.old.lock ≡ service.shared.now }
+    ensures moves { Moves (hand_of opened) caller.old (hand_of result) caller.new }
+{
+    match opened {
+        Acquired::Lease(lease) => {
+            if !service.opener.is_gone() {
+                return Acquired::Lease(lease);
+            }
+            service.gate.pass(service.rt, Point::Ready);
+            let _closed = service.shared.close(service.rt, caller, lease);
+            Acquired::Ended
+        }
+        Acquired::Cancelled => Acquired::Cancelled,
+        Acquired::Refused(code) => Acquired::Refused(code),
+        Acquired::Ended => Acquired::Ended,
+    }
+}
+
+// Reports that the link of a permit is open.
+fn put_up<R: Wait, O: Opener, G: Gate>(
+    service: Service<'_, R, Link<O::Stream>, O, G>,
+    caller: &mut Caller<Link<O::Stream>>,
+    permit: Permit,
+    opened: LoggedIn<O::Stream>,
+) -> Acquired<Lease<Link<O::Stream>>>
+    requires own { caller.old.lock ≡ service.shared.now }
+    ensures moves { Moves a_permit caller.old (hand_of result) caller.new }
+{
+    let shared = service.shared;
+    match shared.up(service.rt, caller, permit, opened.link, opened.key) {
+        UpReply::Up(lease) => Acquired::Lease(lease),
+        UpReply::Exhausted(permit, _) => {
+            let _reply = shared.up_failed(service.rt, caller, permit);
+            Acquired::Refused(ErrorCode::TooManyConnections)
+        }
+        UpReply::Stale(_) => Acquired::Refused(ErrorCode::AdminShutdown),
+        UpReply::AtEnd(_) => Acquired::Refused(ErrorCode::TooManyConnections),
+    }
+}
+
+// Connects to the server of a database and logs in there, as the user and to the database that its
+// entry names.
+fn connect<R: Wait, O: Opener, G: Gate>(
+    service: Service<'_, R, Link<O::Stream>, O, G>,
+    database: DatabaseNo,
+) -> Result<LoggedIn<O::Stream>, LinkError> {
+    let Some(entry) = service.settings.database(database) else {
+        return Err(LinkError::Lost);
+    };
+    if !is_name(entry.user) || !is_name(entry.dbname) {
+        return Err(LinkError::Lost);
+    }
+    if entry.user.len().saturating_add(entry.dbname.len()) > MAX_NAMES {
+        return Err(LinkError::Lost);
+    }
+    match service.opener.server(service.rt, database) {
+        Ok(stream) => log_in(service.rt, service.alloc, stream, entry.user, entry.dbname),
+        Err(error) => Err(cause_of(&error)),
+    }
+}
+
+// Why a link can't be opened.
+fn cause_of(error: &io::Error) -> LinkError {
+    match error.kind() {
+        ErrorKind::OutOfMemory => LinkError::Memory,
+        _ => LinkError::Lost,
+    }
+}
+
+// Whether a login can name this: it has no zero byte.
+fn is_name(name: &str) -> bool
+    ensures { IsTrue result → HasNoZero name.now }
+{
+    !name.as_bytes().contains(&0)
+}

@@ -1,0 +1,301 @@
+//! The reply to a request is read from the link and passed on to the client.
+ghost use Rattle.std.specs.Prelude.{◌≡◌, ◌≤◌, ◌-◌, ◌++◌, ◌∷◌, [], ℕ, List, true, false, length, take, IsTrue, None, Some, IfSome};
+ghost use Rattle.peer_forward.specs.Calls.{Call, Makes};
+ghost use Rattle.pg_frames.specs.FrameText.{HasFault};
+ghost use Rattle.pg_frames.specs.Passage.{start, fed, forgotten, after, HasNoNext};
+ghost use Rattle.startup.specs.declared.error_code.ErrorCode.TheVariants.{ConnectionFailure};
+ghost use Rattle.client_state.specs.Acts.{ready_text, head_act, after_head};
+ghost use Rattle.node_threads.specs.StreamCalls.{SomeCalls, Wrote, WroteSome, Read, IsFailedRead};
+ghost use Rattle.node_threads.specs.Asking.{IsError};
+ghost use Rattle.node_threads.specs.Replying.{EndsStay, Replies};
+ghost use Rattle.node_threads.specs.Progress.{asking, in_transaction, HandedOut, HandedLast, HandsOut, IsDry, KeepsSession, EndsHere, GoesOn, LeavesBehind, HeadMeans, PieceMeans, after_part, after_tail, Refuses, FinishesIdle, FinishesOpen};
+ghost use Rattle.node_threads.specs.declared.session.outcome.Stayed.{Stayed};
+
+use crate::session::link::read_up_to;
+use crate::session::place::{Handed, Place};
+use crate::stream::write_whole;
+use crate::{Link, Stayed};
+use client_state::{Act, Client, HeadAct, Reply};
+use peer_forward::{ReadCalls, WriteCalls};
+use pg_frames::{Flow, Piece};
+use std::sync::Wait;
+
+// How many bytes are read at once, at a reply's beginning and behind it.
+const MAX_FIRST_READ: usize = 2_048;
+
+const MAX_READ: usize = 16_384;
+
+/// Passes the reply to a request on to the client. It returns nothing where the reply leaves a
+/// transaction open and the stay goes on.
+pub fn pass_reply<R: Wait, C: WriteCalls + ReadCalls, L: WriteCalls + ReadCalls>(
+    rt: &R,
+    session: &mut Client,
+    client: &mut C,
+    link: &mut Link<L>,
+) -> Option<Stayed>
+    requires session { session.old ≡ asking session.old.database }
+    requires between { link.old.flow.left ≡ None }
+    requires written { link.old.flow.passed ≡ [] }
+    ensures goes_on { result ≡ None → SomeCalls L.wrote L.gave link.old.stream link.new.stream
+        (λ reads. SomeCalls C.wrote C.gave client.old client.new
+        (λ tells. GoesOn link.old.flow.bytes [] reads tells)) }
+    ensures open { result ≡ None → session.new ≡ in_transaction session.old.database }
+    ensures drained { result ≡ None → link.new.flow ≡ start }
+    ensures ends { IfSome result (λ stayed.
+        SomeCalls L.wrote L.gave link.old.stream link.new.stream
+        (λ reads. SomeCalls C.wrote C.gave client.old client.new
+        (λ tells. EndsHere link.old.flow.bytes [] reads tells stayed))) }
+    ensures leaves { IfSome result
+        (λ stayed. LeavesBehind stayed session.old session.new link.new.flow) }
+{
+    let mut place = Place::Between;
+    for _ in rt.forever() {
+        match hand_out(session, &mut link.flow, place) {
+            Handed::More(now) => {
+                if let Some(stayed) = read_on(session, client, link, now) {
+                    return Some(stayed);
+                }
+                place = now;
+            }
+            Handed::Ready(status) => return finish(session, client, &mut link.flow, status),
+            Handed::Refused(error) => return Some(refuse(client, &mut link.flow, 5, error)),
+        }
+    }
+    unreachable!()
+}
+
+// Hands out what is there of a reply.
+fn hand_out(session: &mut Client, flow: &mut Flow, place: Place) -> Handed
+    requires { session.old ≡ asking session.old.database }
+    ensures handed { (stream written : List ℕ) → HandedOut stream written place flow.old
+        → HandsOut stream written result flow.new }
+    ensures dry { IsDry result flow.new }
+    ensures session { KeepsSession result session.old session.new }
+{
+    let mut place = place;
+    loop {
+        let Some(piece) = flow.next() else {
+            return Handed::More(place);
+        };
+        match on_piece(session, place, piece) {
+            Handed::More(next) => place = next,
+            Handed::Ready(status) => return Handed::Ready(status),
+            Handed::Refused(error) => return Handed::Refused(error),
+        }
+    }
+}
+
+// What a piece of a reply means at this place.
+fn on_piece(session: &mut Client, place: Place, piece: Piece<'_>) -> Handed
+    requires { IsTrue session.old.leased }
+    ensures { PieceMeans place session.old piece.entry result session.new }
+{
+    match piece {
+        Piece::Head { kind, length } => on_head(session, kind, length),
+        Piece::Part(part) => Handed::More(after_part(place, part)),
+        Piece::Tail => after_tail(place),
+    }
+}
+
+// What the head of a frame means.
+fn on_head(session: &mut Client, kind: u8, length: usize) -> Handed
+    requires { IsTrue session.old.leased }
+    ensures means { HeadMeans (head_act session.old kind length) result }
+    ensures session { session.new ≡ after_head session.old kind length }
+{
+    match session.on_link_head(kind, length) {
+        HeadAct::PassOn => Handed::More(Place::Inside),
+        HeadAct::Ready => Handed::More(Place::AtReady),
+        HeadAct::Close(error) => Handed::Refused(error),
+    }
+}
+
+// Where a reader is after a part of a body.
+fn after_part(place: Place, part: &[u8]) -> Place
+    ensures { result ≡ after_part place part.now }
+{
+    match (place, part.first()) {
+        (Place::AtReady, Some(status)) => Place::Status(*status),
+        _ => place,
+    }
+}
+
+// What the end of a frame means.
+fn after_tail(place: Place) -> Handed
+    ensures { result ≡ after_tail place }
+{
+    match place {
+        Place::Status(status) => Handed::Ready(status),
+        _ => Handed::More(Place::Between),
+    }
+}
+
+// Writes to the client what was handed out, except the last `withheld` bytes, and forgets it. It
+// returns whether the client took it.
+fn pass_on<C: WriteCalls + ReadCalls>(client: &mut C, flow: &mut Flow, withheld: usize) -> bool
+    requires { withheld ≤ length flow.old.passed }
+    ensures told { result ≡ true → SomeCalls C.wrote C.gave client.old client.new
+        (Wrote (take (length flow.old.passed - withheld) flow.old.passed)) }
+    ensures untold { result ≡ false → SomeCalls C.wrote C.gave client.old client.new
+        (WroteSome (take (length flow.old.passed - withheld) flow.old.passed)) }
+    ensures flow { flow.new ≡ forgotten flow.old (length flow.old.passed - withheld) }
+{
+    let passed = flow.passed();
+    let count = passed.len() - withheld;
+    let told = write_whole(client, passed.split_at(count).0);
+    flow.forget(count);
+    told
+}
+
+// Passes on what was handed out, and reads more of the reply. It returns how the stay ended, if it
+// did.
+fn read_on<C: WriteCalls + ReadCalls, L: WriteCalls + ReadCalls>(
+    session: &mut Client,
+    client: &mut C,
+    link: &mut Link<L>,
+    place: Place,
+) -> Option<Stayed>
+    requires session { session.old ≡ asking session.old.database }
+    requires dry { HasNoNext link.old.flow.left link.old.flow.bytes }
+    requires handed { (stream : List ℕ) × (written : List ℕ)
+        × HandedOut stream written place link.old.flow }
+    ensures more { result ≡ None → SomeCalls L.wrote L.gave link.old.stream link.new.stream
+        (λ reads. SomeCalls C.wrote C.gave client.old client.new
+        (λ tells. (bytes : List ℕ) × Read bytes reads × (text : List ℕ) × Wrote text tells
+        × ((stream written : List ℕ) → HandedOut stream written place link.old.flow
+        → HandedOut (stream ++ bytes) (written ++ text) place link.new.flow))) }
+    ensures session { result ≡ None → session.new ≡ session.old }
+    ensures ends { IfSome result (λ stayed.
+        SomeCalls L.wrote L.gave link.old.stream link.new.stream
+        (λ reads. SomeCalls C.wrote C.gave client.old client.new
+        (λ tells. (stream written : List ℕ) → HandedOut stream written place link.old.flow
+        → EndsHere stream written reads tells stayed))) }
+    ensures leaves { IfSome result
+        (λ stayed. LeavesBehind stayed session.old session.new link.new.flow) }
+{
+    if !pass_on(client, &mut link.flow, place.withheld()) {
+        return Some(Stayed::End(Reply::nothing()));
+    }
+    if link.flow.fault().is_some() {
+        return Some(Stayed::End(lost(session)));
+    }
+    if read_more(link) {
+        return None;
+    }
+    match place {
+        Place::Inside => Some(Stayed::End(Reply::nothing())),
+        _ => Some(Stayed::End(lost(session))),
+    }
+}
+
+// The error of a lost link.
+pub fn lost(session: &mut Client) -> Reply
+    requires { IsTrue session.old.leased }
+    ensures { IsError ConnectionFailure result }
+{
+    match session.on_link_fault() {
+        Act::Close(error) => error,
+        _ => Reply::nothing(),
+    }
+}
+
+// Reads more of a link, and returns whether more came. Most replies are short, so the beginning of
+// one is read by less: what a read may fill is zeroed first.
+fn read_more<L: WriteCalls + ReadCalls>(link: &mut Link<L>) -> bool
+    requires dry { HasNoNext link.old.flow.left link.old.flow.bytes }
+    requires sound { HasFault (after link.old.flow) None }
+    requires few { length link.old.flow.passed ≤ 6 }
+    ensures more { result ≡ true → SomeCalls L.wrote L.gave link.old.stream link.new.stream
+        (λ reads. (bytes : List ℕ) × Read bytes reads × (link.new.flow ≡ fed link.old.flow bytes)) }
+    ensures none { result ≡ false → (call : Call)
+        × Makes L.wrote L.gave link.old.stream (call ∷ []) link.new.stream × IsFailedRead call }
+{
+    if link.flow.is_at_start() {
+        read_up_to::<MAX_FIRST_READ, L>(link)
+    } else {
+        read_up_to::<MAX_READ, L>(link)
+    }
+}
+
+// Passes on a reply up to its ReadyForQuery. It returns how the stay ended, unless the reply leaves
+// a transaction open and nothing follows it.
+fn finish<C: WriteCalls + ReadCalls>(
+    session: &mut Client,
+    client: &mut C,
+    flow: &mut Flow,
+    status: u8,
+) -> Option<Stayed>
+    requires session { session.old ≡ asking session.old.database }
+    requires handed { (stream : List ℕ) × (written : List ℕ)
+        × HandedLast stream written (ready_text status) flow.old }
+    ensures goes_on { result ≡ None → SomeCalls C.wrote C.gave client.old client.new
+        (λ tells. (stream written : List ℕ)
+        → HandedLast stream written (ready_text status) flow.old
+        → GoesOn stream written [] tells) }
+    ensures open { result ≡ None → session.new ≡ in_transaction session.old.database }
+    ensures drained { result ≡ None → flow.new ≡ start }
+    ensures ends { IfSome result (λ stayed. SomeCalls C.wrote C.gave client.old client.new
+        (λ tells. (stream written : List ℕ)
+        → HandedLast stream written (ready_text status) flow.old
+        → EndsHere stream written [] tells stayed)) }
+    ensures leaves { IfSome result
+        (λ stayed. LeavesBehind stayed session.old session.new flow.new) }
+{
+    match session.on_ready(status) {
+        Act::Release(_) => Some(finish_idle(client, flow)),
+        Act::ToClient(_) => finish_in_transaction(client, flow),
+        Act::Close(error) => Some(refuse(client, flow, 6, error)),
+        _ => unreachable!(),
+    }
+}
+
+// Passes on a reply that leaves no transaction open.
+fn finish_idle<C: WriteCalls + ReadCalls>(client: &mut C, flow: &mut Flow) -> Stayed
+    ensures told { SomeCalls C.wrote C.gave client.old client.new
+        (FinishesIdle flow.old.passed flow.old.bytes result) }
+    ensures flow { flow.new ≡ record flow.old { passed = [] } }
+{
+    if !pass_on(client, flow, 0) {
+        return Stayed::End(Reply::nothing());
+    }
+    if flow.pending().is_empty() {
+        Stayed::Release
+    } else {
+        Stayed::Close
+    }
+}
+
+// Passes on a reply that leaves a transaction open.
+fn finish_in_transaction<C: WriteCalls + ReadCalls>(
+    client: &mut C,
+    flow: &mut Flow,
+) -> Option<Stayed>
+    ensures told { SomeCalls C.wrote C.gave client.old client.new
+        (FinishesOpen flow.old.passed flow.old.bytes result) }
+    ensures flow { flow.new ≡ record flow.old { passed = [] } }
+    ensures ends { IfSome result (λ stayed. stayed ≡ Stayed.End []) }
+{
+    if pass_on(client, flow, 0) && flow.pending().is_empty() {
+        None
+    } else {
+        Some(Stayed::End(Reply::nothing()))
+    }
+}
+
+// Passes on what was handed out, except the last `withheld` bytes, and ends with an error.
+fn refuse<C: WriteCalls + ReadCalls>(
+    client: &mut C,
+    flow: &mut Flow,
+    withheld: usize,
+    error: Reply,
+) -> Stayed
+    requires { withheld ≤ length flow.old.passed }
+    ensures { SomeCalls C.wrote C.gave client.old client.new
+        (Refuses (take (length flow.old.passed - withheld) flow.old.passed) error result) }
+{
+    if pass_on(client, flow, withheld) {
+        Stayed::End(error)
+    } else {
+        Stayed::End(Reply::nothing())
+    }
+}

@@ -1,0 +1,154 @@
+//! The next request of a client is read.
+ghost use Rattle.std.specs.Prelude.{◌≡◌, ◌<◌, ◌≤◌, ◌++◌, ◌∷◌, [], ℕ, List, None, Some, IfSome, OnOk};
+ghost use Rattle.peer_forward.specs.Calls.{Call, Makes};
+ghost use Rattle.pg_frames.specs.FrameText.{BeginsNoFrame};
+ghost use Rattle.startup.specs.declared.error_code.ErrorCode.TheVariants.{ProtocolViolation};
+ghost use Rattle.node_threads.specs.StreamCalls.{SomeCalls, Read};
+ghost use Rattle.node_threads.specs.Asking.{IsError};
+ghost use Rattle.node_threads.specs.Progress.{asking};
+ghost use Rattle.node_threads.specs.Finding.{gathering, Finds, Quits, IsRefusal, AsksNext};
+
+use crate::stream::read_some;
+use client_state::{Act, Client, Reply, Request};
+use peer_forward::{ReadCalls, WriteCalls};
+use pg_frames::{Cutter, FrameError};
+use std::sync::Wait;
+
+// How many bytes are read at once: first, and where they weren't a whole request. What a read may
+// fill is zeroed before, and most requests are short.
+const FIRST_READ: usize = 512;
+
+const MAX_READ: usize = 16_384;
+
+// What was cut from what a client sent.
+enum Found {
+    // No whole request. More is to be read.
+    More,
+    // A request.
+    Request(Request),
+    // The end of the session, with this for the client.
+    End(Reply),
+}
+
+/// Reads the client's next request, with a lease in an open transaction or without one, or returns
+/// what is to be written to the client as the session ends.
+pub fn next_request<R: Wait, C: WriteCalls + ReadCalls>(
+    rt: &R,
+    session: &mut Client,
+    client: &mut C,
+    cutter: &mut Cutter,
+) -> Result<Request, Reply>
+    requires { session.old ≡ gathering session.old.leased session.old.database [] }
+    ensures asks { SomeCalls C.wrote C.gave client.old client.new
+        (λ calls. AsksNext cutter.old calls result cutter.new) }
+    ensures session { OnOk result (session.new ≡ asking session.old.database) }
+{
+    let mut has_read = false;
+    for _ in rt.forever() {
+        match cut_request(session, cutter) {
+            Found::Request(request) => return Ok(request),
+            Found::End(reply) => return Err(reply),
+            Found::More => {}
+        }
+        if let Some(reply) = read_more(session, client, cutter, has_read) {
+            return Err(reply);
+        }
+        has_read = true;
+    }
+    unreachable!()
+}
+
+// Reads more of the client, where some of a request was read or none was. It returns what is to be
+// written as the session ends, if it does.
+fn read_more<C: WriteCalls + ReadCalls>(
+    session: &mut Client,
+    client: &mut C,
+    cutter: &mut Cutter,
+    has_read: bool,
+) -> Option<Reply>
+    requires none { BeginsNoFrame cutter.old }
+    ensures more { result ≡ None → SomeCalls C.wrote C.gave client.old client.new
+        (λ calls. (bytes : List ℕ) × Read bytes calls × (cutter.new ≡ cutter.old ++ bytes)) }
+    ensures session { result ≡ None → session.new ≡ session.old }
+    ensures ends { IfSome result (λ reply. SomeCalls C.wrote C.gave client.old client.new
+        (λ calls. Quits cutter.old calls reply cutter.new)) }
+{
+    if has_read {
+        read_on::<MAX_READ, C>(session, client, cutter)
+    } else {
+        read_on::<FIRST_READ, C>(session, client, cutter)
+    }
+}
+
+// Cuts a request from what was read of the client.
+fn cut_request(session: &mut Client, cutter: &mut Cutter) -> Found
+    requires { session.old
+        ≡ gathering session.old.leased session.old.database session.old.gathered }
+    ensures { Finds session.old cutter.old result session.new cutter.new }
+{
+    loop {
+        let Ok(found) = cutter.next() else {
+            return Found::End(Reply::nothing());
+        };
+        let Some(frame) = found else {
+            return Found::More;
+        };
+        match session.on_client(frame) {
+            Act::ToLink(request) | Act::Need(request) => return Found::Request(request),
+            Act::Close(reply) | Act::End(reply) => return Found::End(reply),
+            Act::ToClient(_) => {}
+            Act::Release(_) => unreachable!(),
+        }
+    }
+}
+
+// Reads at most `MOST` bytes more of the client. It isn't inlined, so that a session's stack has no
+// room for a buffer that it doesn't read into.
+#[inline(never)]
+fn read_on<const MOST: usize, C: WriteCalls + ReadCalls>(
+    session: &mut Client,
+    client: &mut C,
+    cutter: &mut Cutter,
+) -> Option<Reply>
+    requires some { 0 < MOST }
+    requires many { MOST ≤ 16384 }
+    requires none { BeginsNoFrame cutter.old }
+    ensures more { result ≡ None → SomeCalls C.wrote C.gave client.old client.new
+        (λ calls. (bytes : List ℕ) × Read bytes calls × (cutter.new ≡ cutter.old ++ bytes)) }
+    ensures session { result ≡ None → session.new ≡ session.old }
+    ensures ends { IfSome result (λ reply. SomeCalls C.wrote C.gave client.old client.new
+        (λ calls. Quits cutter.old calls reply cutter.new)) }
+{
+    if let Err(error) = cutter.feed(&[]) {
+        return Some(refusal(session, error));
+    }
+    let mut buffer = [0; MOST];
+    let count = read_some(client, &mut buffer);
+    if count == 0 {
+        return Some(Reply::nothing());
+    }
+    match cutter.feed(&buffer[..count]) {
+        Err(FrameError::Memory) => Some(Reply::nothing()),
+        _ => None,
+    }
+}
+
+// What is written to a client whose bytes can't be taken.
+fn refusal(session: &mut Client, error: FrameError) -> Reply
+    ensures { IsRefusal error result }
+{
+    match error {
+        FrameError::BadLength | FrameError::TooLong | FrameError::BadType => violation(session),
+        FrameError::Memory => Reply::nothing(),
+    }
+}
+
+// The error of a client that violates the protocol.
+fn violation(session: &mut Client) -> Reply
+    ensures { IsError ProtocolViolation result }
+{
+    match session.on_client_fault() {
+        Act::Close(error) | Act::End(error) => error,
+        _ => Reply::nothing(),
+    }
+}
