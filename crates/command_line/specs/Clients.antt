@@ -1,4 +1,4 @@
--- The clients among the arguments of the program (own).
+-- The clients of `decide` among the arguments (own).
 use Rattle.std.specs.Prelude.{ℕ, nat_le, if◌then◌else◌, List, length, Option, Some, None}
 use Rattle.std.specs.Option.{option_map}
 use Rattle.std.specs.Result.{result_ok}

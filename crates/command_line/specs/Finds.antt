@@ -1,4 +1,4 @@
--- What a reader of arguments returns, beside what they say: the same, unless memory ran out (own).
+-- What a reader of arguments returns if memory runs out (internal).
 use Rattle.std.specs.Prelude.{ℕ, ◌≡◌, ◌⊎◌, List, drop, map, Result, Ok, Err, Option, Some, None}
 use Rattle.std.specs.Borrow.{Bor}
 use Rattle.command_line.specs.Arguments.{Text, Given, given_by_all, LeadsOn}

@@ -1,4 +1,5 @@
--- What each list of arguments asks the program for (own).
+-- What each list of arguments asks for (own): the parts of a key, a decision, a check of files, a
+-- run of a script, help, the version, or nothing.
 use Rattle.std.specs.Prelude.{ℕ, Bool, true, false, ◌&&◌, if◌then◌else◌, List, [], ◌∷◌, map, Option, Some, None, codes}
 use Rattle.std.specs.Map.{lookup}
 use Rattle.std.specs.Option.{option_map, option_or}

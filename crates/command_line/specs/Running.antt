@@ -1,4 +1,4 @@
--- Which arguments ask for a command that runs until it is stopped (own).
+-- Which arguments ask for `serve` or `stub` (own).
 use Rattle.std.specs.Prelude.{if◌then◌else◌, List, [], ◌∷◌, Option, Some, None}
 use Rattle.command_line.specs.Arguments.{Text, asks_help}
 use Rattle.command_line.specs.Request.{command_named}

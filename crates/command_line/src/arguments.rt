@@ -44,7 +44,7 @@ enum Shape<'a> {
     Alone(OptionName),
     // An option and its value.
     Whole(OptionName, &'a str),
-    // Nothing that there is.
+    // An unknown option.
     Unknown,
 }
 

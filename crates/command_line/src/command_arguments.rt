@@ -129,6 +129,14 @@ The number of this start, part of longer keys, 0 to 4294967295 and 0 where it
 isn't given: give another one at each start",
     },
     Argument {
+        name: "stand-in",
+        form: Form::Flag,
+        required: false,
+        help: "\
+Run a stand-in server at each port of 127.0.0.1 that the settings name as a
+server's address, for trials without PostgreSQL",
+    },
+    Argument {
         name: "FILE",
         form: Form::Several,
         required: true,

@@ -97,7 +97,7 @@ fn usage_of<'a>(name: CommandName) -> Option<&'a str> {
             Some("pgpeer decide --me <N> [--peers <P,P..>] [--live <C,C..>] <HEX>")
         }
         CommandName::Serve => {
-            Some("pgpeer serve --front <PORT> --seed <HEX64> [--boot <N>] <FILE>...")
+            Some("pgpeer serve --front <PORT> --seed <HEX64> [--boot <N>] [--stand-in] <FILE>...")
         }
         CommandName::Stub => Some("pgpeer stub [--byte] <PORT>"),
         CommandName::Key | CommandName::Check | CommandName::World => None,
@@ -177,8 +177,10 @@ const AFTER_SERVE: &str = "\
 One file is a pooler of a group whose others run elsewhere. Several files are several poolers of a
 group in one process.
 
-Example:
-  $ pgpeer serve --front 6432 --seed $(openssl rand -hex 32) --boot $(date +%s) node1.ini";
+Examples:
+  $ pgpeer serve --front 6432 --seed $(openssl rand -hex 32) --boot $(date +%s) node1.ini
+
+  $ pgpeer serve --stand-in --front 6432 --seed $(openssl rand -hex 32) node1.ini node2.ini";
 
 const AFTER_STUB: &str = "\
 Example:

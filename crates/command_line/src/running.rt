@@ -56,11 +56,13 @@ fn serve<'a>(alloc: Global, arguments: &'a [&'a str]) -> Result<ServeRequest<'a>
     let front = port_of(Place::Front, value_of(given, "front")?)?;
     let seed = seed_of(value_of(given, "seed")?)?;
     let boot = boot_of(given.get_str("boot"))?;
+    let stand_in = given.get_flag("stand-in");
     let files = files_of(alloc, given)?;
     Ok(ServeRequest {
         front,
         seed,
         boot,
+        stand_in,
         files,
     })
 }

@@ -10,6 +10,8 @@ pub struct ServeRequest<'a> {
     pub seed: [u8; 32],
     /// The number of this start, which is part of longer keys.
     pub boot: u32,
+    /// Whether stand-in servers run at those of the settings' server addresses that are 127.0.0.1.
+    pub stand_in: bool,
     /// The names of the settings files, one for each node of this process.
     pub files: Vec<&'a str>,
     ghost listens: { 0 < front },

@@ -26,7 +26,7 @@ pub fn version(alloc: Global) -> Result<String, AllocError> {
     parser_text(alloc, &["--version"])
 }
 
-/// What is written of arguments that ask for nothing. Fails if memory runs out.
+/// The message for arguments that are refused. Fails if memory runs out.
 pub fn usage<'a>(
     alloc: Global,
     arguments: &'a [&'a str],
@@ -98,7 +98,7 @@ fn written(alloc: Global, error: &Error) -> Result<String, AllocError> {
     format!(in alloc; "{error}")
 }
 
-// What is written of a value that isn't one that there may be.
+// The message for an invalid value.
 fn value_text(alloc: Global, place: Place, value: &str) -> Result<String, AllocError> {
     let message = message(alloc, place, value)?;
     error_text(command(alloc, command_of(place))?, message.as_str(), alloc)

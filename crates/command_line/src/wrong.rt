@@ -1,4 +1,4 @@
-//! Why arguments ask for nothing.
+//! Why arguments are refused.
 ghost use Rattle.std.specs.Prelude.{◌≡◌};
 ghost use Rattle.command_line.specs.declared.wrong.Wrong.TheVariants.{Memory};
 
@@ -35,12 +35,12 @@ pub enum Place {
     Port,
 }
 
-/// Why arguments ask for nothing that there is, or that memory ran out.
+/// Why arguments are refused, or that memory ran out.
 #[derive(Clone, Copy, Debug)]
 pub enum Wrong<'a> {
-    /// They aren't arguments of a command, as the parser of arguments says.
+    /// They have no form of any command; `clap` has the message.
     Form,
-    /// This value isn't one that there may be.
+    /// This value is invalid.
     Value(Place, &'a str),
     /// Memory ran out.
     Memory,

@@ -1,10 +1,17 @@
 //! The connections that a listener accepts.
-use crate::{Host, Machine, Notice, Notices, Serving};
+use crate::client_stream::{ClientStream, Serves};
+use crate::crew::Crew;
+use crate::doorway::Doorway;
+use crate::ending::end;
+use crate::guests::Newcomer;
+use crate::limits::{ALONE_MILLIS, FIRST_PACKETS_MILLIS, NEWCOMER_AGE_MILLIS};
+use crate::{Connection, Deadline, Host, Machine, Notice, Notices, Serving};
 use node_threads::Front;
 use std::alloc::{AllocError, Global};
+use std::io::ErrorKind;
 use std::net::{TcpListener, TcpStream};
-use std::sync::atomic::{AtomicU64, Ordering};
-use std::sync::{Arc, Mutex, Wait};
+use std::os::fd::AsRawFd;
+use std::sync::{Arc, Mutex};
 use std::time::Duration;
 use std::{io, thread};
 
@@ -15,13 +22,6 @@ const REST: u64 = 10;
 // How large the stack of a thread is that serves connections.
 const STACK: usize = 1 << 20;
 
-// How many threads wait for a connection at a listener, at least, as soon as they could be started:
-// so connections that come together don't wait for one thread after another.
-const FEWEST: u64 = 2;
-
-// How many threads wait for a connection, at most: whoever is done with one and finds as many ends.
-const MOST: u64 = 8;
-
 /// A listener, and the nodes that serve its connections in turn. The thread that accepts a
 /// connection serves it, and waits for another one after that: so no thread is started for each
 /// connection, and none has to be woken up by another.
@@ -30,9 +30,9 @@ pub struct Acceptor<M: Machine> {
     listener: TcpListener,
     nodes: Vec<Arc<Serving<M>, Global>>,
     front: Mutex<Front>,
+    doorway: Arc<Doorway, Global>,
     notices: Arc<Notices, Global>,
-    // How many threads wait for a connection, or are about to.
-    waiting: AtomicU64,
+    crew: Crew,
 }
 
 impl<M: Machine> Acceptor<M> {
@@ -40,6 +40,7 @@ impl<M: Machine> Acceptor<M> {
     pub fn new(
         listener: TcpListener,
         nodes: Vec<Arc<Serving<M>, Global>>,
+        doorway: Arc<Doorway, Global>,
         notices: Arc<Notices, Global>,
     ) -> Acceptor<M> {
         let front = Mutex::new(Front::new(nodes.len().max(1)));
@@ -47,64 +48,114 @@ impl<M: Machine> Acceptor<M> {
             listener,
             nodes,
             front,
+            doorway,
             notices,
-            waiting: AtomicU64::new(0),
+            crew: Crew::new(),
         }
     }
 
-    // A thread no longer waits here. If there are too few now, it wakes up who starts another.
-    fn leave(&self) {
-        if self.waiting.fetch_sub(1, Ordering::SeqCst) <= FEWEST {
-            self.waiting.wake_one();
-        }
-    }
-
-    // Returns whether a thread that is done with a connection waits for another one.
-    fn comes_back(&self) -> bool {
-        if self.waiting.load(Ordering::SeqCst) >= MOST {
-            return false;
-        }
-        self.waiting.fetch_add(1, Ordering::SeqCst);
-        true
-    }
-
-    // Serves a connection to its end, or closes it.
-    fn serve(&self, host: &M, alloc: Global, stream: TcpStream) {
-        if let Err(error) = self.try_serve(host, alloc, stream) {
-            if self.notices.may_give(host, Notice::Serve) {
-                let _ = eprintln!(host; "cannot serve a connection: {error}");
-            }
-        }
-    }
-
-    fn try_serve(&self, host: &M, alloc: Global, stream: TcpStream) -> io::Result<()> {
-        stream.set_nodelay(true)?;
+    // Serves a connection to its end, or closes it. If no other thread can wait for connections
+    // meanwhile, it is served only if it is a cancel request.
+    fn serve(&self, host: &M, alloc: Global, socket: TcpStream) {
         let place = self.front.lock(host).deal();
-        if let Some(node) = self.nodes.get(place) {
-            let Some(calling) = node.take(host, alloc) else {
-                return Err(io::Error::from(AllocError));
-            };
-            node.serve(host, alloc, calling, stream);
+        let serves = if self.crew.leave(host) {
+            Serves::All
+        } else {
+            Serves::Cancels
+        };
+        if let Err(error) = self.try_serve(host, alloc, place, socket, serves) {
+            self.give_notice(host, alloc, Notice::Serve, "serve", &error);
         }
+    }
+
+    // Serves a connection at the node at this place, if there is room for it.
+    fn try_serve(
+        &self,
+        host: &M,
+        alloc: Global,
+        place: usize,
+        socket: TcpStream,
+        serves: Serves,
+    ) -> io::Result<()> {
+        let Some(node) = self.nodes.get(place) else {
+            return Ok(());
+        };
+        let Some(newcomer) = self.doorway.arrive(host, socket.as_raw_fd()) else {
+            return Err(io::Error::new(ErrorKind::QuotaExceeded, "too many connections"));
+        };
+        let connection = Connection::new(socket);
+        let served = self.serve_newcomer(host, alloc, node, &connection, newcomer, serves);
+        self.doorway.go(host, newcomer);
+        drop(connection);
+        self.doorway.leave(host);
+        served
+    }
+
+    // Serves a connection that has come in. Where no caller of the node can be made, it is served
+    // only if it is a cancel request.
+    fn serve_newcomer(
+        &self,
+        host: &M,
+        alloc: Global,
+        node: &Serving<M>,
+        connection: &Connection,
+        newcomer: Newcomer,
+        serves: Serves,
+    ) -> io::Result<()> {
+        connection.socket().set_nodelay(true)?;
+        let mut serves = serves;
+        let calling = match node.take(host, alloc) {
+            Some(calling) => calling,
+            None => {
+                serves = Serves::Cancels;
+                node.take_reserved(host).ok_or(io::Error::from(AllocError))?
+            }
+        };
+        let deadline = Deadline::after(host, time_of(serves))?;
+        let mut client = ClientStream::new(
+            host,
+            alloc,
+            connection,
+            &self.doorway,
+            newcomer,
+            serves,
+            deadline,
+        );
+        node.serve(host, alloc, calling, connection, &mut client);
+        end(host, connection, &mut client);
         Ok(())
+    }
+
+    // Gives notice of what can't be done with a connection.
+    fn give_notice(&self, host: &M, alloc: Global, notice: Notice, what: &str, error: &io::Error) {
+        if self.notices.may_give(host, notice) {
+            let text = format!(in alloc; "cannot {what} a connection: {error}");
+            self.notices.give(host, text);
+        }
+    }
+}
+
+// How many milliseconds the first packets of a connection may take.
+fn time_of(serves: Serves) -> u64 {
+    match serves {
+        Serves::All => FIRST_PACKETS_MILLIS,
+        Serves::Cancels => ALONE_MILLIS,
     }
 }
 
 /// Sees to it that threads wait for connections at a listener, as long as threads can be started.
 pub fn keep_accepting<H: Host>(host: &H, alloc: Global, acceptor: &Arc<Acceptor<H>, Global>) {
     for _ in host.forever() {
-        let waiting = acceptor.waiting.load(Ordering::SeqCst);
-        if waiting >= FEWEST {
-            acceptor.waiting.park(host, (waiting % (1 << 32)) as u32);
-            continue;
-        }
+        acceptor.crew.wait_until_few(host);
         for node in &acceptor.nodes {
-            node.stock(host, alloc, FEWEST as usize);
+            node.stock(host, alloc, acceptor.crew.fewest());
         }
         if let Err(error) = start(host, alloc, acceptor) {
             if acceptor.notices.may_give(host, Notice::Serve) {
-                let _ = eprintln!(host; "cannot start a thread: {error}");
+                let text = format!(in alloc; "cannot start a thread: {error}");
+                acceptor.notices.give(host, text);
             }
+            acceptor.doorway.make_room(host, NEWCOMER_AGE_MILLIS);
             thread::sleep(host, Duration::from_millis(REST));
         }
     }
@@ -114,14 +165,14 @@ pub fn keep_accepting<H: Host>(host: &H, alloc: Global, acceptor: &Arc<Acceptor<
 fn start<H: Host>(host: &H, alloc: Global, acceptor: &Arc<Acceptor<H>, Global>) -> io::Result<()> {
     let own = *host;
     let theirs = Arc::try_clone(acceptor).map_err(io::Error::from)?;
-    acceptor.waiting.fetch_add(1, Ordering::SeqCst);
+    acceptor.crew.begin_start();
     let started = thread::Builder::new()
         .stack_size(STACK)
         .spawn(host, move || accept(&own, alloc, &theirs));
     match started {
         Ok(_) => Ok(()),
         Err(error) => {
-            acceptor.waiting.fetch_sub(1, Ordering::SeqCst);
+            acceptor.crew.fail_start();
             Err(error)
         }
     }
@@ -130,19 +181,18 @@ fn start<H: Host>(host: &H, alloc: Global, acceptor: &Arc<Acceptor<H>, Global>) 
 // Accepts connections and serves each to its end, until enough other threads wait for them. A fault
 // of accept is passed over.
 fn accept<M: Machine>(host: &M, alloc: Global, acceptor: &Acceptor<M>) {
-    for stream in acceptor.listener.incoming() {
-        match stream {
-            Ok(stream) => {
-                acceptor.leave();
-                acceptor.serve(host, alloc, stream);
-                if !acceptor.comes_back() {
+    acceptor.crew.start();
+    for socket in acceptor.listener.incoming() {
+        match socket {
+            Ok(socket) => {
+                acceptor.serve(host, alloc, socket);
+                if !acceptor.crew.come_back() {
                     return;
                 }
             }
             Err(error) => {
-                if acceptor.notices.may_give(host, Notice::Accept) {
-                    let _ = eprintln!(host; "cannot accept a connection: {error}");
-                }
+                acceptor.give_notice(host, alloc, Notice::Accept, "accept", &error);
+                acceptor.doorway.make_room(host, NEWCOMER_AGE_MILLIS);
                 thread::sleep(host, Duration::from_millis(REST));
             }
         }

@@ -3,6 +3,8 @@ ghost use Rattle.std.specs.Prelude.{◌<◌, length};
 ghost use Rattle.std.specs.Arc.{arc_value};
 
 use crate::accepting::{Acceptor, keep_accepting};
+use crate::descriptors::{Needs, descriptor_limit};
+use crate::doorway::Doorway;
 use crate::{Dialer, Host, Notices, Serving};
 use ini_config::Group;
 use node_threads::Calling;
@@ -12,23 +14,27 @@ use std::net::TcpListener;
 use std::sync::Arc;
 use std::{io, thread};
 
-/// Why a group can't listen.
+/// Why a group can't serve.
 #[derive(Clone, Copy, Debug, PartialEq, Eq)]
-pub enum ListenError {
+pub enum ServeError {
     /// This port can't be listened at.
     Port(u16),
     /// Memory was refused.
     Memory,
+    /// A thread can't be started.
+    Thread,
+    /// Standard output can't be written to.
+    Output,
 }
 
-impl From<AllocError> for ListenError {
+impl From<AllocError> for ServeError {
     ghost use Rattle.std.specs.Prelude.{◌≡◌};
-    ghost use Rattle.group_server.specs.declared.group.ListenError.TheVariants.{Memory};
+    ghost use Rattle.group_server.specs.declared.group.ServeError.TheVariants.{Memory};
 
     ghost from_gives = { λ _ error. error ≡ Memory };
 
-    fn from(_: AllocError) -> ListenError {
-        ListenError::Memory
+    fn from(_: AllocError) -> ServeError {
+        ServeError::Memory
     }
 }
 
@@ -37,6 +43,7 @@ impl From<AllocError> for ListenError {
 pub struct Listening<H: Host> {
     front: TcpListener,
     nodes: Vec<ListeningNode<H>>,
+    doorway: Arc<Doorway, Global>,
     notices: Arc<Notices, Global>,
 }
 
@@ -57,7 +64,7 @@ impl<H: Host> Listening<H> {
         front: u16,
         seed: [u8; 32],
         boot: u32,
-    ) -> Result<Listening<H>, ListenError> {
+    ) -> Result<Listening<H>, ServeError> {
         let front = listen(host, "127.0.0.1", front)?;
         let listeners = listen_at_each(host, alloc, &group)?;
         Ok(Listening::new(host, alloc, group, front, listeners, seed, boot)?)
@@ -73,8 +80,10 @@ impl<H: Host> Listening<H> {
         seed: [u8; 32],
         boot: u32,
     ) -> Result<Listening<H>, AllocError> {
+        let room = Needs::of(&group).room(descriptor_limit());
+        let doorway = Arc::new(alloc, Doorway::new(alloc, room))?;
         let group = Arc::new(alloc, group)?;
-        let notices = Arc::new(alloc, Notices::new())?;
+        let notices = Arc::new(alloc, Notices::new(alloc))?;
         let mut nodes = Vec::with_capacity(alloc, listeners.len())?;
         let mut place = 0;
         for listener in listeners {
@@ -87,27 +96,31 @@ impl<H: Host> Listening<H> {
         Ok(Listening {
             front,
             nodes,
+            doorway,
             notices,
         })
     }
 
     /// Accepts connections and serves them. Fails if a node can't accept connections because no
     /// thread can be started or memory ran out.
-    pub fn serve(self, host: &H, alloc: Global) -> Result<(), AllocError> {
+    pub fn serve(self, host: &H, alloc: Global) -> Result<(), ServeError> {
         let Listening {
             front,
             nodes,
+            doorway,
             notices,
         } = self;
-        let all = accept_at_each(host, alloc, nodes, &notices)?;
-        let acceptor = Arc::new(alloc, Acceptor::new(front, all, notices))?;
+        write_notices_apart(host, &notices)?;
+        let all = accept_at_each(host, alloc, nodes, &doorway, &notices)?;
+        let acceptor = Acceptor::new(front, all, doorway, notices);
+        let acceptor = Arc::new(alloc, acceptor).map_err(AllocError::from)?;
         keep_accepting(host, alloc, &acceptor);
         Ok(())
     }
 }
 
 /// Binds the addresses of a group, says `listening PORT` on standard output, and serves clients.
-/// Fails if an address can't be listened at or memory is refused, and returns if standard output is
+/// Fails if an address can't be listened at, memory or a thread is refused, or standard output is
 /// closed.
 pub fn serve_group<H: Host + Print>(
     host: &H,
@@ -116,7 +129,7 @@ pub fn serve_group<H: Host + Print>(
     front: u16,
     seed: [u8; 32],
     boot: u32,
-) -> Result<(), ListenError> {
+) -> Result<(), ServeError> {
     match Listening::bind(host, alloc, group, front, seed, boot) {
         Ok(listening) => say_and_serve(host, alloc, listening, front),
         Err(error) => Err(error),
@@ -129,11 +142,24 @@ fn say_and_serve<H: Host + Print>(
     alloc: Global,
     listening: Listening<H>,
     front: u16,
-) -> Result<(), ListenError> {
-    if println!(host; "listening {front}").is_ok() {
-        listening.serve(host, alloc)?;
+) -> Result<(), ServeError> {
+    if println!(host; "listening {front}").is_err() {
+        return Err(ServeError::Output);
     }
-    Ok(())
+    listening.serve(host, alloc)
+}
+
+// Writes notices in a thread apart.
+fn write_notices_apart<H: Host>(
+    host: &H,
+    notices: &Arc<Notices, Global>,
+) -> Result<(), ServeError> {
+    let own = *host;
+    let theirs = Arc::try_clone(notices)?;
+    match thread::Builder::new().spawn(host, move || theirs.write_all(&own)) {
+        Ok(_) => Ok(()),
+        Err(_) => Err(ServeError::Thread),
+    }
 }
 
 // The node at a place of the group, without clients and links.
@@ -150,6 +176,7 @@ fn serving_at<H: Host>(
 {
     let dialer = Dialer::new(
         *host,
+        alloc,
         Arc::try_clone(group)?,
         place,
         Arc::try_clone(notices)?,
@@ -164,11 +191,14 @@ fn accept_at_each<H: Host>(
     host: &H,
     alloc: Global,
     nodes: Vec<ListeningNode<H>>,
+    doorway: &Arc<Doorway, Global>,
     notices: &Arc<Notices, Global>,
-) -> Result<Vec<Arc<Serving<H>, Global>>, AllocError> {
+) -> Result<Vec<Arc<Serving<H>, Global>>, ServeError> {
     let mut all = Vec::with_capacity(alloc, nodes.len())?;
     for node in nodes {
-        all.push(accept_at(host, alloc, node, notices)?)?;
+        let Ok(()) = all.push(accept_at(host, alloc, node, doorway, notices)?) else {
+            return Err(ServeError::Memory);
+        };
     }
     Ok(all)
 }
@@ -178,29 +208,33 @@ fn accept_at<H: Host>(
     host: &H,
     alloc: Global,
     node: ListeningNode<H>,
+    doorway: &Arc<Doorway, Global>,
     notices: &Arc<Notices, Global>,
-) -> Result<Arc<Serving<H>, Global>, AllocError> {
+) -> Result<Arc<Serving<H>, Global>, ServeError> {
     let ListeningNode { listener, serving } = node;
     let kept = Arc::try_clone(&serving)?;
-    accept_apart(host, alloc, serving, listener, notices)?;
-    Ok(kept)
+    let acceptor = acceptor_of(alloc, serving, listener, doorway, notices)?;
+    let own = *host;
+    match thread::Builder::new().spawn(host, move || keep_accepting(&own, alloc, &acceptor)) {
+        Ok(_) => Ok(kept),
+        Err(_) => Err(ServeError::Thread),
+    }
 }
 
-// Accepts a node's own connections in a thread apart.
-fn accept_apart<H: Host>(
-    host: &H,
+// A listener of one node.
+fn acceptor_of<H: Host>(
     alloc: Global,
     serving: Arc<Serving<H>, Global>,
     listener: TcpListener,
+    doorway: &Arc<Doorway, Global>,
     notices: &Arc<Notices, Global>,
-) -> Result<(), AllocError> {
+) -> Result<Arc<Acceptor<H>, Global>, AllocError> {
     let mut nodes = Vec::with_capacity(alloc, 1)?;
     nodes.push(serving)?;
+    let doorway = Arc::try_clone(doorway)?;
     let notices = Arc::try_clone(notices)?;
-    let acceptor = Arc::new(alloc, Acceptor::new(listener, nodes, notices))?;
-    let own = *host;
-    thread::spawn(host, move || keep_accepting(&own, alloc, &acceptor))?;
-    Ok(())
+    let acceptor = Acceptor::new(listener, nodes, doorway, notices);
+    Ok(Arc::new(alloc, acceptor)?)
 }
 
 // Binds the address of each node, in their order.
@@ -208,20 +242,20 @@ fn listen_at_each<H: Host>(
     host: &H,
     alloc: Global,
     group: &Group,
-) -> Result<Vec<TcpListener>, ListenError> {
+) -> Result<Vec<TcpListener>, ServeError> {
     let mut listeners = Vec::new(alloc);
     for settings in group.nodes() {
         let listener = listen(host, settings.listen_addr(), settings.listen_port())?;
         let Ok(()) = listeners.push(listener) else {
-            return Err(ListenError::Memory);
+            return Err(ServeError::Memory);
         };
     }
     Ok(listeners)
 }
 
-fn listen<H: Host>(host: &H, address: &str, port: u16) -> Result<TcpListener, ListenError> {
+fn listen<H: Host>(host: &H, address: &str, port: u16) -> Result<TcpListener, ServeError> {
     match TcpListener::bind(host, (address, port)) {
         Ok(listener) => Ok(listener),
-        Err(_) => Err(ListenError::Port(port)),
+        Err(_) => Err(ServeError::Port(port)),
     }
 }

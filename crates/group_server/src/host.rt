@@ -5,12 +5,12 @@ use std::sync::Wait;
 use std::thread::Threads;
 use std::time::Clock;
 
-/// What it takes to connect to servers and peers, and to say what goes wrong there.
-pub trait Machine: Net<Listener = TcpListener, Stream = TcpStream> + Wait + Clock + Eprint {}
+/// What it takes to connect to servers and peers.
+pub trait Machine: Net<Listener = TcpListener, Stream = TcpStream> + Wait + Clock + Copy {}
 
-impl<M: Net<Listener = TcpListener, Stream = TcpStream> + Wait + Clock + Eprint> Machine for M {}
+impl<M: Net<Listener = TcpListener, Stream = TcpStream> + Wait + Clock + Copy> Machine for M {}
 
 /// A machine on which threads serve connections.
-pub trait Host: Machine + Threads + Copy + Send + Sync + 'static {}
+pub trait Host: Machine + Eprint + Threads + Send + Sync + 'static {}
 
-impl<H: Machine + Threads + Copy + Send + Sync + 'static> Host for H {}
+impl<H: Machine + Eprint + Threads + Send + Sync + 'static> Host for H {}

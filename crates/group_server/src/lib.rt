@@ -3,14 +3,37 @@
 #![tactic(auto)]
 
 mod accepting;
+mod client_stream;
+mod connecting;
+mod connection;
+mod crew;
+mod deadline;
+mod descriptors;
 mod dialer;
+mod doorway;
+mod ending;
+mod first_packet;
 mod group;
+mod guests;
 mod host;
+mod last_words;
+mod limits;
+mod link_stream;
 mod notices;
+mod poll;
 mod serving;
 
-pub use dialer::Dialer;
-pub use group::{ListenError, Listening, serve_group};
+pub use client_stream::{ClientStream, LastCall, Serves};
+pub use connection::Connection;
+pub use deadline::Deadline;
+pub use descriptors::{Needs, descriptor_limit};
+pub use dialer::{ClientDialer, Dialer};
+pub use doorway::Doorway;
+pub use first_packet::{Asks, FirstPacket, Next};
+pub use group::{Listening, ServeError, serve_group};
+pub use guests::{Arrival, Guests, Newcomer, Room};
 pub use host::{Host, Machine};
+pub use last_words::find_error;
+pub use link_stream::LinkStream;
 pub use notices::{Notice, Notices};
 pub use serving::Serving;

@@ -1,7 +1,11 @@
 //! What goes wrong while a group serves, for its operator.
 ghost use Rattle.std.specs.Prelude.{◌<◌};
 
-use std::sync::{Mutex, Wait};
+use crate::limits::NOTICES_KEPT;
+use std::alloc::Global;
+use std::collections::VecDeque;
+use std::io::Eprint;
+use std::sync::{Condvar, Mutex, Wait};
 use std::time::{Clock, Duration};
 
 /// What a notice is about.
@@ -23,17 +27,33 @@ const NOTICES: usize = 4;
 // How many seconds notices of one kind are apart.
 const PAUSE: u64 = 1;
 
-/// When notices of each kind were last given: at most one a second is.
+/// The notices of a process: at most one a second of each kind is given. They wait to be written by
+/// a thread of their own, so that nobody else waits for standard error.
 #[derive(Drop)]
 pub struct Notices {
+    // When notices of each kind were last given.
     last: Mutex<[Option<Duration>; NOTICES]>,
+    queue: Mutex<Queue>,
+    filled: Condvar,
+}
+
+// The notices that wait to be written, and how many were left out.
+#[derive(Drop)]
+struct Queue {
+    texts: VecDeque<String>,
+    left_out: u64,
 }
 
 impl Notices {
     /// No notice was given.
-    pub fn new() -> Notices {
+    pub fn new(alloc: Global) -> Notices {
         Notices {
             last: Mutex::new([None; NOTICES]),
+            queue: Mutex::new(Queue {
+                texts: VecDeque::new(alloc),
+                left_out: 0,
+            }),
+            filled: Condvar::new(),
         }
     }
 
@@ -51,6 +71,57 @@ impl Notices {
         }
         last[place] = Some(now);
         true
+    }
+
+    /// Gives a notice with this text. It is left out where as many wait as may, or where there is no
+    /// memory for it.
+    pub fn give<R: Wait, E: Drop>(&self, rt: &R, text: Result<String, E>) {
+        self.queue.lock(rt).push(text.ok());
+        self.filled.notify_one();
+    }
+
+    // Waits for a notice, and takes it, with how many were left out before.
+    fn take<R: Wait>(&self, rt: &R) -> (Option<String>, u64) {
+        let queue = self.queue.lock(rt);
+        let mut queue = self.filled.wait_while(
+            rt,
+            queue,
+            |queue| queue.texts.is_empty() && queue.left_out == 0,
+        );
+        let left_out = queue.left_out;
+        queue.left_out = 0;
+        (queue.texts.pop_front(), left_out)
+    }
+
+    /// Writes the notices to standard error as they come, for as long as the process runs. Nobody
+    /// else waits where it can't be written to.
+    pub fn write_all<R: Wait + Eprint>(&self, rt: &R) {
+        for _ in rt.forever() {
+            let (text, left_out) = self.take(rt);
+            if let Some(text) = text {
+                let _ = eprintln!(rt; "{text}");
+            }
+            if left_out > 0 {
+                let _ = eprintln!(rt; "{left_out} notices were left out");
+            }
+        }
+    }
+}
+
+impl Queue {
+    // Puts a notice at the end, or counts it as left out.
+    fn push(&mut self, text: Option<String>) {
+        if !self.keep(text) {
+            self.left_out = self.left_out.saturating_add(1);
+        }
+    }
+
+    // Puts a notice at the end. Returns whether there was room and memory for it.
+    fn keep(&mut self, text: Option<String>) -> bool {
+        match text {
+            Some(text) => self.texts.len() < NOTICES_KEPT && self.texts.push_back(text).is_ok(),
+            None => false,
+        }
     }
 }
 

@@ -9,9 +9,14 @@ use crate::serving::serve;
 use crate::standing_in::stand_in;
 use answer::{Disk, Fault, answer, group_of, usage_fault, write_fault};
 use command_line::Running;
+use group_server::ServeError;
 use std::alloc::{AllocError, Global};
-use std::io::ErrorKind;
+use std::io::{Eprint, ErrorKind};
+use std::net::{Net, TcpListener, TcpStream};
 use std::process::ExitCode;
+use std::sync::Wait;
+use std::thread::Threads;
+use std::time::Clock;
 
 fn main(rt: HostRuntime) -> ExitCode {
     let alloc = rt.alloc();
@@ -31,16 +36,47 @@ fn main(rt: HostRuntime) -> ExitCode {
         let (mut out, mut err) = (rt.stdout(), rt.stderr());
         return ExitCode::from(answer(&rt, alloc, &arguments, &opener, &mut out, &mut err));
     };
-    match running {
-        Running::Serve(request) => {
-            let group = match group_of(alloc, &opener, &request.files) {
-                Ok(group) => group,
-                Err(fault) => return failed(&rt, &fault),
-            };
-            ExitCode::from(serve(&rt, alloc, group, request.front, request.seed, request.boot))
-        }
-        Running::Stub(request) => ExitCode::from(stand_in(&rt, alloc, request.port, request.mode)),
+    match run(&rt, alloc, &opener, running) {
+        Ok(()) => ExitCode::from(1),
+        Err(fault) => failed(&rt, &fault),
     }
+}
+
+// Runs a group of nodes or a stand-in server, until the process is stopped. It ends only where it
+// can't run, and says why.
+fn run<
+    H: Net<Listener = TcpListener, Stream = TcpStream>
+        + Wait
+        + Threads
+        + Clock
+        + Eprint
+        + Print
+        + Copy
+        + Send
+        + Sync
+        + 'static,
+>(host: &H, alloc: Global, opener: &Disk<'_>, running: Running<'_>) -> Result<(), Fault> {
+    let ended = match running {
+        Running::Serve(request) => {
+            let group = group_of(alloc, opener, &request.files)?;
+            serve(host, alloc, group, &request)
+        }
+        Running::Stub(request) => stand_in(host, alloc, request.port, request.mode),
+    };
+    match ended {
+        Ok(()) => {}
+        Err(ServeError::Port(port)) => {
+            let _ = eprintln!(host; "cannot listen {port}");
+        }
+        Err(ServeError::Memory) => return Err(Fault::Memory),
+        Err(ServeError::Thread) => {
+            let _ = eprintln!(host; "cannot start a thread");
+        }
+        Err(ServeError::Output) => {
+            let _ = eprintln!(host; "cannot write to standard output");
+        }
+    }
+    Ok(())
 }
 
 // The arguments, without the program's name.

@@ -1,34 +1,27 @@
 //! `pgpeer serve`: a group of nodes serves clients, until the process is stopped.
-use group_server::{ListenError, serve_group};
+use crate::standing_in::stand_in_for_servers;
+use command_line::ServeRequest;
+use group_server::{Host, ServeError, serve_group};
 use ini_config::Group;
 use std::alloc::Global;
-use std::io::Eprint;
-use std::net::{Net, TcpListener, TcpStream};
-use std::sync::Wait;
-use std::thread::Threads;
-use std::time::Clock;
 
-/// Serves the nodes of a group. Returns the status that the program ends with where it can't.
-pub(crate) fn serve<
-    H: Net<Listener = TcpListener, Stream = TcpStream>
-        + Wait
-        + Threads
-        + Clock
-        + Eprint
-        + Print
-        + Copy
-        + Send
-        + Sync
-        + 'static,
->(host: &H, alloc: Global, group: Group, front: u16, seed: [u8; 32], boot: u32) -> u8 {
-    match serve_group(host, alloc, group, front, seed, boot) {
-        Ok(()) => {}
-        Err(ListenError::Port(port)) => {
-            let _ = eprintln!(host; "cannot listen {port}");
-        }
-        Err(ListenError::Memory) => {
-            let _ = eprintln!(host; "out of memory");
-        }
+/// Serves the nodes of a group, with stand-in servers where the request asks for them. It returns
+/// only where it can't serve.
+pub(crate) fn serve<H: Host + Print>(
+    host: &H,
+    alloc: Global,
+    group: Group,
+    request: &ServeRequest<'_>,
+) -> Result<(), ServeError> {
+    if request.stand_in {
+        stand_in_for_servers(host, alloc, &group)?;
     }
-    1
+    serve_group(
+        host,
+        alloc,
+        group,
+        request.front,
+        request.seed,
+        request.boot,
+    )
 }

@@ -1,39 +1,85 @@
-//! `pgpeer stub`: a stand-in server runs, until the process is stopped.
+//! Stand-in servers: `pgpeer stub` runs one, and `pgpeer serve --stand-in` those that its settings
+//! name.
 use command_line::StubMode;
-use std::alloc::Global;
-use std::io::Eprint;
-use std::net::{Net, TcpListener, TcpStream};
-use std::sync::{Arc, Wait};
-use std::thread::Threads;
-use std::time::Clock;
+use group_server::{Host, ServeError};
+use ini_config::Group;
+use pg_ids::DatabaseNo;
+use std::alloc::{AllocError, Global};
+use std::net::TcpListener;
+use std::sync::Arc;
+use std::thread;
 use stub_server::{Mode, Server, serve};
 
-/// Runs a stand-in server at this port of 127.0.0.1. Returns the status that the program ends with
-/// where it can't.
-pub(crate) fn stand_in<
-    H: Net<Listener = TcpListener, Stream = TcpStream>
-        + Wait
-        + Threads
-        + Clock
-        + Eprint
-        + Print
-        + Copy
-        + Send
-        + Sync
-        + 'static,
->(host: &H, alloc: Global, port: u16, mode: StubMode) -> u8 {
-    let Ok(listener) = TcpListener::bind(host, ("127.0.0.1", port)) else {
-        let _ = eprintln!(host; "cannot listen {port}");
-        return 1;
-    };
-    let Ok(server) = Arc::new(alloc, Server::new(alloc, mode_of(mode))) else {
-        let _ = eprintln!(host; "out of memory");
-        return 1;
-    };
-    if println!(host; "listening {port}").is_ok() {
-        serve(host, &server, &listener);
+// Where stand-in servers listen.
+const ADDRESS: &str = "127.0.0.1";
+
+/// Runs a stand-in server at this port, until the process is stopped. Fails if the port can't be
+/// listened at, memory is refused, or standard output can't be written to.
+pub(crate) fn stand_in<H: Host + Print>(
+    host: &H,
+    alloc: Global,
+    port: u16,
+    mode: StubMode,
+) -> Result<(), ServeError> {
+    let listener = listen(host, port)?;
+    let server = new_server(alloc, mode_of(mode))?;
+    if println!(host; "listening {port}").is_err() {
+        return Err(ServeError::Output);
     }
-    1
+    serve(host, &server, &listener);
+    Ok(())
+}
+
+/// Runs a stand-in server at each port of 127.0.0.1 that the settings of these nodes name as a
+/// server's, in a thread of its own. Fails if a port can't be listened at, or if a thread or memory
+/// is refused.
+pub(crate) fn stand_in_for_servers<H: Host>(
+    host: &H,
+    alloc: Global,
+    group: &Group,
+) -> Result<(), ServeError> {
+    for port in server_ports(alloc, group)? {
+        let listener = listen(host, port)?;
+        start(host, alloc, listener)?;
+    }
+    Ok(())
+}
+
+// Serves the connections of this listener in a thread of its own.
+fn start<H: Host>(host: &H, alloc: Global, listener: TcpListener) -> Result<(), ServeError> {
+    let own = *host;
+    let server = new_server(alloc, Mode::Honest)?;
+    match thread::spawn(host, move || serve(&own, &server, &listener)) {
+        Ok(_) => Ok(()),
+        Err(_) => Err(ServeError::Thread),
+    }
+}
+
+// The ports of the servers at 127.0.0.1, each once.
+fn server_ports(alloc: Global, group: &Group) -> Result<Vec<u16>, AllocError> {
+    let mut ports = Vec::new(alloc);
+    for settings in group.nodes() {
+        for place in 0..=u8::MAX {
+            let Some(database) = settings.database(DatabaseNo(place)) else {
+                break;
+            };
+            if database.host == ADDRESS && !ports.contains(&database.port) {
+                ports.push(database.port)?;
+            }
+        }
+    }
+    Ok(ports)
+}
+
+fn listen<H: Host>(host: &H, port: u16) -> Result<TcpListener, ServeError> {
+    match TcpListener::bind(host, (ADDRESS, port)) {
+        Ok(listener) => Ok(listener),
+        Err(_) => Err(ServeError::Port(port)),
+    }
+}
+
+fn new_server(alloc: Global, mode: Mode) -> Result<Arc<Server, Global>, AllocError> {
+    Ok(Arc::new(alloc, Server::new(alloc, mode))?)
 }
 
 fn mode_of(mode: StubMode) -> Mode {

@@ -1,0 +1,258 @@
+//! A client's side of its connection.
+ghost use Rattle.std.specs.Io.{ReadsAtMost};
+
+use crate::doorway::Doorway;
+use crate::first_packet::{Asks, FirstPacket, Next};
+use crate::guests::Newcomer;
+use crate::last_words::last_words;
+use crate::limits::LOOK_MILLIS;
+use crate::link_stream::is_pause;
+use crate::poll::{is_ended, wait_readable};
+use crate::{Connection, Deadline, Machine};
+use std::alloc::Global;
+use std::io;
+use std::io::{ErrorKind, Read, Write};
+use std::time::Duration;
+
+/// A client's side of its connection. The first packets have a deadline; after that a read waits
+/// for as long as the client likes, but where the client has a link, no longer than its server
+/// keeps it.
+#[derive(Drop)]
+pub struct ClientStream<'a, M: Machine> {
+    machine: &'a M,
+    alloc: Global,
+    connection: &'a Connection,
+    doorway: &'a Doorway,
+    newcomer: Newcomer,
+    stage: Stage,
+    // Whether a session is served, or nothing but a cancel request.
+    serves: Serves,
+    // Whether a read of the socket returns after a while.
+    reads_briefly: bool,
+    // What the last call was.
+    last: LastCall,
+    // Whether the last read filled its buffer, so that more may be under way.
+    is_sending: bool,
+    // What is to be written to the client when nothing is held any more.
+    words: Option<Vec<u8>>,
+}
+
+/// Which connections are served.
+#[derive(Clone, Copy, Debug, PartialEq, Eq)]
+pub enum Serves {
+    /// All.
+    All,
+    /// Those that cancel a request.
+    Cancels,
+}
+
+// How far a connection is.
+#[derive(Clone, Copy)]
+enum Stage {
+    // In its first packets, which have this deadline.
+    First(FirstPacket, Deadline),
+    // The last byte of its cancel request was handed out and is unread.
+    Cancel,
+    // In its session.
+    Session,
+}
+
+/// What the last call of a client's stream was.
+#[derive(Clone, Copy, Debug, PartialEq, Eq)]
+pub enum LastCall {
+    /// A read, or none.
+    Read,
+    /// A write that the client took.
+    Wrote,
+    /// A write that failed.
+    Failed,
+}
+
+impl<'a, M: Machine> ClientStream<'a, M> {
+    /// The client's side of a connection of which nothing was read.
+    pub fn new(
+        machine: &'a M,
+        alloc: Global,
+        connection: &'a Connection,
+        doorway: &'a Doorway,
+        newcomer: Newcomer,
+        serves: Serves,
+        deadline: Deadline,
+    ) -> ClientStream<'a, M> {
+        ClientStream {
+            machine,
+            alloc,
+            connection,
+            doorway,
+            newcomer,
+            stage: Stage::First(FirstPacket::new(), deadline),
+            serves,
+            reads_briefly: false,
+            last: LastCall::Read,
+            is_sending: false,
+            words: None,
+        }
+    }
+
+    // Reads the first packets.
+    fn read_first(
+        &mut self,
+        packet: FirstPacket,
+        deadline: Deadline,
+        buffer: &mut [u8],
+    ) -> io::Result<usize>
+        ensures bound { ReadsAtMost result buffer.new }
+    {
+        let left = deadline.left(self.machine)?;
+        if !wait_readable(self.connection.descriptor(), left) {
+            return Err(io::Error::from(ErrorKind::TimedOut));
+        }
+        let mut packet = packet;
+        match packet.next() {
+            Next::Peek => self.peek_last(buffer),
+            Next::Done => self.read_session(buffer),
+            Next::Read(most) => {
+                let count = read_up_to(self.connection, buffer, most)?;
+                packet.take(buffer.get(..count).unwrap_or(&[]));
+                self.stage = Stage::First(packet, deadline);
+                self.see(packet)?;
+                Ok(count)
+            }
+        }
+    }
+
+    // Looks at what the first packets ask for. It fails if that isn't served, or if the connection
+    // was closed for another.
+    fn see(&mut self, packet: FirstPacket) -> io::Result<()> {
+        if packet.asks() == Asks::Session && self.serves == Serves::Cancels {
+            return Err(io::Error::from(ErrorKind::ConnectionRefused));
+        }
+        if packet.next() == Next::Done {
+            self.stage = Stage::Session;
+            return self.come_in();
+        }
+        Ok(())
+    }
+
+    // The first packets were read. It fails if the connection was closed for another.
+    fn come_in(&self) -> io::Result<()> {
+        if self.doorway.come_in(self.machine, self.newcomer) {
+            Ok(())
+        } else {
+            Err(io::Error::from(ErrorKind::ConnectionAborted))
+        }
+    }
+
+    // Hands out the last byte of a cancel request, and leaves it unread: if this process ends
+    // before the request is settled, its sender's connection is reset, and doesn't end as if it
+    // were.
+    fn peek_last(&mut self, buffer: &mut [u8]) -> io::Result<usize>
+        ensures bound { ReadsAtMost result buffer.new }
+    {
+        let Some(last) = buffer.get_mut(..1) else {
+            return Ok(0);
+        };
+        let count = self.connection.socket().peek(last)?;
+        if count == 1 {
+            self.stage = Stage::Cancel;
+            self.come_in()?;
+        }
+        Ok(count)
+    }
+
+    // Reads the client's session.
+    fn read_session(&mut self, buffer: &mut [u8]) -> io::Result<usize>
+        ensures bound { ReadsAtMost result buffer.new }
+    {
+        if self.connection.link().is_some() && !self.reads_briefly {
+            let pause = Duration::from_millis(LOOK_MILLIS);
+            self.connection.socket().set_read_timeout(Some(pause))?;
+            self.reads_briefly = true;
+        }
+        for _ in 0..u64::MAX {
+            let mut socket = self.connection.socket();
+            match socket.read(buffer) {
+                Err(error) if is_pause(&error) => self.look_at_link()?,
+                done => return done,
+            }
+        }
+        Err(io::Error::from(ErrorKind::TimedOut))
+    }
+
+    // Nothing came from the client for a while. It fails if the server has ended the client's link,
+    // and keeps what it said. Without a link the client may be silent for ever.
+    fn look_at_link(&mut self) -> io::Result<()> {
+        match self.connection.link() {
+            Some(link) if is_ended(link) => {
+                self.words = last_words(self.alloc, link).ok();
+                Err(io::Error::from(ErrorKind::ConnectionAborted))
+            }
+            Some(_) => Ok(()),
+            None => {
+                self.reads_briefly = false;
+                self.connection.socket().set_read_timeout(None)
+            }
+        }
+    }
+
+    /// Whether the last byte of a cancel request is unread.
+    pub fn holds_cancel(&self) -> bool {
+        matches!(self.stage, Stage::Cancel)
+    }
+
+    /// Whether the client was in the midst of sending when it was last read.
+    pub fn is_sending(&self) -> bool {
+        self.is_sending
+    }
+
+    /// What the last call was.
+    pub fn last_call(&self) -> LastCall {
+        self.last
+    }
+
+    /// What is to be written to the client when nothing is held any more.
+    pub fn take_words(&mut self) -> Option<Vec<u8>> {
+        self.words.take()
+    }
+}
+
+// Reads a connection once, at most this many bytes.
+fn read_up_to(connection: &Connection, buffer: &mut [u8], most: usize) -> io::Result<usize>
+    ensures bound { ReadsAtMost result buffer.new }
+{
+    let room = buffer.len().min(most);
+    let Some(room) = buffer.get_mut(..room) else {
+        return Ok(0);
+    };
+    let mut socket = connection.socket();
+    socket.read(room)
+}
+
+impl<'a, M: Machine> Read for ClientStream<'a, M> {
+    fn read(&mut self, buffer: &mut [u8]) -> io::Result<usize> {
+        self.last = LastCall::Read;
+        let count = match self.stage {
+            Stage::First(packet, deadline) => self.read_first(packet, deadline, buffer)?,
+            Stage::Cancel => 0,
+            Stage::Session => self.read_session(buffer)?,
+        };
+        self.is_sending = count == buffer.len();
+        Ok(count)
+    }
+}
+
+impl<'a, M: Machine> Write for ClientStream<'a, M> {
+    fn write(&mut self, bytes: &[u8]) -> io::Result<usize> {
+        let mut socket = self.connection.socket();
+        let written = socket.write(bytes);
+        self.last = match &written {
+            Ok(_) => LastCall::Wrote,
+            Err(_) => LastCall::Failed,
+        };
+        written
+    }
+
+    fn flush(&mut self) -> io::Result<()> {
+        Ok(())
+    }
+}

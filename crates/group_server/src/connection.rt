@@ -1,0 +1,48 @@
+//! A client's connection, as its stream and what connects it to servers share it.
+use crate::poll::is_ended;
+use std::cell::Cell;
+use std::net::TcpStream;
+use std::os::fd::{AsRawFd, RawFd};
+
+/// A client's connection.
+#[derive(Drop)]
+pub struct Connection {
+    socket: TcpStream,
+    // The socket of the link that its client has.
+    link: Cell<Option<RawFd>>,
+}
+
+impl Connection {
+    /// A connection on this socket, whose client has no link.
+    pub fn new(socket: TcpStream) -> Connection {
+        Connection {
+            socket,
+            link: Cell::new(None),
+        }
+    }
+
+    /// Its socket.
+    pub fn socket(&self) -> &TcpStream {
+        &self.socket
+    }
+
+    /// The descriptor of its socket.
+    pub fn descriptor(&self) -> RawFd {
+        self.socket.as_raw_fd()
+    }
+
+    /// The socket of the link that its client has.
+    pub fn link(&self) -> Option<RawFd> {
+        self.link.get()
+    }
+
+    /// Its client has the link with this socket from now on, or none.
+    pub fn set_link(&self, link: Option<RawFd>) {
+        self.link.set(link);
+    }
+
+    /// Whether its client has ended it. It doesn't wait.
+    pub fn is_gone(&self) -> bool {
+        is_ended(self.descriptor())
+    }
+}

@@ -1,0 +1,67 @@
+//! The door by which the connections of a process come in.
+use crate::guests::{Guests, Newcomer, Room};
+use libc::net as c;
+use std::alloc::Global;
+use std::os::fd::RawFd;
+use std::sync::{Mutex, Wait};
+use std::time::{Clock, Duration};
+
+/// The door by which the connections of a process come in: there are only so many at a time, and
+/// where one more comes, the oldest that is in its first packets is closed. So strangers that say
+/// nothing keep nobody out, and descriptors are left for links and cancel requests.
+#[derive(Drop)]
+pub struct Doorway {
+    guests: Mutex<Guests>,
+}
+
+impl Doorway {
+    /// Nobody has come.
+    pub fn new(alloc: Global, room: Room) -> Doorway {
+        Doorway {
+            guests: Mutex::new(Guests::new(alloc, room)),
+        }
+    }
+
+    /// A connection comes on this socket. Returns nothing if there is no room for it.
+    pub fn arrive<R: Wait + Clock>(&self, rt: &R, socket: RawFd) -> Option<Newcomer> {
+        let now = rt.monotonic().ok()?;
+        let mut guests = self.guests.lock(rt);
+        let arrival = guests.arrive(socket, now);
+        close(arrival.ousted);
+        arrival.newcomer
+    }
+
+    /// Closes the oldest connection in its first packets that has been there for so many
+    /// milliseconds, since a thread or a descriptor is wanted.
+    pub fn make_room<R: Wait + Clock>(&self, rt: &R, age: u64) {
+        let Ok(now) = rt.monotonic() else {
+            return;
+        };
+        let mut guests = self.guests.lock(rt);
+        close(guests.oust(now.saturating_sub(Duration::from_millis(age))));
+    }
+
+    /// The first packets of a connection were read. Returns whether it may go on: it may not if it
+    /// was closed for another.
+    pub fn come_in<R: Wait>(&self, rt: &R, newcomer: Newcomer) -> bool {
+        self.guests.lock(rt).come_in(newcomer)
+    }
+
+    /// A connection is about to be closed: nobody else closes it from now on.
+    pub fn go<R: Wait>(&self, rt: &R, newcomer: Newcomer) {
+        let _ = self.guests.lock(rt).come_in(newcomer);
+    }
+
+    /// A connection is closed.
+    pub fn leave<R: Wait>(&self, rt: &R) {
+        self.guests.lock(rt).leave();
+    }
+}
+
+// Ends both sides of a socket, whose thread then closes it. It is called under the lock, before
+// which no thread closes the socket of a connection in its first packets.
+fn close(socket: Option<RawFd>) {
+    if let Some(socket) = socket {
+        c::shutdown(socket, c::SHUT_RDWR);
+    }
+}

@@ -1,0 +1,124 @@
+//! How far the first packets of a connection are read, so that the last byte of a cancel request
+//! stays unread.
+
+/// A connection's first packets, as far as they were read.
+#[derive(Clone, Copy, Debug, PartialEq, Eq)]
+pub struct FirstPacket {
+    // The bytes of the packet's length and code, and how many of them were read.
+    head: [u8; HEAD],
+    read: usize,
+    // How many bytes of the packet come behind its head, once that was read.
+    body: Body,
+}
+
+// What comes behind a packet's head.
+#[derive(Clone, Copy, Debug, PartialEq, Eq)]
+enum Body {
+    // The head wasn't read whole.
+    Unknown,
+    // The rest of a cancel request, of this many bytes.
+    Cancel(usize),
+    // The rest of another packet, of this many bytes.
+    Session(usize),
+}
+
+/// What is to be read next of a connection.
+#[derive(Clone, Copy, Debug, PartialEq, Eq)]
+pub enum Next {
+    /// At most this many bytes.
+    Read(usize),
+    /// One byte, which ends a cancel request and stays unread for now.
+    Peek,
+    /// The first packets were read.
+    Done,
+}
+
+/// What a connection's first packets ask for, as far as it is known.
+#[derive(Clone, Copy, Debug, PartialEq, Eq)]
+pub enum Asks {
+    /// It isn't known.
+    Unknown,
+    /// To cancel a request.
+    Cancel,
+    /// For a session, or for something that is refused.
+    Session,
+}
+
+// How many bytes a packet's length and code take (PostgreSQL manual, "Message Formats").
+const HEAD: usize = 8;
+
+const CANCEL_CODE: u32 = 80_877_102;
+
+const SSL_CODE: u32 = 80_877_103;
+
+const GSS_CODE: u32 = 80_877_104;
+
+// How long a start-up packet may be. A longer one is refused when its head was read.
+const LONGEST: usize = 10_000;
+
+impl FirstPacket {
+    /// Nothing was read.
+    pub const fn new() -> FirstPacket {
+        FirstPacket {
+            head: [0; HEAD],
+            read: 0,
+            body: Body::Unknown,
+        }
+    }
+
+    /// What is to be read next.
+    pub fn next(&self) -> Next {
+        match self.body {
+            Body::Unknown => Next::Read(HEAD.saturating_sub(self.read)),
+            Body::Cancel(1) => Next::Peek,
+            Body::Cancel(left) => Next::Read(left.saturating_sub(1)),
+            Body::Session(0) => Next::Done,
+            Body::Session(left) => Next::Read(left),
+        }
+    }
+
+    /// What the packets ask for.
+    pub fn asks(&self) -> Asks {
+        match self.body {
+            Body::Unknown => Asks::Unknown,
+            Body::Cancel(_) => Asks::Cancel,
+            Body::Session(_) => Asks::Session,
+        }
+    }
+
+    /// These bytes were read, no more than `next` said.
+    pub fn take(&mut self, bytes: &[u8]) {
+        match self.body {
+            Body::Unknown => self.take_head(bytes),
+            Body::Cancel(left) => self.body = Body::Cancel(left.saturating_sub(bytes.len())),
+            Body::Session(left) => self.body = Body::Session(left.saturating_sub(bytes.len())),
+        }
+    }
+
+    // These bytes of the head were read.
+    fn take_head(&mut self, bytes: &[u8]) {
+        for byte in bytes {
+            if self.read < HEAD {
+                self.head[self.read] = *byte;
+                self.read += 1;
+            }
+        }
+        if self.read == HEAD {
+            self.take_code();
+        }
+    }
+
+    // The head was read whole. A request for encryption is no more than its head, and another
+    // packet follows it.
+    fn take_code(&mut self) {
+        let [a, b, c, d, e, f, g, h] = self.head;
+        let length = u32::from_be_bytes([a, b, c, d]) as usize;
+        let left = length.saturating_sub(HEAD);
+        match (u32::from_be_bytes([e, f, g, h]), length) {
+            (CANCEL_CODE, 16 | 32) => self.body = Body::Cancel(left),
+            (SSL_CODE | GSS_CODE, HEAD) => self.read = 0,
+            _ if length <= LONGEST => self.body = Body::Session(left),
+            _ => self.body = Body::Session(0),
+        }
+    }
+}

@@ -1,0 +1,49 @@
+//! The time limits, in milliseconds, and the bounds of a group's edge. No setting changes them.
+
+/// How long connecting to a server and logging in there may take together.
+pub const LOGIN_MILLIS: u64 = 15_000;
+
+/// How long connecting for a cancel request may take.
+pub const CANCEL_CONNECT_MILLIS: u64 = 5_000;
+
+/// How long the end of a connection is awaited that a cancel request was sent on.
+pub const CANCEL_END_MILLIS: u64 = 10_000;
+
+/// How long the first packets of a connection may take together.
+pub const FIRST_PACKETS_MILLIS: u64 = 60_000;
+
+/// The same, where no other thread could accept the next connection meanwhile.
+pub const ALONE_MILLIS: u64 = 1_000;
+
+/// How often a thread that waits for one side of a session looks at the other.
+pub const LOOK_MILLIS: u64 = 500;
+
+/// How long a write to a server may wait. What it hasn't taken by then is kept, and is written
+/// while the reply is read.
+pub const WRITE_MILLIS: u64 = 50;
+
+/// How long a client may go on to send at the end of its connection.
+pub const ENDING_MILLIS: u64 = 5_000;
+
+/// How long it may be silent then, before it is told that nothing more comes, if it was in the midst
+/// of sending.
+pub const SENDING_PAUSE_MILLIS: u64 = 200;
+
+/// How long it may be silent then, after that.
+pub const ENDING_PAUSE_MILLIS: u64 = 1_000;
+
+/// How many connections of a node may be in their first packets at a time: 256 cancel requests, and
+/// 64 others.
+pub const NEWCOMERS_OF_A_NODE: usize = 320;
+
+/// How many cancel requests a node carries at a time.
+pub const CANCELS_OF_A_NODE: usize = 256;
+
+/// How many connections above the limit are served while those that were closed for them end.
+pub const SPARE_CONNECTIONS: usize = 8;
+
+/// How old a connection is at least that is closed because no thread can be started.
+pub const NEWCOMER_AGE_MILLIS: u64 = 1_000;
+
+/// How many notices wait to be written, at most.
+pub const NOTICES_KEPT: usize = 64;

@@ -1,0 +1,184 @@
+//! The stream of a link, and of a connection for a cancel request.
+ghost use Rattle.std.specs.Io.{ReadsAtMost, WritesAtMost};
+
+use crate::limits::{LOOK_MILLIS, WRITE_MILLIS};
+use crate::poll::{is_ended, is_quiet, wait_both};
+use crate::{Deadline, Machine};
+use bytes::BytesMut;
+use std::alloc::Global;
+use std::io;
+use std::io::{ErrorKind, Read, Write};
+use std::net::TcpStream;
+use std::os::fd::{AsRawFd, RawFd};
+use std::time::Duration;
+
+/// A connection to a server or a peer. A read of it waits no longer than to a deadline, where it
+/// has one, and no longer than its client is there, where it is a client's link. A write never
+/// waits long: what the server doesn't take is kept, and is written while the reply is read, so a
+/// server that doesn't read before its answers are read can't hold a link for ever.
+#[derive(Drop)]
+pub struct LinkStream<M: Machine> {
+    // A link is moved at each step of its node, so what it has is apart.
+    inside: Box<Inside<M>>,
+}
+
+// What a stream has.
+#[derive(Drop)]
+struct Inside<M: Machine> {
+    machine: M,
+    alloc: Global,
+    socket: TcpStream,
+    deadline: Option<Deadline>,
+    // The socket of the client that has this link, while it has it.
+    client: Option<RawFd>,
+    // What was handed over to be written and isn't written yet.
+    unwritten: BytesMut,
+}
+
+impl<M: Machine> LinkStream<M> {
+    /// A stream on this socket, with a deadline.
+    pub fn new(
+        machine: M,
+        alloc: Global,
+        socket: TcpStream,
+        deadline: Deadline,
+    ) -> io::Result<LinkStream<M>> {
+        socket.set_nodelay(true)?;
+        socket.set_read_timeout(Some(Duration::from_millis(LOOK_MILLIS)))?;
+        socket.set_write_timeout(Some(Duration::from_millis(WRITE_MILLIS)))?;
+        let inside = Inside {
+            machine,
+            alloc,
+            socket,
+            deadline: Some(deadline),
+            client: None,
+            unwritten: BytesMut::new(alloc),
+        };
+        Ok(LinkStream {
+            inside: Box::new(alloc, inside)?,
+        })
+    }
+
+    /// Whether nothing came on it, its other side hasn't ended it, and all is written.
+    pub fn is_quiet(&self) -> bool {
+        self.inside.unwritten.is_empty() && is_quiet(self.descriptor())
+    }
+
+    /// It is the link of the client with this socket from now on, and has no deadline any more.
+    pub fn attach(&mut self, client: RawFd) {
+        self.inside.deadline = None;
+        self.inside.client = Some(client);
+    }
+
+    /// The descriptor of its socket.
+    pub fn descriptor(&self) -> RawFd {
+        self.inside.socket.as_raw_fd()
+    }
+}
+
+impl<M: Machine> Inside<M> {
+    // Fails if the deadline is over.
+    fn keep_deadline(&self) -> io::Result<()> {
+        if let Some(deadline) = self.deadline {
+            deadline.left(&self.machine)?;
+        }
+        Ok(())
+    }
+
+    // Fails if the client has ended its connection.
+    fn look_at_client(&self) -> io::Result<()> {
+        match self.client {
+            Some(client) if is_ended(client) => Err(io::Error::from(ErrorKind::ConnectionAborted)),
+            _ => Ok(()),
+        }
+    }
+
+    // Reads once, and waits no longer than a read may.
+    fn read_once(&mut self, buffer: &mut [u8]) -> io::Result<usize>
+        ensures bound { ReadsAtMost result buffer.new }
+    {
+        if self.unwritten.is_empty() {
+            self.socket.read(buffer)
+        } else {
+            self.read_or_write(buffer)
+        }
+    }
+
+    // Reads, or writes of what is kept, whichever can be done first. The end of the input is a
+    // failure here, since not all was written.
+    fn read_or_write(&mut self, buffer: &mut [u8]) -> io::Result<usize>
+        ensures bound { ReadsAtMost result buffer.new }
+    {
+        let ready = wait_both(self.socket.as_raw_fd(), self.client);
+        if ready.client_ended {
+            return Err(io::Error::from(ErrorKind::ConnectionAborted));
+        }
+        if ready.link_reads {
+            return match self.socket.read(buffer) {
+                Ok(0) => Err(io::Error::from(ErrorKind::UnexpectedEof)),
+                done => done,
+            };
+        }
+        if ready.link_writes {
+            self.write_rest()?;
+        }
+        Err(io::Error::from(ErrorKind::WouldBlock))
+    }
+
+    // Writes some of what is kept. Its memory is given back with the last of it.
+    fn write_rest(&mut self) -> io::Result<()> {
+        match self.socket.write(self.unwritten.as_slice()) {
+            Ok(count) => self.unwritten.advance(count),
+            Err(error) if is_pause(&error) => {}
+            Err(error) => return Err(error),
+        }
+        if self.unwritten.is_empty() {
+            self.unwritten = BytesMut::new(self.alloc);
+            self.socket.set_nonblocking(false)?;
+        }
+        Ok(())
+    }
+
+    // Writes, or keeps what the socket doesn't take soon.
+    fn write(&mut self, bytes: &[u8]) -> io::Result<usize>
+        ensures bound { WritesAtMost result bytes.now }
+    {
+        if self.unwritten.is_empty() {
+            match self.socket.write(bytes) {
+                Err(error) if is_pause(&error) => self.socket.set_nonblocking(true)?,
+                done => return done,
+            }
+        }
+        self.unwritten.extend_from_slice(bytes)?;
+        Ok(bytes.len())
+    }
+}
+
+impl<M: Machine> Read for LinkStream<M> {
+    fn read(&mut self, buffer: &mut [u8]) -> io::Result<usize> {
+        for _ in 0..u64::MAX {
+            self.inside.keep_deadline()?;
+            match self.inside.read_once(buffer) {
+                Err(error) if is_pause(&error) => self.inside.look_at_client()?,
+                done => return done,
+            }
+        }
+        Err(io::Error::from(ErrorKind::TimedOut))
+    }
+}
+
+impl<M: Machine> Write for LinkStream<M> {
+    fn write(&mut self, bytes: &[u8]) -> io::Result<usize> {
+        self.inside.write(bytes)
+    }
+
+    fn flush(&mut self) -> io::Result<()> {
+        Ok(())
+    }
+}
+
+/// Whether a call did nothing because it waited for as long as it may, or because the process was
+/// stopped and went on meanwhile.
+pub fn is_pause(error: &io::Error) -> bool {
+    matches!(error.kind(), ErrorKind::WouldBlock | ErrorKind::Interrupted)
+}
