@@ -1,4 +1,5 @@
--- What the program answers to its arguments (own).
+-- The answer to each list of arguments, by what the files contain (own): what is written on both
+-- outputs, and the exit status (`IsAnswer`).
 use Rattle.std.specs.Prelude.{ℕ, ◌≡◌, ◌⊎◌, ◌<◌, true, List, ◌++◌, Option, Some, None, length, max, ⊤}
 use Rattle.std.specs.Io.KnownBytes.{Appends, Keeps}
 use Rattle.pg_ids.specs.AnyKey.{IsAnyKey, any_key_bytes}

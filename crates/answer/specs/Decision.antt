@@ -1,4 +1,5 @@
--- What `pgpeer decide` asks of a node (own).
+-- What `decide` asks of a node (own): a fresh node with boot 0, the logins of clients with these
+-- secrets, a link for each that has a server key, and then the cancel request.
 use Rattle.std.specs.Prelude.{ℕ, ◌≡◌, ◌+◌, ◌<◌, List, [], ◌∷◌, ◌++◌, AllPairs, Option, Some, None, length, Ok, Err, ⊤}
 use Rattle.pg_ids.specs.declared.any_key.AnyKey.{AnyKey}
 use Rattle.pg_ids.specs.declared.any_key.Kind.TheVariants as kind

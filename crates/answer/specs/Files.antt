@@ -1,4 +1,5 @@
--- What settings files say, where it is known what they hold, and their first fault (own).
+-- What settings files say if their opener tells what they contain, and which error is the first
+-- (own).
 use Rattle.std.specs.Prelude.{ℕ, ◌≡◌, ◌⊎◌, List, ◌∷◌, ◌++◌, Option, IfSome, Ok, Err, length, string_bytes, ⊤}
 use Rattle.std.specs.List.{AllZip}
 use Rattle.std.specs.Str.{IsUtf8}

@@ -1,4 +1,5 @@
--- What a script's file says, where it is known what it holds, and the outcome of its run (own).
+-- The outcome of a script's file if its opener tells what it contains, and why a file has none
+-- (own).
 use Rattle.std.specs.Prelude.{ℕ, ◌≡◌, ◌⊎◌, List, Option, string_bytes, ⊤}
 use Rattle.ini_config.specs.declared.fault.GroupError.{GroupError}
 use Rattle.ini_config.specs.declared.fault.GroupError.TheVariants as group

@@ -1,4 +1,4 @@
--- The statuses that the program ends with (own).
+-- The exit status for each fault (own).
 use Rattle.std.specs.Prelude.{ℕ}
 use Rattle.ini_config.specs.declared.fault.IniCode.{IniCode}
 use Rattle.ini_config.specs.declared.fault.IniCode.TheVariants as ini

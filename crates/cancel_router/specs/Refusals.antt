@@ -1,4 +1,4 @@
--- The numbers of what a route refuses (own).
+-- Numbers of refused routes, 60 to 63 (own).
 use Rattle.std.specs.Prelude.{ℕ}
 use Rattle.cancel_router.specs.declared.refusal.RouteRefusal.{RouteRefusal}
 use Rattle.cancel_router.specs.declared.refusal.RouteRefusal.TheVariants.{Spent, Unknown, NoPeer, NoLink}

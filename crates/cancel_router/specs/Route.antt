@@ -1,4 +1,8 @@
--- The route of a cancel request (own; PgBouncer manual, `peer_id` and `[peers]`).
+-- The route of a cancel request (own; PgBouncer manual, `peer_id` and `[peers]`). For another
+-- node's key: refused if too few hops are left (60) or the node is no peer (62), otherwise
+-- forwarded with one hop fewer. For this node's key: refused without hops (60) or if no slot in use
+-- has that key (61); otherwise the wait of the slot's client is ended, or the request is refused
+-- because the client holds no link (63), or goes to the server of its link.
 use Rattle.std.specs.Prelude.{ℕ, ◌==◌, List, if◌then◌else◌}
 use Rattle.std.specs.List.{list_any}
 use Rattle.pg_ids.specs.AnyKey.{short_of, peer_of, slot_of, any_lowered}

@@ -1,4 +1,5 @@
--- The acts of a session (own, after PgBouncer's transaction pooling).
+-- What a session does with each frame of its client and of its link, and its state after that (own,
+-- after PgBouncer's transaction pooling).
 use Rattle.std.specs.Prelude.{ℕ, zero, suc, ◌≡◌, ◌+◌, ◌⊎◌, Bool, true, false, List, [], ◌∷◌, ◌++◌, length}
 use Rattle.pg_frames.specs.declared.frame.Frame.{Frame}
 use Rattle.pg_frames.specs.FrameText.{text}

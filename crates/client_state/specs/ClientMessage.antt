@@ -1,5 +1,5 @@
--- What a client's message asks for (PostgreSQL manual, "Message Formats" and "Extended Query"; what
--- is left out and the limits are own).
+-- What a client's message asks for, by its type and body (PostgreSQL manual, "Message Formats" and
+-- "Extended Query"; the limits, and what isn't supported, are own).
 use Rattle.std.specs.Prelude.{ℕ, Bool, ◌+◌, ◌&&◌, ◌==◌, nat_lt, nat_le, if◌then◌else◌, codes, List, [], ◌∷◌, length, take}
 use Rattle.std.specs.List.{list_all}
 use Rattle.client_state.specs.Text.{is_zero, is_one_string, strings_in, is_one_of}

@@ -1,5 +1,5 @@
--- What a link's message means to a session (PostgreSQL manual, "Message Formats"; what is passed on
--- is own).
+-- What a server's message means to a session, by its type and length, and the status of a
+-- ReadyForQuery (PostgreSQL manual, "Message Formats"; which messages are passed on is own).
 use Rattle.std.specs.Prelude.{ℕ, ◌==◌, ◌&&◌, ◌||◌, if◌then◌else◌, codes}
 use Rattle.startup.specs.declared.error_code.ErrorCode.TheVariants.{FeatureNotSupported, ConnectionFailure}
 use Rattle.client_state.specs.Text.{is_one_of}

@@ -1,4 +1,5 @@
--- What is known of a client's session.
+-- The state of a session (own): its database, whether it holds a lease, how many requests are
+-- outstanding, and what was gathered of an extended query.
 use Rattle.std.specs.Prelude.{ℕ, Bool, List}
 
 -- the database that it logged in to, whether it holds a lease, how many requests wait for their

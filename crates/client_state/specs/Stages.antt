@@ -1,4 +1,4 @@
--- What the machine's stages stand for.
+-- The session's state as an enum of the code (internal).
 use Rattle.std.specs.Prelude.{ℕ, Bool, true, false}
 use Rattle.client_state.specs.declared.client.Stage.{Stage}
 use Rattle.client_state.specs.declared.client.Stage.TheVariants.{NoLease, Leased, Asking}

@@ -1,4 +1,4 @@
--- Tests of a message's bytes.
+-- Tests on the bytes of a message (internal).
 use Rattle.std.specs.Prelude.{ℕ, Bool, false, length, ◌==◌, List, [], ◌∷◌, if◌then◌else◌}
 use Rattle.std.specs.List.{list_any, count_by}
 

@@ -1,4 +1,4 @@
--- The texts that a session writes to its client.
+-- The bytes of the replies that a session makes itself (internal).
 use Rattle.std.specs.Prelude.{ℕ, List, []}
 use Rattle.client_state.specs.declared.reply.Text.{Text}
 use Rattle.client_state.specs.declared.reply.Text.TheVariants.{Nothing, Ready, Error}

@@ -1,6 +1,6 @@
 //! A client over TCP, whose reads don't wait.
 use crate::host::TestHost;
-use crate::messages::{CANCEL, GREETING, IDLE, KEY, STARTUP, joined, query};
+use crate::messages::{CANCEL, GREETING, IDLE, KEY, LONG_CANCEL, LONG_KEY, STARTUP, joined, query};
 use std::io::{ErrorKind, Read, Write};
 use std::net::TcpStream;
 use std::test::Fail;
@@ -44,7 +44,8 @@ pub(crate) struct Cancel {
 
 impl Cancel {
     pub(crate) fn new<R: TestHost>(rt: &R, port: u16, key: &[u8]) -> Result<Cancel, Fail> {
-        let packet = joined(rt.alloc(), &[CANCEL, key])?;
+        let head = if key.len() == 8 { CANCEL } else { LONG_CANCEL };
+        let packet = joined(rt.alloc(), &[head, key])?;
         Ok(Cancel { port, packet })
     }
 
@@ -72,22 +73,33 @@ impl Client {
 
     // A client of the database `shop`, that is logged in.
     pub(crate) fn log_in<R: TestHost>(rt: &R, port: u16) -> Result<(Client, Vec<u8>), Fail> {
+        Client::log_in_by(rt, port, STARTUP, 8)
+    }
+
+    // A client that is logged in by this StartupMessage, and its key of so many bytes.
+    pub(crate) fn log_in_by<R: TestHost>(
+        rt: &R,
+        port: u16,
+        startup: &[u8],
+        length: usize,
+    ) -> Result<(Client, Vec<u8>), Fail> {
         let mut client = Client::connect(rt, port)?;
-        let key = client.greeted(rt)?;
+        client.send(startup)?;
+        let key = client.greeted(rt, length)?;
         Ok((client, key))
     }
 
-    // Logs in, and gets a key.
-    fn greeted<R: TestHost>(&mut self, rt: &R) -> Result<Vec<u8>, Fail> {
-        self.send(STARTUP)?;
+    // Gets a key of so many bytes.
+    fn greeted<R: TestHost>(&mut self, rt: &R, length: usize) -> Result<Vec<u8>, Fail> {
+        let head = if length == 8 { KEY } else { LONG_KEY };
         let got = self.read(rt, Until::Bytes(IDLE), None)?;
-        let start = joined(rt.alloc(), &[GREETING, KEY])?;
+        let start = joined(rt.alloc(), &[GREETING, head])?;
         let rest = got
             .as_slice()
             .strip_prefix(start.as_slice())
             .ok_or("no greeting")?;
         let key = rest.strip_suffix(IDLE).ok_or("no end of a greeting")?;
-        assert_eq!(rt; key.len(), 8);
+        assert_eq!(rt; key.len(), length);
         Ok(Vec::from_slice(rt.alloc(), key)?)
     }
 
@@ -150,6 +162,17 @@ impl Client {
         let last = answer.last().copied().unwrap_or(b"");
         let got = self.read(rt, Until::Bytes(last), meanwhile)?;
         assert_eq!(rt; got.as_slice(), expected.as_slice());
+        Ok(())
+    }
+
+    // Nothing comes for so many turns.
+    pub(crate) fn expect_nothing<R: TestHost>(&mut self, rt: &R, turns: u32) -> Result<(), Fail> {
+        let mut got = Vec::new(rt.alloc());
+        for _turn in 0..turns {
+            thread::sleep(rt, Duration::from_millis(1));
+            assert!(rt; !self.look(&mut got)?);
+        }
+        assert_eq!(rt; got.as_slice(), b"".as_slice());
         Ok(())
     }
 

@@ -2,7 +2,7 @@
 use crate::group::ANY_PORT;
 use crate::host::TestHost;
 use crate::settings::group;
-use group_server::{Dialer, Machine, Notices};
+use group_server::{Connection, Dialer, LinkStream, Machine, Notices};
 use ini_config::Group;
 use node_threads::{Calling, Gate, Point, serve_connection};
 use pg_ids::Boot;
@@ -68,8 +68,8 @@ fn gated<R: TestHost>(
     group: &Arc<Group, Global>,
     gate: &Arc<Barrier, Global>,
 ) -> Result<Arc<Node<R>, Global>, AllocError> {
-    let notices = Arc::new(rt.alloc(), Notices::new())?;
-    let dialer = Dialer::new(*rt, Arc::try_clone(group)?, 0, notices);
+    let notices = Arc::new(rt.alloc(), Notices::new(rt.alloc()))?;
+    let dialer = Dialer::new(*rt, rt.alloc(), Arc::try_clone(group)?, 0, notices);
     let gate = Arc::try_clone(gate)?;
     Ok(Arc::new(rt.alloc(), Node { dialer, gate })?)
 }
@@ -92,7 +92,7 @@ fn start_accepting<R: TestHost>(
 
 fn accept<R: TestHost>(
     rt: &R,
-    mut first: Calling<TcpStream>,
+    mut first: Calling<LinkStream<R>>,
     node: Arc<Node<R>, Global>,
     listener: TcpListener,
 ) {
@@ -106,7 +106,7 @@ fn accept<R: TestHost>(
 // Serves a connection in a thread of its own.
 fn start_serving<R: TestHost>(
     rt: &R,
-    first: &mut Calling<TcpStream>,
+    first: &mut Calling<LinkStream<R>>,
     node: &Arc<Node<R>, Global>,
     stream: TcpStream,
 ) -> Result<(), AllocError> {
@@ -121,16 +121,19 @@ fn start_serving<R: TestHost>(
 
 fn serve<R: TestHost>(
     rt: &R,
-    mut calling: Calling<TcpStream>,
+    mut calling: Calling<LinkStream<R>>,
     node: Arc<Node<R>, Global>,
-    mut stream: TcpStream,
+    socket: TcpStream,
 ) {
+    let connection = Connection::new(socket);
+    let opener = node.dialer.on_behalf(&connection);
+    let mut client = connection.socket();
     serve_connection(
         rt,
         rt.alloc(),
         &mut calling,
-        &node.dialer,
+        &opener,
         &*node.gate,
-        &mut stream,
+        &mut client,
     );
 }

@@ -1,7 +1,7 @@
 //! A group of nodes that serves in threads of its own, before a stand-in server.
 use crate::client::TURNS;
 use crate::host::TestHost;
-use crate::settings::group;
+use crate::settings::group_before;
 use group_server::Listening;
 use ini_config::Group;
 use std::alloc::{AllocError, Global};
@@ -19,10 +19,17 @@ pub(crate) const ANY_PORT: &str = "127.0.0.1:0";
 // Two nodes that list each other.
 pub(crate) const TWO: &[&[usize]] = &[&[0, 1], &[0, 1]];
 
-// The ports of a group's nodes. It serves until the test ends.
+// Three.
+pub(crate) const THREE: &[&[usize]] = &[&[0, 1, 2], &[0, 1, 2], &[0, 1, 2]];
+
+// The boot with which nodes start.
+const BOOT: u32 = 7;
+
+// The ports of a group's nodes, and its own. It serves until the test ends.
 #[derive(Drop)]
 pub(crate) struct Running {
     nodes: Vec<u16>,
+    front: u16,
 }
 
 impl Running {
@@ -35,10 +42,25 @@ impl Running {
         leads: &[&[usize]],
     ) -> Result<Running, Fail> {
         let server = start_server(rt, listener, mode)?;
-        let nodes = free_ports(rt, leads.len())?;
-        let group = group(rt.alloc(), nodes.as_slice(), server, leads)?;
-        start_group(rt, group)?;
-        Ok(Running { nodes })
+        Running::start_before(rt, &[server], leads)
+    }
+
+    // Starts such nodes before the servers at these ports, of a database each.
+    pub(crate) fn start_before<R: TestHost>(
+        rt: &R,
+        servers: &[u16],
+        leads: &[&[usize]],
+    ) -> Result<Running, Fail> {
+        let mut nodes = free_ports(rt, leads.len().saturating_add(1))?;
+        let front = nodes.pop().ok_or("no port for the group")?;
+        let group = group_before(rt.alloc(), nodes.as_slice(), servers, leads)?;
+        start_group(rt, group, front)?;
+        Ok(Running { nodes, front })
+    }
+
+    // The port of the group.
+    pub(crate) fn front(&self) -> u16 {
+        self.front
     }
 
     // The port of the node with this number.
@@ -52,10 +74,10 @@ impl Running {
 }
 
 // The group serves in a thread of its own. It listens when this returns.
-fn start_group<R: TestHost>(rt: &R, group: Group) -> Result<(), Fail> {
+fn start_group<R: TestHost>(rt: &R, group: Group, front: u16) -> Result<(), Fail> {
     let listens = Arc::new(rt.alloc(), AtomicBool::new(false))?;
     let (own, theirs) = (*rt, Arc::try_clone(&listens)?);
-    thread::spawn(rt, move || serve_group(&own, group, theirs)).map_err(AllocError::from)?;
+    thread::spawn(rt, move || serve_group(&own, group, front, theirs)).map_err(AllocError::from)?;
     for _turn in 0..TURNS {
         if listens.load(Ordering::SeqCst) {
             return Ok(());
@@ -65,10 +87,9 @@ fn start_group<R: TestHost>(rt: &R, group: Group) -> Result<(), Fail> {
     Err(Fail::from("the group doesn't listen"))
 }
 
-// Serves a group, and tells when it listens. No client comes to the group's own address, which has
-// any free port.
-fn serve_group<R: TestHost>(rt: &R, group: Group, listens: Arc<AtomicBool, Global>) {
-    if let Ok(listening) = Listening::bind(rt, rt.alloc(), group, 0, [0; 32], 0) {
+// Serves a group, and tells when it listens.
+fn serve_group<R: TestHost>(rt: &R, group: Group, front: u16, listens: Arc<AtomicBool, Global>) {
+    if let Ok(listening) = Listening::bind(rt, rt.alloc(), group, front, [0; 32], BOOT) {
         listens.store(true, Ordering::SeqCst);
         let _ = listening.serve(rt, rt.alloc());
     }
@@ -88,7 +109,7 @@ pub(crate) fn start_server<R: TestHost>(
 }
 
 // Ports at which nobody listens, all different.
-fn free_ports<R: TestHost>(rt: &R, count: usize) -> Result<Vec<u16>, Fail> {
+pub(crate) fn free_ports<R: TestHost>(rt: &R, count: usize) -> Result<Vec<u16>, Fail> {
     let mut ports = Vec::new(rt.alloc());
     let mut listeners = Vec::new(rt.alloc());
     for _i in 0..count {

@@ -1,5 +1,6 @@
 //! Tests of whole groups over TCP on this machine: nodes, a stand-in server, clients and cancel
-//! requests, each connection in a thread of its own.
+//! requests, each connection in a thread of its own. And of what a group decides about a
+//! connection, without one.
 #![tactic(auto)]
 
 #[cfg(test)]
@@ -13,11 +14,25 @@ mod condemned;
 #[cfg(test)]
 mod console_client;
 #[cfg(test)]
+mod databases;
+#[cfg(test)]
+mod descriptors;
+#[cfg(test)]
+mod first_packets;
+#[cfg(test)]
+mod front;
+#[cfg(test)]
 mod gated;
 #[cfg(test)]
 mod group;
 #[cfg(test)]
+mod guests;
+#[cfg(test)]
 mod host;
+#[cfg(test)]
+mod last_words;
+#[cfg(test)]
+mod long_keys;
 #[cfg(test)]
 mod messages;
 #[cfg(test)]

@@ -1,9 +1,13 @@
 //! Messages of the protocol, worked out by hand from the PostgreSQL manual's message formats.
 use std::alloc::{AllocError, Global};
 
-// StartupMessage of a client that asks for the database `shop`, and of one that asks for the
-// console.
+// StartupMessage of a client that asks for the database `shop`, of one that does so by the protocol
+// of long keys, of one that asks for the database `work`, and of one that asks for the console.
 pub(crate) const STARTUP: &[u8] = b"\0\0\0\x20\0\x03\0\0user\0ann\0database\0shop\0\0";
+
+pub(crate) const LONG_STARTUP: &[u8] = b"\0\0\0\x20\0\x03\0\x02user\0ann\0database\0shop\0\0";
+
+pub(crate) const WORK_STARTUP: &[u8] = b"\0\0\0\x20\0\x03\0\0user\0ann\0database\0work\0\0";
 
 pub(crate) const CONSOLE_STARTUP: &[u8] = b"\0\0\0\x25\0\x03\0\0user\0ann\0database\0pgbouncer\0\0";
 
@@ -13,11 +17,15 @@ pub(crate) const GREETING: &[u8] = b"R\0\0\0\x08\0\0\0\0\
     S\0\0\0\x19server_encoding\0UTF8\0\
     S\0\0\0\x19client_encoding\0UTF8\0";
 
-// BackendKeyData, up to the eight bytes of the key.
+// BackendKeyData, up to the eight bytes of a short key or the 24 of a long one.
 pub(crate) const KEY: &[u8] = b"K\0\0\0\x0c";
 
-// CancelRequest, up to the eight bytes of the key.
+pub(crate) const LONG_KEY: &[u8] = b"K\0\0\0\x1c";
+
+// CancelRequest, up to the bytes of such a key.
 pub(crate) const CANCEL: &[u8] = b"\0\0\0\x10\x04\xd2\x16\x2e";
+
+pub(crate) const LONG_CANCEL: &[u8] = b"\0\0\0\x20\x04\xd2\x16\x2e";
 
 // ReadyForQuery: no transaction is open, and one is.
 pub(crate) const IDLE: &[u8] = b"Z\0\0\0\x05I";

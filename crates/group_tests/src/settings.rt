@@ -12,18 +12,32 @@ default_pool_size = 1
 max_client_conn = 4
 ";
 
-// The group of nodes 1, 2 and so on, which listen at these ports, before the server at this port.
-// The entries of the node at a place lead, for peers 1, 2 and so on, to the nodes at the places of
-// `leads`.
+// The names of databases, each of a server of its own.
+const DATABASES: [&str; 2] = ["shop", "work"];
+
+// The group of nodes 1, 2 and so on, which listen at these ports, before the server at this port,
+// as `group_before` makes it.
 pub(crate) fn group(
     alloc: Global,
     ports: &[u16],
     server: u16,
     leads: &[&[usize]],
 ) -> Result<Group, Fail> {
+    group_before(alloc, ports, &[server], leads)
+}
+
+// The group of nodes 1, 2 and so on, which listen at these ports, before the servers at these
+// ports, of a database each. The entries of the node at a place lead, for peers 1, 2 and so on, to
+// the nodes at the places of `leads`.
+pub(crate) fn group_before(
+    alloc: Global,
+    ports: &[u16],
+    servers: &[u16],
+    leads: &[&[usize]],
+) -> Result<Group, Fail> {
     let mut nodes = Vec::new(alloc);
     for (place, leads) in leads.iter().enumerate() {
-        nodes.push(settings(alloc, ports, server, place, leads)?)?;
+        nodes.push(settings(alloc, ports, servers, place, leads)?)?;
     }
     Ok(Group::check(nodes)?)
 }
@@ -32,30 +46,35 @@ pub(crate) fn group(
 fn settings(
     alloc: Global,
     ports: &[u16],
-    server: u16,
+    servers: &[u16],
     place: usize,
     leads: &[usize],
 ) -> Result<Settings, Fail> {
-    let text = text(alloc, ports, server, place, leads)?;
+    let text = text(alloc, ports, servers, place, leads)?;
     Ok(read_settings(alloc, text.as_str())?)
 }
 
 fn text(
     alloc: Global,
     ports: &[u16],
-    server: u16,
+    servers: &[u16],
     place: usize,
     leads: &[usize],
 ) -> Result<String, AllocError> {
     let mut text = String::from_str(alloc, COMMON)?;
     put(alloc, &mut text, "peer_id = ", number_at(place))?;
     put(alloc, &mut text, "\nlisten_port = ", port_at(ports, place))?;
-    put(
-        alloc,
-        &mut text,
-        "\n[databases]\nshop = host=127.0.0.1 user=app port=",
-        server,
-    )?;
+    text.push_str("\n[databases]")?;
+    for (name, server) in DATABASES.iter().zip(servers) {
+        text.push_str("\n")?;
+        text.push_str(name)?;
+        put(
+            alloc,
+            &mut text,
+            " = host=127.0.0.1 user=app port=",
+            *server,
+        )?;
+    }
     text.push_str("\n[peers]")?;
     for (peer, lead) in leads.iter().enumerate() {
         put(alloc, &mut text, "\n", number_at(peer))?;

@@ -1,4 +1,4 @@
--- The numbers of the refusals (own), as an operator reads them.
+-- Numbers of the errors in settings files, 20 to 28, and of groups, 40 to 43 (own).
 use Rattle.std.specs.Prelude.{ℕ, ◌≡◌}
 use Rattle.ini_config.specs.declared.fault.IniCode.{IniCode}
 use Rattle.ini_config.specs.declared.fault.IniCode.TheVariants.{BadLine, UnknownSection, UnknownKey, BadNumber, OutOfRange, Repeated, Missing, NotInProfile, Memory}

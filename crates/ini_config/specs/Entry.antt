@@ -1,4 +1,4 @@
--- The entries of [databases] and [peers]: words NAME=VALUE (own grammar).
+-- The entries of [databases] and [peers]: pairs NAME=VALUE (own grammar).
 use Rattle.std.specs.Prelude.{ℕ, Bool, ◌==◌, if◌then◌else◌, List, [], ◌∷◌, codes, Option, None, Result, Ok, Err, slice_index, unwrap_or}
 use Rattle.std.specs.List.{list_any}
 use Rattle.std.specs.Str.{bytes_eq}

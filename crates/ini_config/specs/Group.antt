@@ -1,5 +1,6 @@
--- Groups of nodes that peer with each other (own; PgBouncer configuration manual, peer_id and
--- [peers]).
+-- A group (own; PgBouncer configuration manual, peer_id and [peers]): a list of settings of which
+-- no two have the same number and each lists each other; where there are two or more, none has the
+-- number 0.
 use Rattle.std.specs.Prelude.{ℕ, ◌≢◌, ◌<◌, ◌≤◌, Bool, IsTrue, ◌==◌, List, length, All, AllPairs}
 use Rattle.std.specs.List.{list_any}
 use Rattle.ini_config.specs.Node.{NodeSettings, PeerSettings}

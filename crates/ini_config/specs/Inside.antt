@@ -1,4 +1,4 @@
--- What a clause sees of `Settings`.
+-- What contracts see of `Settings` (internal).
 use Rattle.std.specs.Prelude.{map}
 use Rattle.std.specs.String.{string_bytes}
 use Rattle.ini_config.specs.declared.node_settings.Settings.TheInside.{Inside}

@@ -1,4 +1,4 @@
--- The keys of [pgbouncer] (PgBouncer configuration manual; the ranges and which are required are
+-- The keys of [pgbouncer] (PgBouncer configuration manual; the ranges, and which are required, are
 -- own).
 use Rattle.std.specs.Prelude.{ℕ, if◌then◌else◌, List, codes, Option, None, Result, Ok, Err}
 use Rattle.std.specs.Str.{bytes_eq}

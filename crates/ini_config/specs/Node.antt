@@ -1,5 +1,4 @@
--- What the settings of a node are: the values of a settings file, by name, with the defaults (own
--- grammar).
+-- The settings of a node: the values of its file by name, with the defaults (own).
 use Rattle.std.specs.Prelude.{ℕ, ◌<◌, ◌≤◌, ◌^◌, List, length, sum_by}
 
 -- a database of the node: where its server is, as whom and to which database links log in there,

@@ -1,4 +1,4 @@
--- The settings of a node with one database, as scripts and one-line commands need them (own).
+-- The settings of a node with one database, for scripts and for the command `decide` (own).
 use Rattle.std.specs.Prelude.{ℕ, List, [], ◌∷◌, map, codes}
 use Rattle.ini_config.specs.Node.{DatabaseSettings, PeerSettings, NodeSettings}
 

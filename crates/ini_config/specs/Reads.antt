@@ -1,4 +1,4 @@
--- What a reader returns, beside what the grammar says: the same, unless memory ran out.
+-- What a reader of settings returns if memory runs out (internal).
 use Rattle.std.specs.Prelude.{◌≡◌, ◌⊎◌, Result, Ok, Err, Option, Some, None}
 use Rattle.ini_config.specs.declared.fault.IniCode.{IniCode}
 use Rattle.ini_config.specs.declared.fault.IniCode.TheVariants.{Repeated, Missing, Memory}

@@ -1,5 +1,5 @@
--- Settings texts: their lines, sections and keys, and what the whole text says (own grammar, after
--- PgBouncer's).
+-- Settings files (own grammar, after PgBouncer's): a list of lines, each of which is a comment,
+-- opens a section or gives a key. `settings_of` is the value of a text, or its first error.
 use Rattle.std.specs.Prelude.{ℕ, suc, Bool, true, false, ◌&&◌, ◌||◌, ◌==◌, ◌-◌, nat_lt, if◌then◌else◌, List, [], ◌∷◌, ◌++◌, length, map, codes, slice_index, slice_get, take, unwrap_or, Option, Some, None, Result, Ok, Err}
 use Rattle.std.specs.List.{list_any, list_all}
 use Rattle.std.specs.Option.{ok_or}

@@ -1,4 +1,4 @@
--- Blanks, words, pairs and numbers of a settings text (own grammar).
+-- Blanks, pairs and numbers in a settings file (own grammar).
 use Rattle.std.specs.Prelude.{ℕ, Bool, not, ◌&&◌, ◌||◌, ◌==◌, nat_lt, nat_le, if◌then◌else◌, List, [], ◌∷◌, length, filter, reverse, slice_index, Result, Ok, Err}
 use Rattle.std.specs.Char.{is_ascii_digit, is_ascii_alphanumeric}
 use Rattle.std.specs.List.{slice_split, before_first, after_first, list_any, list_all}

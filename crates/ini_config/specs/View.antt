@@ -1,4 +1,4 @@
--- The settings of a node in the fields that hold them.
+-- The settings of a node in the fields that hold them (internal).
 use Rattle.std.specs.Prelude.{ℕ, List, map, String, sum_by, unwrap_or}
 use Rattle.std.specs.declared.alloc.Global.{Global}
 use Rattle.std.specs.String.{string_bytes}

@@ -1,4 +1,4 @@
--- How the table keeps its live slots: in a slab, each under its own number.
+-- The slots in use as entries of a slab, each under its own number (internal).
 use Rattle.std.specs.Prelude.{ℕ, ◌≡◌, ◌<◌, ◌≤◌, List, Option, Some, None, map, nat_lt, if◌then◌else◌}
 use Rattle.std.specs.List.{range_with_len}
 use Rattle.slab.specs.Slab.{Slab, get, slab_len}

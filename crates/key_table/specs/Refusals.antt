@@ -1,4 +1,4 @@
--- The numbers of what the key table refuses (own).
+-- Number of the refusal where no slot is free, 30 (own).
 use Rattle.std.specs.Prelude.{ℕ}
 
 -- no slot is free

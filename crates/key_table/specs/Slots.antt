@@ -1,4 +1,6 @@
--- The slots of a node's view (own): a finite map from slot to what its key has, and the next slot.
+-- The slots of a node (own): for each slot in use the secret of its key and, if that is long, boot
+-- and serial; and the slot that comes next, which is any free one. `opens`: a key has all that its
+-- slot has. `names`: a key names a slot in use. `Issues` and `Frees` are the two changes.
 use Rattle.std.specs.Prelude.{ℕ, ◌≡◌, ◌≢◌, ◌==◌, ◌&&◌, Bool, false, List, Option, Some, None, is_none, slice_get, slice_set}
 use Rattle.pg_ids.specs.AnyKey.{any_key, short_of, peer_of, slot_of, long_part_of}
 use Rattle.pg_ids.specs.declared.client_key.ClientKey.{ClientKey}

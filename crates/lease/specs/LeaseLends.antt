@@ -1,4 +1,5 @@
--- What a lease ends as, once a `&mut` to its stream has ended.
+-- A lease after a `&mut` to its stream has ended: the same record, and the stream that was last
+-- written through the reference.
 use Rattle.std.specs.Borrow.{Lends, Fml, RattleType, MutBor}
 use Rattle.lease.specs.LinkValue.{LinkValue}
 use Rattle.lease.specs.contracts.link.Link.{the_row}

@@ -1,4 +1,4 @@
--- What contracts see of a link that is idle, held or quarantined (own).
+-- An idle, held or quarantined link as contracts see it: its record and its stream (own).
 use Rattle.lease.specs.declared.link_record.LinkRecord.{LinkRecord}
 
 -- what the link says, and its stream

@@ -128,8 +128,8 @@ impl<S> Link<S, Held> {
         stream
     }
 
-    /// Spends the lease without a step, for a journal or a caller at its end, which makes no more
-    /// steps. Returns its stream.
+    /// Spends the lease without a step, as `close` does: where a journal or a caller has used up
+    /// its calls, for leases that a world makes, and at a desk that is a list. Returns its stream.
     pub fn forfeit(self) -> S
         ensures { result ≡ self.stream }
     {

@@ -32,8 +32,8 @@ impl<R> Token<R> {
         details
     }
 
-    /// Spends the token without a step, for a journal or a caller at its end, which makes no more
-    /// steps. Returns its record.
+    /// Spends the token without a step, as `spend` does: where a journal or a caller has used up
+    /// its calls, for values that a world makes, and at a desk that is a list. Returns its record.
     pub fn forfeit(self) -> R
         ensures { result ≡ self }
     {

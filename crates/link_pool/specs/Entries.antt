@@ -1,5 +1,4 @@
--- What a database's pool keeps at its places: the places of the view, and the streams that lie
--- there.
+-- The places of one database with the streams that lie there (internal).
 use Rattle.std.specs.Prelude.{ℕ, ◌≡◌, Bool, List, length, map, replicate, Option, None, Some, option_map, slice_get, slice_set}
 use Rattle.lease.specs.LinkValue.{LinkValue}
 use Rattle.lease.specs.declared.link_place.LinkPlace.{LinkPlace}

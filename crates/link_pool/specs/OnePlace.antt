@@ -1,5 +1,6 @@
--- What is true of every node's links (own): each is in one place, and each client has at most one
--- thing.
+-- The invariant of a node's links (own). `IsPool`: places, queues and what clients have agree; the
+-- numbers of links and of permits are distinct; no ticket of an idle link is open. `WithinSizes`: a
+-- database has no more links and permits than its pool size.
 use Rattle.std.specs.Prelude.{ℕ, ◌≡◌, ◌==◌, ◌&&◌, ◌+◌, ◌<◌, ◌≤◌, ◌^◌, Bool, false, List, [], ◌∷◌, Option, Some, None, length, map, slice_get, slice_index, if◌then◌else◌}
 use Rattle.lease.specs.declared.link_place.LinkPlace.{LinkPlace}
 use Rattle.slot_queues.specs.Queues.{times}
@@ -93,8 +94,8 @@ given_by slot (Some place.Free) = false
 given_by slot (Some (place.Open permit other)) = false
 given_by slot (Some (place.Link link)) = is_from slot link.state
 
--- an idle link has no open ticket and isn't condemned; a quarantined one has an open ticket and
--- isn't condemned
+-- the tickets that a link in this state may have: none while it is idle, at least one while it is
+-- quarantined, and in both states none has failed; a held link may have any
 abbrev pub StateFits : LinkState → OpenTickets → Type 0
 StateFits state.Idle hold = (hold.tickets ≡ 0) × (hold.condemned ≡ false)
 StateFits (state.Held slot) hold = Unit {0}

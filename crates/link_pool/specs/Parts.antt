@@ -1,4 +1,4 @@
--- What the parts of a step need.
+-- Parts of the definitions of steps (internal).
 use Rattle.std.specs.Prelude.{ℕ, ◌≡◌, Bool, true, false, List, Option, None, Some, slice_get}
 use Rattle.lease.specs.declared.link_place.LinkPlace.{LinkPlace}
 use Rattle.quarantine.specs.OpenTickets.{OpenTickets}

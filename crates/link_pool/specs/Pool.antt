@@ -1,4 +1,7 @@
--- The links of a node's view (own; PgBouncer manual, `pool_size`).
+-- The links of a node (own; PgBouncer manual, `pool_size`). Each database has as many places as its
+-- pool size, a stack of those that are free, and a queue of slots. A place is free, kept for a
+-- permit, or has a link: idle, held by a slot's client, or quarantined, with its number of tickets.
+-- For each slot: what its client has or waits for.
 use Rattle.std.specs.Prelude.{ℕ, zero, suc, Bool, true, false, List, [], ◌∷◌, Option, Some, None, slice_get, slice_set}
 use Rattle.lease.specs.declared.link_place.LinkPlace.{LinkPlace}
 use Rattle.lease.specs.declared.permit.PermitRecord.{PermitRecord}

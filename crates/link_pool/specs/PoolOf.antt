@@ -1,4 +1,4 @@
--- The pools in the fields that hold them.
+-- The links in the fields that hold them (internal).
 use Rattle.std.specs.Prelude.{map}
 use Rattle.link_pool.specs.Streams.{PoolValue}
 use Rattle.link_pool.specs.Entries.{pool_in, streams_in}

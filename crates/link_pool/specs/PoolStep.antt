@@ -1,5 +1,5 @@
--- The steps of a node's pools (own; PgBouncer manual, transaction pooling): which reply a call may
--- get, and what it leaves. Free is which idle link is got, and nothing else.
+-- The steps of a node's links (own; PgBouncer manual, transaction pooling): which replies each call
+-- may get, and what each leaves. One choice is free: which idle link a client gets.
 use Rattle.std.specs.Prelude.{ℕ, ◌≡◌, ◌≢◌, ◌==◌, ◌+◌, ◌-◌, ◌<◌, ◌^◌, Bool, true, false, List, [], ◌∷◌, Option, Some, None, ◌⊎◌, length, map, slice_get, replicate}
 use Rattle.lease.specs.declared.link_place.LinkPlace.{LinkPlace}
 use Rattle.lease.specs.declared.link_record.LinkRecord.{LinkRecord}

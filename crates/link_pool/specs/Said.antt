@@ -1,5 +1,4 @@
--- What a reply says once its values are in a client's hands: what its lease or permit carries, and
--- of a stream nothing (own).
+-- Replies without their streams, as a journal keeps them (own).
 use Rattle.lease.specs.LinkValue.{LinkValue}
 use Rattle.lease.specs.declared.link_record.LinkRecord.{LinkRecord}
 use Rattle.lease.specs.declared.permit.PermitRecord.{PermitRecord}

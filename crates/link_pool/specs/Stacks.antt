@@ -1,4 +1,4 @@
--- A pool's stacks: of its idle links, and of its free places.
+-- The stacks of a database's idle links and of its free places (internal).
 use Rattle.std.specs.Prelude.{ℕ, zero, suc, ◌≡◌, ◌+◌, ◌-◌, Bool, true, false, List, [], ◌∷◌, ◌++◌, Option, Some, length, slice_get, take, if◌then◌else◌}
 use Rattle.slot_queues.specs.Queues.{times}
 

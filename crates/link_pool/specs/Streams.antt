@@ -1,4 +1,5 @@
--- The streams of the links that no client has (own): where each lies, and what each step does.
+-- The streams of idle and quarantined links (own): at which place each lies, and what each step
+-- does with them.
 use Rattle.std.specs.Prelude.{ℕ, ◌≡◌, ◌≢◌, Bool, true, false, List, Option, None, Some, is_some, slice_get}
 use Rattle.lease.specs.LinkValue.{LinkValue}
 use Rattle.lease.specs.declared.link_place.LinkPlace.{LinkPlace}

@@ -1,4 +1,5 @@
--- Whose turn it is to get a link (own; PgBouncer manual, transaction pooling).
+-- Whose turn it is to get a link (own; PgBouncer manual, transaction pooling): the slot that waits
+-- first for a database, if a link there is idle or a place is free.
 use Rattle.std.specs.Prelude.{ℕ, ◌≡◌, true, Option, Some, None, ◌⊎◌, slice_get}
 use Rattle.lease.specs.declared.link_place.LinkPlace.{LinkPlace}
 use Rattle.link_pool.specs.Pool.{PoolView, place_at, queue_at}

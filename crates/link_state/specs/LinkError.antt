@@ -1,4 +1,4 @@
--- The numbers of the refusals (own).
+-- Numbers of the refusals of a login at a server, 50 to 53 (own).
 use Rattle.std.specs.Prelude.{ℕ}
 use Rattle.link_state.specs.declared.error.LinkError.{LinkError}
 use Rattle.link_state.specs.declared.error.LinkError.TheVariants.{NoKey, AuthAsked, ServerError, OutOfProfile}

@@ -1,5 +1,7 @@
--- A login at a server, by the messages that it has read (PostgreSQL manual, "Message Flow":
--- Start-up; which messages are taken is own).
+-- A login at a server, by the list of messages read so far (PostgreSQL manual, "Message Flow":
+-- Start-up; which messages are accepted is own). `GoOn`: the login goes on. `IsUpAt`: it is
+-- complete, with this key. `IsRefused`: it is refused, by this number. `HasRead` and `HasReadHead`:
+-- a login has read these messages.
 use Rattle.std.specs.Prelude.{ℕ, ◌≡◌, ◌+◌, ◌⊎◌, true, false, IsTrue, List, [], ◌∷◌, ◌++◌, length, Option, Some, None, Result, Ok, Err}
 use Rattle.std.specs.List.{AllByRecursion, filter_map, last_or}
 use Rattle.pg_frames.specs.declared.frame.Frame.{Frame}

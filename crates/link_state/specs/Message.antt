@@ -1,5 +1,6 @@
--- What a server's message means to a login (PostgreSQL manual, "Message Flow": Start-up, and
--- "Message Formats"; which messages are taken is own).
+-- What a server's message means to a login: nothing, a key, that the server is ready (idle or not),
+-- or a fault (PostgreSQL manual, "Message Flow": Start-up, and "Message Formats"; which messages
+-- are accepted is own).
 use Rattle.std.specs.Prelude.{ℕ, ◌+◌, Bool, true, false, ◌==◌, ◌||◌, List, [], ◌∷◌, length, nat_lt, if◌then◌else◌, Option, Some, None}
 use Rattle.byteorder.specs.Endian.{big_number}
 use Rattle.pg_frames.specs.declared.frame.Frame.{Frame}

@@ -1,4 +1,4 @@
--- How the code goes on from one message to the next.
+-- How the code goes from one message of a login to the next (internal).
 use Rattle.std.specs.Prelude.{ℕ, ◌==◌, true, false, List, length, if◌then◌else◌, Option, Some, None, Result, Ok, Err}
 use Rattle.pg_frames.specs.declared.frame.Frame.{Frame}
 use Rattle.link_state.specs.declared.act.LinkAct.{LinkAct}

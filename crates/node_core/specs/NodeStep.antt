@@ -1,6 +1,7 @@
--- The steps of a node (own; PgBouncer manual, transaction pooling and `[peers]`): which reply a
--- call may get, and the state that it leaves. Free is which free slot is next, which idle link is
--- got, and which free place is kept.
+-- The steps of a node (own; PgBouncer manual, transaction pooling and `[peers]`): which replies
+-- each call may get, and what each leaves. Two choices are free: which free slot a login gets, and
+-- which idle link a client gets. `IsPass`: a pass belongs to its slot. A stale value gets `Stale`
+-- and changes nothing.
 use Rattle.std.specs.Prelude.{ℕ, ◌≡◌, ◌≢◌, ◌+◌, ◌<◌, ◌^◌, ◌⊎◌, Bool, true, false, Option, Some, None, Result, Ok, Err, length, replicate, slice_get, slice_set}
 use Rattle.pg_ids.specs.AnyKey.{peer_of, slot_of}
 use Rattle.pg_ids.specs.declared.any_key.{AnyKey.AnyKey, Kind.Kind}

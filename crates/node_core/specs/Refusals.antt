@@ -1,4 +1,4 @@
--- The numbers of what a node refuses (own).
+-- Numbers of a node's refusals: 30 to 33, 35, and 60 to 63 (own).
 use Rattle.std.specs.Prelude.{ℕ}
 use Rattle.key_table.specs.Refusals.{FULL}
 use Rattle.quarantine.specs.Refusals.{BUSY}

@@ -1,4 +1,6 @@
--- The view of a node (own).
+-- The state of a node (own): its number and peers, pool sizes, slots, clients, the next numbers,
+-- and its links. `IsView` is its invariant and `IsFresh` a new node. `NodeValue` is the state with
+-- the streams of its links.
 use Rattle.std.specs.Prelude.{ℕ, ◌≡◌, ◌<◌, ◌≤◌, ◌^◌, List, Option, Some, None, is_some, length, map, slice_get, replicate}
 use Rattle.key_table.specs.Slots.{Slots, IsNext}
 use Rattle.ini_config.specs.Node.{NodeSettings}

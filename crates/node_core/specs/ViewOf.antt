@@ -1,4 +1,4 @@
--- The view, and the streams, in the fields that hold them.
+-- The state and the streams in the fields that hold them (internal).
 use Rattle.node_core.specs.View.{NodeValue}
 use Rattle.node_core.specs.declared.node.NodeCore.TheInside.{Inside}
 

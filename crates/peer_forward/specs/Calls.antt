@@ -1,5 +1,5 @@
--- The calls of a stream with their results (own). A stream is known by two relations: what a write
--- makes of it, and what a read does.
+-- Calls of a stream with their results (own). A stream is known by two relations: what it is after
+-- a write, and what a read does. `Makes`: these calls, in this order, and no others.
 use Rattle.std.specs.Prelude.{◌≡◌, ℕ, List, [], ◌∷◌, ◌++◌, take, Result, Ok, Err}
 use Rattle.std.specs.declared.io.Error.{Error}
 

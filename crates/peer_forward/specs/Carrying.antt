@@ -1,5 +1,7 @@
 -- How a packet is carried (PostgreSQL manual, "Canceling Requests in Progress": a server closes the
--- connection without a reply once it has acted; what counts as failed is own).
+-- connection without a reply; what counts as failed is own). `Carried`: the calls and the outcome
+-- follow from the results of the calls. The end is clean exactly if the whole packet was written
+-- and then the input ended without a byte.
 use Rattle.std.specs.Prelude.{◌≡◌, ◌↔◌, ℕ, zero, suc, ◌<◌, List, [], ◌∷◌, ◌++◌, length, drop, Result, Ok, Err}
 use Rattle.std.specs.declared.io.Error.{Error}
 use Rattle.peer_forward.specs.declared.outcome.Outcome.{Outcome}

@@ -1,4 +1,5 @@
--- How the connection that a request came on is finished (own: the manual's server writes nothing).
+-- How the requester's connection is finished (own; a PostgreSQL server writes nothing): no call for
+-- a settled request, otherwise one write of one byte.
 use Rattle.std.specs.Prelude.{◌≡◌, ℕ, [], ◌∷◌, Result}
 use Rattle.std.specs.declared.io.Error.{Error}
 use Rattle.peer_forward.specs.declared.outcome.Outcome.TheVariants.{Ended, Failed}

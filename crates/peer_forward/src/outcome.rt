@@ -6,6 +6,6 @@
 pub enum Outcome {
     /// The whole packet was written, and then the input ended with no byte.
     Ended,
-    /// A write or the read failed, a write took nothing, or a byte came.
+    /// Anything else: a call failed, a write took no byte, or the other side sent one.
     Failed,
 }

@@ -1,5 +1,7 @@
--- Cancel keys of both kinds, their bytes and their identities (own layout; PostgreSQL manual,
--- "Canceling Requests in Progress": the secret key of protocol 3.2 may be longer than four bytes).
+-- Cancel keys of both kinds (own layout; PostgreSQL manual, "Canceling Requests in Progress": the
+-- secret key of protocol 3.2 may be longer than four bytes). A short key has eight bytes; a long
+-- one has the pooler's boot number and a serial behind them, eight bytes each. `any_bytes` are the
+-- bytes of a key, `any_identity_of` its identity, `any_lowered` the key with one hop fewer.
 use Rattle.std.specs.Prelude.{ℕ, ◌^◌, ◌<◌, List, ◌++◌, Option, Some, None}
 use Rattle.byteorder.specs.Endian.{big_bytes}
 use Rattle.pg_ids.specs.Key.{IsKey, key_bytes, identity_of, lowered}

@@ -1,5 +1,6 @@
--- The client key and its identity (own layout; PostgreSQL manual, "Canceling Requests in
--- Progress").
+-- A short cancel key (own layout; PostgreSQL manual, "Canceling Requests in Progress"): 14 bits of
+-- peer, 16 of slot, 32 of secret, 2 of hops. Its bytes are its number in big-endian order. Its
+-- identity is the number divided by 4, which stays the same when the hops are lowered.
 use Rattle.std.specs.Prelude.{ℕ, ◌+◌, ◌-◌, ◌*◌, ◌/◌, ◌^◌, ◌<◌, List}
 use Rattle.byteorder.specs.Endian.{big_bytes}
 use Rattle.pg_ids.specs.declared.client_key.ClientKey.{ClientKey}

@@ -1,4 +1,5 @@
--- The state of a link by its tickets (own).
+-- The state of a link by its tickets (own): condemned once one failed; otherwise clear if none is
+-- open; otherwise waiting.
 use Rattle.std.specs.Prelude.{ℕ, zero, suc, Bool, true, false}
 use Rattle.quarantine.specs.OpenTickets.{OpenTickets}
 use Rattle.quarantine.specs.declared.hold.HoldState.{HoldState}

@@ -1,4 +1,4 @@
--- What keeps a link from being used again (own).
+-- How many cancel requests (tickets) of a link are under way, and whether one failed (own).
 use Rattle.std.specs.Prelude.{ℕ, Bool}
 
 -- how many tickets of the link are open, and whether one ever failed

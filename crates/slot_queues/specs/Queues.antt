@@ -1,4 +1,5 @@
--- Queues of slots, as lists (own).
+-- Queues of slots, as lists (own). `behind` is a queue with one slot more, `others` one without a
+-- slot; `times` and `times_in` count a slot in one queue and in all.
 use Rattle.std.specs.Prelude.{ℕ, ◌==◌, ◌+◌, ◌++◌, List, [], ◌∷◌, get_or, replicate, if◌then◌else◌}
 
 -- how often a slot is in a queue

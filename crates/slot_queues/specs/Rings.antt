@@ -1,4 +1,5 @@
--- Queues as rings of nodes: each slot is a node, and behind all slots each queue is one.
+-- Queues as rings: each slot is an element, and behind all slots there is one for each queue
+-- (internal).
 use Rattle.std.specs.Prelude.{ℕ, zero, suc, ◌≡◌, ◌+◌, ◌-◌, ◌^◌, ◌<◌, ◌≤◌, ltb, List, [], ◌∷◌, length, map, slice_index, if◌then◌else◌}
 use Rattle.std.specs.List.{range_with_len}
 use Rattle.slot_queues.specs.Queues.{times_in, queue_of}

@@ -1,5 +1,5 @@
--- The CancelRequest of a key of either kind (PostgreSQL manual, "Message Formats": CancelRequest;
--- that of a long key is own).
+-- The CancelRequest of a key: 16 bytes for a short one (PostgreSQL manual, "Message Formats"), 32
+-- for a long one (own).
 use Rattle.std.specs.Prelude.{ℕ, List}
 use Rattle.pg_ids.specs.AnyKey.{any_bytes}
 use Rattle.pg_ids.specs.declared.any_key.AnyKey.{AnyKey}

@@ -1,5 +1,6 @@
--- The errors that a pooler reports to its clients: codes of the PostgreSQL manual's appendix
--- "PostgreSQL Error Codes", with texts of this project's own.
+-- The errors that clients get: SQLSTATE codes (PostgreSQL manual, appendix "PostgreSQL Error
+-- Codes") with messages of this project, the severities, and which refusal is reported by which
+-- code.
 use Rattle.std.specs.Prelude.{ℕ, List, codes, Option, Some, None}
 use Rattle.startup.specs.declared.error_code.ErrorCode.{ErrorCode}
 use Rattle.startup.specs.declared.error_code.ErrorCode.TheVariants.{ProtocolViolation, FeatureNotSupported, InvalidCatalogName, TooManyConnections, OutOfMemory, ConnectionFailure, InvalidAuthorization, AdminShutdown, QueryCanceled}

@@ -1,5 +1,7 @@
--- The first packet of a connection, its outcome and its refusals (PostgreSQL manual, "Message
--- Formats" and "Start-up"; the limit of 10,000, the refusals and their order are own).
+-- The first packet of a connection (PostgreSQL manual, "Message Formats" and "Start-up"; the
+-- greatest length, the refusals and the order of the checks are own). `Decides seen text outcome`:
+-- these bytes decide this packet or this refusal. `IsOutcome` adds the two cases in which nothing
+-- is decided: more bytes are needed, or the input has ended. Each text has one outcome.
 use Rattle.std.specs.Prelude.{ℕ, ◌≡◌, ◌≢◌, ◌+◌, ◌<◌, ◌≤◌, ◌⊎◌, Bool, true, false, if◌then◌else◌, List, [], length, drop, string_bytes, Result, Ok, Err}
 use Rattle.byteorder.specs.Endian.{big_number}
 use Rattle.pg_ids.specs.AnyKey.{any_key_bytes}

@@ -1,4 +1,4 @@
--- What is read of a packet's header.
+-- The length and the code of a packet, as the code reads them (internal).
 use Rattle.std.specs.Prelude.{ℕ, ◌≡◌, ◌<◌, ◌≤◌, ◌⊎◌, List, length, Result, Ok, Err, Option, Some, None}
 use Rattle.startup.specs.FirstPacket.{length_of, code_of, HasHeader}
 use Rattle.startup.specs.declared.header.Header.{Header}

@@ -1,4 +1,4 @@
--- Which negotiations a connection has seen (own: one of each kind is allowed).
+-- Which of SSLRequest and GSSENCRequest a connection has sent; one of each is allowed (own).
 use Rattle.std.specs.Prelude.{Bool, false}
 
 -- was an SSLRequest answered, was a GSSENCRequest

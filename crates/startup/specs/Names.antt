@@ -1,4 +1,4 @@
--- Names that are pairwise distinct.
+-- Names that are pairwise distinct (internal).
 use Rattle.std.specs.Prelude.{ℕ, bytes_eq, List}
 use Rattle.std.specs.Borrow.{Bor}
 use Rattle.std.specs.List.{IsDistinct}

@@ -1,4 +1,4 @@
--- The numbers of the refusals of a first packet (own).
+-- Numbers of the refusals of a first packet, 1 to 9 (own).
 use Rattle.std.specs.Prelude.{ℕ}
 use Rattle.startup.specs.declared.startup_error.StartupError.{StartupError}
 use Rattle.startup.specs.declared.startup_error.StartupError.TheVariants.{TooShort, TooLong, BadVersion, BadText, NoUser, BadCancelLength, Repeated, Truncated, Memory}

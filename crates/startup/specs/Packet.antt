@@ -1,5 +1,6 @@
--- The first packets, as bytes (PostgreSQL manual, "Message Formats": StartupMessage, CancelRequest,
--- SSLRequest, GSSENCRequest).
+-- The first packets as bytes (PostgreSQL manual, "Message Formats"): StartupMessage of either
+-- version, CancelRequest, SSLRequest, GSSENCRequest. That the code of protocol 3.2 asks for a long
+-- key is own.
 use Rattle.std.specs.Prelude.{ℕ, ◌≡◌, ◌+◌, ◌*◌, ◌^◌, List, [], ◌++◌, length}
 use Rattle.byteorder.specs.Endian.{big_bytes}
 use Rattle.pg_ids.specs.declared.any_key.Kind.{Kind}

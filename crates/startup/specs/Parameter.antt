@@ -1,4 +1,4 @@
--- A parameter as it stands in a packet's bytes.
+-- A parameter as it stands in the bytes of a packet (internal).
 use Rattle.startup.specs.StartupMessage.{Parameter}
 use Rattle.startup.specs.declared.parameter.Parameter.{Parameter as Read}
 

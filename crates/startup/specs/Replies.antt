@@ -1,5 +1,6 @@
--- What a pooler writes to a client (PostgreSQL manual, "Message Formats" and "Error and Notice
--- Message Fields"; the parameters that a login reports are own).
+-- What a pooler writes to a client: the reply to a login, and ErrorResponse (PostgreSQL manual,
+-- "Message Formats" and "Error and Notice Message Fields"; which parameters a login reports is
+-- own).
 use Rattle.std.specs.Prelude.{ℕ, ◌+◌, ◌≤◌, List, [], ◌∷◌, ◌++◌, length, codes, Option, Some, None}
 use Rattle.byteorder.specs.Endian.{big_bytes}
 use Rattle.startup.specs.StartupMessage.{HasNoZero}
@@ -8,7 +9,7 @@ use Rattle.pg_ids.specs.AnyKey.{long_part_bytes}
 use Rattle.pg_ids.specs.declared.any_key.AnyKey.{AnyKey}
 use Rattle.pg_ids.specs.declared.any_key.AnyKey.TheVariants.{Short, Long}
 
--- a message: a type byte, an Int32 length that counts itself and not the type byte, and the body
+-- a message: its type byte, four bytes with the length of all that follows the type, and its body
 abbrev pub message : ℕ → List ℕ → List ℕ
 message kind body = kind ∷ big_bytes 4 (4 + length body) ++ body
 

@@ -1,4 +1,4 @@
--- What a pooler takes from a StartupMessage's body.
+-- What a pooler takes from the body of a StartupMessage (internal).
 use Rattle.std.specs.Prelude.{◌≡◌, ℕ, List, map, codes, false}
 use Rattle.std.specs.Borrow.{Bor}
 use Rattle.std.specs.List.{AllByRecursion}

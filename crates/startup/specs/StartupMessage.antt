@@ -1,5 +1,5 @@
--- The body of a StartupMessage (PostgreSQL manual, "Message Formats": StartupMessage). Which names
--- a client may send is this project's own profile.
+-- The body of a StartupMessage (PostgreSQL manual, "Message Formats"): names and values, each ended
+-- by a zero byte, and one more zero byte. Which names a client may send is own.
 use Rattle.std.specs.Prelude.{ℕ, ◌≡◌, ◌≢◌, ◌||◌, Bool, false, List, [], ◌∷◌, ◌++◌, codes, bytes_eq, nat_eq, flat_map, if◌then◌else◌}
 use Rattle.std.specs.List.{AllByRecursion, starts_with}
 use Rattle.std.specs.Str.{IsUtf8}

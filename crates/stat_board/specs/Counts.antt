@@ -1,4 +1,5 @@
--- The rule of a board of counters, and what a seat learns at each step (own).
+-- The invariant of a board of counters (own): each counter equals what the seats together have
+-- counted, counters and allowances make 2^63, and no last reading is above its counter.
 use Rattle.std.specs.Prelude.{ℕ, ◌≡◌, ◌+◌, ◌-◌, ◌/◌, ◌^◌, ◌≤◌, length, sum, sum_by, slice_index, slice_set}
 use mathlib.Core.Option.{some}
 use lib.ListN.{get_elem?}
@@ -13,7 +14,7 @@ BOARD_LIMIT = 2 ^ 63
 -- The rule of a board, between any two of its steps.
 pub record IsCounted {S : Type 0} (s : State S Note) : Type 0 where
   pub words : length s.words ≡ 8
-  -- the value of each word is the sum, over all seats, of what they have counted there
+  -- each word is the sum of the seats' own counts
   pub counted : (place : ℕ)
       → slice_index s.words place ≡ sum_by (λ seat. slice_index seat.counts place) s.views
   -- words and allowances together make 2^63

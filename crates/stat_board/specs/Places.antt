@@ -1,4 +1,4 @@
--- The places of the counters on a board (own).
+-- The place of each counter on the board (own).
 use Rattle.std.specs.Prelude.{ℕ}
 use Rattle.stat_board.specs.declared.counter.Counter.{Counter}
 use Rattle.stat_board.specs.declared.counter.Counter.TheVariants.{Spent, Unknown, NoPeer, NoLink, Forwarded, Sent, Ended, Failed}

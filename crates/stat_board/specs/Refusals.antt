@@ -1,4 +1,4 @@
--- The numbers of what a board refuses (own).
+-- Number of the refusal of a seat without allowance, 70 (own).
 use Rattle.std.specs.Prelude.{ℕ}
 
 -- the seat has no allowance left

@@ -1,4 +1,4 @@
--- Rows of numbers, by the places of counters (own).
+-- Rows of numbers, one for each counter (own).
 use Rattle.std.specs.Prelude.{ℕ, ◌+◌, max, List, [], ◌∷◌, replicate, slice_index, slice_set}
 
 -- nothing at any place

@@ -1,4 +1,4 @@
--- What is true of the fields of a seat.
+-- The invariant of the fields of a seat (internal).
 use Rattle.std.specs.Prelude.{◌≡◌, []}
 use Rattle.stat_board.specs.Counts.{IsWithin}
 use Rattle.stat_board.specs.Seats.{SeatView}

@@ -1,4 +1,4 @@
--- The seats of a board (own).
+-- What counting, reading, splitting and joining do to a seat (own).
 use Rattle.std.specs.Prelude.{ℕ, ◌≡◌, ◌+◌, ◌/◌, List, slice_set}
 use Rattle.atomic_table.specs.Seated.{TableId}
 use Rattle.stat_board.specs.Rows.{NOTHING, added, greatest, raised}

@@ -123,8 +123,8 @@ impl BoardSeat {
         Ok(())
     }
 
-    /// The word of a counter: at least what this seat has counted or read there before, and at most
-    /// what its allowance leaves of 2^63. It is the seat's last reading from then on.
+    /// The value of a counter. It isn't below the seat's own count or its last reading, and isn't
+    /// above 2^63 less the seat's allowance. It becomes the seat's last reading.
     pub fn read(&mut self, board: &Board, counter: Counter) -> u64
         requires own { self.old.board ≡ board.now }
         ensures read { Reads self.old (place_of counter) result self.new }

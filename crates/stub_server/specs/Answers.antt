@@ -1,5 +1,6 @@
--- What the stand-in server does with a client's message (own; the messages that it sends are those
--- of PostgreSQL manual, "Message Formats").
+-- What the stand-in server does with a message (own; PostgreSQL manual, "Message Formats").
+-- `answer`: what is sent for a query in a state of the transaction, and the state after it.
+-- `interrupted`: the same for a query that was interrupted. `Does`: what is done with any message.
 use Rattle.std.specs.Prelude.{ℕ, ◌≡◌, ◌⊎◌, List, [], ◌∷◌, ◌++◌, length, codes}
 use Rattle.byteorder.specs.Endian.{big_bytes}
 use Rattle.pg_frames.specs.declared.frame.Frame.{Frame}

@@ -1,4 +1,4 @@
--- A query as the code has it.
+-- A query as an enum of the code (internal).
 use Rattle.stub_server.specs.declared.query.Query.TheVariants as lent
 use Rattle.stub_server.specs.declared.query.Query.{Query as Lent}
 use Rattle.stub_server.specs.Query.{Query, Hold, Echo, Begin, Commit, Other}

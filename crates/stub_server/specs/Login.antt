@@ -1,4 +1,5 @@
--- The login of a client at the stand-in server (own; PostgreSQL manual, "Start-up").
+-- The login at the stand-in server (own; PostgreSQL manual, "Start-up"): the key of the n-th
+-- client, and the messages.
 use Rattle.std.specs.Prelude.{ℕ, ◌≡◌, ◌+◌, List, ◌++◌, Some}
 use Rattle.byteorder.specs.Endian.{big_bytes}
 use Rattle.pg_ids.specs.Key.{key_bytes}

@@ -1,4 +1,4 @@
--- The queries of the stand-in server (own), and the message that brings one (PostgreSQL manual,
+-- The queries of the stand-in server (own), and the message that carries one (PostgreSQL manual,
 -- "Message Formats": Query).
 use Rattle.std.specs.Prelude.{ℕ, ◌≡◌, List, ◌++◌, codes}
 use Rattle.pg_frames.specs.declared.frame.Frame.{Frame}

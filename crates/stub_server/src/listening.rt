@@ -11,9 +11,8 @@ use std::time::{Clock, Duration};
 // descriptor is left.
 const REST: u64 = 10;
 
-/// Serves each connection that the listener accepts, in a thread of its own. If a thread or memory
-/// for it is refused, that connection is closed, and the others go on. A fault of accept is passed
-/// over.
+/// Serves each connection that the listener accepts, in a thread of its own. A connection for which
+/// no thread or no memory is left is closed. Errors of `accept` are ignored.
 pub fn serve<R: Wait + Threads + Clock + Copy + Send + 'static>(
     rt: &R,
     server: &Arc<Server, Global>,

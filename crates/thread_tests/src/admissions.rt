@@ -3,13 +3,15 @@ ghost use Rattle.std.specs.Thread.{IsSync};
 
 use ini_config::Settings;
 use node_threads::{Admission, Entrance};
-use pg_ids::{DatabaseNo, PeerNo};
+use pg_ids::{DatabaseNo, PeerNo, SlotNo};
 use std::alloc::Global;
 use std::process::Abort;
 use std::sync::Wait;
+use std::sync::atomic::{AtomicBool, AtomicU64, Ordering};
 use std::test::Fail;
 use std::thread;
 use std::thread::Threads;
+use std::time::{Clock, Duration};
 
 // The only database.
 const PLAIN: DatabaseNo = DatabaseNo(0);
@@ -43,7 +45,7 @@ fn two_come_and_go<R: Threads + Wait + Sync>(rt: &R, one: &Entrance<'_>, other: 
     );
 }
 
-// The first two find a place, and the third comes in once it has lost patience.
+// The first two are let in at once, and the third by the timeout.
 fn come_one_by_one<R: Wait + Abort>(rt: &R, admission: &Admission, entrances: &[Entrance<'_>]) {
     for (before, entrance) in entrances.iter().enumerate() {
         assert_eq!(rt; admission.inside(rt, PLAIN), before);
@@ -57,12 +59,12 @@ fn come_one_by_one<R: Wait + Abort>(rt: &R, admission: &Admission, entrances: &[
 }
 
 #[test]
-fn whoever_finds_no_place_comes_in_once_patience_is_lost(rt: HostRuntime) -> Result<(), Fail> {
+fn whoever_is_not_let_in_comes_in_by_the_timeout(rt: HostRuntime) -> Result<(), Fail> {
     let alloc = rt.alloc();
     let admission = admission(alloc, 2)?;
     let mut entrances = Vec::new(alloc);
-    for _i in 0..3 {
-        entrances.push(Entrance::new(alloc, &admission)?)?;
+    for slot in 0..3 {
+        entrances.push(Entrance::new(&rt, alloc, &admission, SlotNo(slot))?)?;
     }
     come_one_by_one(&rt, &admission, entrances.as_slice());
     Ok(())
@@ -72,9 +74,224 @@ fn whoever_finds_no_place_comes_in_once_patience_is_lost(rt: HostRuntime) -> Res
 fn nobody_is_left_inside(rt: HostRuntime) -> Result<(), Fail> {
     let alloc = rt.alloc();
     let admission = admission(alloc, 1)?;
-    let one = Entrance::new(alloc, &admission)?;
-    let other = Entrance::new(alloc, &admission)?;
+    let one = Entrance::new(&rt, alloc, &admission, SlotNo(0))?;
+    let other = Entrance::new(&rt, alloc, &admission, SlotNo(1))?;
     two_come_and_go(&rt, &one, &other);
+    assert_eq!(rt; admission.inside(&rt, PLAIN), 0);
+    Ok(())
+}
+
+// A client that isn't let in comes in after so many milliseconds.
+const TIMEOUT: u64 = 20;
+
+// How often each of eight clients comes under load.
+const TURNS: u32 = 200;
+
+// How many microseconds each is inside, so that others have to wait.
+const INSIDE: u64 = 200;
+
+// How many waits ended before the timeout, and how many didn't.
+#[derive(Drop)]
+struct Waits {
+    // Whether clients wait in the node's queue now and then.
+    with_queue: bool,
+    early: AtomicU64,
+    late: AtomicU64,
+}
+
+impl Waits {
+    const fn new(with_queue: bool) -> Waits {
+        Waits {
+            with_queue,
+            early: AtomicU64::new(0),
+            late: AtomicU64::new(0),
+        }
+    }
+
+    // Some of the waits ended early. Where nobody is let in, or told to ask, none does.
+    fn assert_early(&self, rt: &impl Abort) {
+        let early = self.early.load(Ordering::SeqCst);
+        let late = self.late.load(Ordering::SeqCst);
+        assert!(rt;
+            early > 0 && early >= late / 3,
+            "{early} early, {late} late"
+        );
+    }
+
+    // A client comes in. If it had to wait, the wait is counted.
+    fn enter<R: Wait + Clock>(&self, rt: &R, entrance: &Entrance<'_>) {
+        let before = rt.monotonic().unwrap_or(Duration::ZERO);
+        let has_waited = entrance.enter(rt, PLAIN);
+        let after = rt.monotonic().unwrap_or(Duration::ZERO);
+        if !has_waited {
+            return;
+        }
+        if after.saturating_sub(before) < Duration::from_millis(TIMEOUT) {
+            self.early.fetch_add(1, Ordering::SeqCst);
+        } else {
+            self.late.fetch_add(1, Ordering::SeqCst);
+        }
+    }
+}
+
+// Comes often. Of the first turns no wait is counted.
+fn come_often<R: Wait + Clock>(rt: &R, entrances: &[Entrance<'_>], place: usize, waits: &Waits) {
+    let Some(entrance) = entrances.get(place) else {
+        return;
+    };
+    for turn in 0..TURNS {
+        if turn < TURNS / 2 {
+            entrance.enter(rt, PLAIN);
+        } else {
+            waits.enter(rt, entrance);
+        }
+        entrance.asked();
+        if waits.with_queue && turn % 8 == 0 {
+            entrance.queue(rt, PLAIN);
+            entrance.catch_up(rt, PLAIN);
+        }
+        thread::sleep(rt, Duration::from_micros(INSIDE));
+        entrance.leave(rt, PLAIN);
+    }
+}
+
+// Two come often, from this place on; four do; eight do.
+fn by_two<R: Threads + Wait + Clock + Sync>(
+    rt: &R,
+    entrances: &[Entrance<'_>],
+    place: usize,
+    waits: &Waits,
+) {
+    let other = place.wrapping_add(1);
+    thread::join(
+        rt,
+        ||
+            requires { IsSync R.row }
+        { come_often(rt, entrances, place, waits) },
+        ||
+            requires { IsSync R.row }
+        { come_often(rt, entrances, other, waits) },
+    );
+}
+
+fn by_four<R: Threads + Wait + Clock + Sync>(
+    rt: &R,
+    entrances: &[Entrance<'_>],
+    place: usize,
+    waits: &Waits,
+) {
+    let other = place.wrapping_add(2);
+    thread::join(
+        rt,
+        ||
+            requires { IsSync R.row }
+        { by_two(rt, entrances, place, waits) },
+        ||
+            requires { IsSync R.row }
+        { by_two(rt, entrances, other, waits) },
+    );
+}
+
+fn by_eight<R: Threads + Wait + Clock + Sync>(rt: &R, entrances: &[Entrance<'_>], waits: &Waits) {
+    thread::join(
+        rt,
+        ||
+            requires { IsSync R.row }
+        { by_four(rt, entrances, 0, waits) },
+        ||
+            requires { IsSync R.row }
+        { by_four(rt, entrances, 4, waits) },
+    );
+}
+
+// Eight clients come often to two places. Whoever waits is let in, and nobody is left inside: two
+// clients come in at once in the end.
+fn assert_let_in<R: Threads + Wait + Clock + Sync + Abort>(
+    rt: &R,
+    admission: &Admission,
+    entrances: &[Entrance<'_>],
+    with_queue: bool,
+) {
+    let waits = Waits::new(with_queue);
+    by_eight(rt, entrances, &waits);
+    waits.assert_early(rt);
+    assert_eq!(rt; admission.inside(rt, PLAIN), 0);
+    let two = entrances.split_at(entrances.len().min(2)).0;
+    for entrance in two {
+        assert!(rt; !entrance.enter(rt, PLAIN));
+    }
+    for entrance in two {
+        entrance.leave(rt, PLAIN);
+    }
+}
+
+#[test]
+fn whoever_waits_is_let_in(rt: HostRuntime) -> Result<(), Fail> {
+    let alloc = rt.alloc();
+    let me = PeerNo::new(2).ok_or("no such peer")?;
+    let settings = Settings::plain(alloc, me, Vec::new(alloc), 2, 8)?;
+    let admission = Admission::new(alloc, &settings)?;
+    let mut entrances = Vec::new(alloc);
+    for slot in 0..8 {
+        entrances.push(Entrance::new(&rt, alloc, &admission, SlotNo(slot))?)?;
+    }
+    assert_let_in(&rt, &admission, entrances.as_slice(), false);
+    assert_let_in(&rt, &admission, entrances.as_slice(), true);
+    Ok(())
+}
+
+// The client of slot 1 comes often, and always has to wait.
+fn wait_often<R: Wait + Clock>(rt: &R, entrance: &Entrance<'_>, waits: &Waits, done: &AtomicBool) {
+    for _i in 0..50u32 {
+        waits.enter(rt, entrance);
+        entrance.asked();
+        entrance.leave(rt, PLAIN);
+    }
+    done.store(true, Ordering::SeqCst);
+}
+
+// It is told to ask, until it is done.
+fn tell_often<R: Wait>(rt: &R, admission: &Admission, done: &AtomicBool) {
+    for _ in rt.forever() {
+        if done.load(Ordering::SeqCst) {
+            return;
+        }
+        admission.tell_to_ask(rt, SlotNo(1));
+        thread::yield_now();
+    }
+    unreachable!()
+}
+
+fn wait_and_tell<R: Threads + Wait + Clock + Sync>(
+    rt: &R,
+    admission: &Admission,
+    entrance: &Entrance<'_>,
+    waits: &Waits,
+) {
+    let done = AtomicBool::new(false);
+    thread::join(
+        rt,
+        ||
+            requires { IsSync R.row }
+        { wait_often(rt, entrance, waits, &done) },
+        ||
+            requires { IsSync R.row }
+        { tell_often(rt, admission, &done) },
+    );
+}
+
+// A client that is told to ask waits no longer.
+#[test]
+fn whoever_is_told_to_ask_asks(rt: HostRuntime) -> Result<(), Fail> {
+    let alloc = rt.alloc();
+    let admission = admission(alloc, 1)?;
+    let keeper = Entrance::new(&rt, alloc, &admission, SlotNo(0))?;
+    let entrance = Entrance::new(&rt, alloc, &admission, SlotNo(1))?;
+    assert!(rt; !keeper.enter(&rt, PLAIN));
+    let waits = Waits::new(false);
+    wait_and_tell(&rt, &admission, &entrance, &waits);
+    waits.assert_early(&rt);
+    keeper.leave(&rt, PLAIN);
     assert_eq!(rt; admission.inside(&rt, PLAIN), 0);
     Ok(())
 }

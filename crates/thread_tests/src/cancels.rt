@@ -2,11 +2,11 @@
 //! in which order, and what is counted.
 use crate::calls::assert_calls;
 use crate::log::{Dialer, Event, Log, Marks, Reply, Wire, assert_logged};
-use crate::node::{Asked, Node, SHOP, Stream};
+use crate::node::{Asked, Node, Stream};
 use locked_node::CallAnswer;
 use node_core::ReleaseReply;
 use node_threads::Point;
-use pg_ids::{AnyKey, PeerNo};
+use pg_ids::AnyKey;
 use startup::Packet;
 use std::alloc::Global;
 use std::process::Abort;
@@ -46,7 +46,7 @@ fn expect<R: Wait + Abort>(
     let mut requester = Wire::new(&log, 16, Reply::End);
     let opener = Dialer { log: &log, reply };
     let key = AnyKey::from_short_bytes(asked);
-    node.cancel(rt, &opener, &Marks(&log), &mut requester, key);
+    node.cancel(rt, alloc, &opener, &Marks(&log), &mut requester, key);
     assert_logged(rt, &log, events);
 }
 
@@ -55,7 +55,7 @@ fn expect<R: Wait + Abort>(
 fn expect_carried<R: Wait + Abort>(rt: &R, alloc: Global, node: &mut Node) {
     let events = [
         Event::Passed(Point::Ordered),
-        Event::Server(SHOP),
+        Event::Cancel(0),
         TO_SERVER,
         Event::Read,
         Event::Passed(Point::Carried),
@@ -72,17 +72,18 @@ fn expect_carried<R: Wait + Abort>(rt: &R, alloc: Global, node: &mut Node) {
     expect(rt, alloc, node, FIRST, Some(Reply::Byte(0x4e)), &events);
     let events = [
         Event::Passed(Point::Ordered),
-        Event::Server(SHOP),
+        Event::Cancel(0),
+        Event::Passed(Point::Carried),
         UNSETTLED,
     ];
     expect(rt, alloc, node, FIRST, None, &events);
 }
 
 // Requests for another pooler are forwarded there in the same ways.
-fn expect_forwarded<R: Wait + Abort>(rt: &R, alloc: Global, node: &mut Node, peer: PeerNo) {
+fn expect_forwarded<R: Wait + Abort>(rt: &R, alloc: Global, node: &mut Node) {
     let events = [
         Event::Passed(Point::Ordered),
-        Event::Peer(peer),
+        Event::Peer(3),
         TO_PEER,
         Event::Read,
         UNSETTLED,
@@ -96,19 +97,18 @@ fn expect_forwarded<R: Wait + Abort>(rt: &R, alloc: Global, node: &mut Node, pee
         events.split_at(4).0,
     );
     expect(rt, alloc, node, OTHER, Some(Reply::Fails), &events);
-    let events = [Event::Passed(Point::Ordered), Event::Peer(peer), UNSETTLED];
+    let events = [Event::Passed(Point::Ordered), Event::Peer(3), UNSETTLED];
     expect(rt, alloc, node, OTHER, None, &events);
 }
 
 // A link for which a request failed is closed once it is given back.
 #[test]
 fn carried(rt: HostRuntime) -> Result<(), Fail> {
-    let peer = PeerNo::new(3).ok_or("no such peer")?;
     let mut node = Node::new(rt.alloc())?;
     let pass = node.login(&rt, 1).expect(&rt, "a slot");
     let lease = node.open(&rt, &pass, 7).expect(&rt, "a link");
     expect_carried(&rt, rt.alloc(), &mut node);
-    expect_forwarded(&rt, rt.alloc(), &mut node, peer);
+    expect_forwarded(&rt, rt.alloc(), &mut node);
     let released = node.release(&rt, lease);
     assert_eq!(rt; released, ReleaseReply::Closed(Stream(7)));
     assert!(rt; node.leave(&rt, pass));

@@ -10,7 +10,7 @@ use std::{io, thread};
 pub(crate) const LOOKS: u32 = 1_000_000;
 
 // Looks for a mark. Returns whether it came.
-fn sees(mark: &AtomicBool) -> bool {
+pub(crate) fn sees(mark: &AtomicBool) -> bool {
     for _look in 0..LOOKS {
         if mark.load(Ordering::SeqCst) {
             return true;
@@ -149,5 +149,72 @@ impl Gate for LetsGo<'_> {
         if passed == WAY.len() {
             self.hold.free.store(true, Ordering::SeqCst);
         }
+    }
+}
+
+// How far threads are: one client has a link, and keeps it until it may go, and another has asked
+// for one meanwhile.
+#[derive(Drop)]
+pub(crate) struct Marks {
+    pub(crate) has_link: AtomicBool,
+    pub(crate) has_asked: AtomicBool,
+    pub(crate) may_go: AtomicBool,
+}
+
+impl Marks {
+    pub(crate) const fn new() -> Marks {
+        Marks {
+            has_link: AtomicBool::new(false),
+            has_asked: AtomicBool::new(false),
+            may_go: AtomicBool::new(false),
+        }
+    }
+}
+
+// The gate of the client that keeps its link until it may go.
+impl Gate for Marks {
+    fn pass<R: Wait>(&self, _rt: &R, point: Point) {
+        if point == Point::Acquired {
+            self.has_link.store(true, Ordering::SeqCst);
+            let _may_go = sees(&self.may_go);
+        }
+    }
+}
+
+// A client that tells when its request was read, at the second read.
+#[derive(Drop)]
+pub(crate) struct Asking<'a> {
+    talk: Talk,
+    reads: usize,
+    marks: &'a Marks,
+}
+
+impl<'a> Asking<'a> {
+    pub(crate) fn new(talk: Talk, marks: &'a Marks) -> Asking<'a> {
+        Asking {
+            talk,
+            reads: 0,
+            marks,
+        }
+    }
+}
+
+impl Read for Asking<'_> {
+    fn read(&mut self, buffer: &mut [u8]) -> io::Result<usize> {
+        self.reads = self.reads.wrapping_add(1);
+        if self.reads == 2 {
+            self.marks.has_asked.store(true, Ordering::SeqCst);
+        }
+        self.talk.read(buffer)
+    }
+}
+
+impl Write for Asking<'_> {
+    fn write(&mut self, bytes: &[u8]) -> io::Result<usize> {
+        self.talk.write(bytes)
+    }
+
+    fn flush(&mut self) -> io::Result<()> {
+        self.talk.flush()
     }
 }

@@ -8,8 +8,8 @@ use locked_node::CallAnswer;
 use node_threads::Point;
 use std::test::Fail;
 
-// A request for the owner's link waits at `Ordered` until a session at the same node has passed
-// `Acquired` and `Ready`.
+// A cancel of the owner's link is held at `Ordered` while another session of that node goes through
+// a whole transaction.
 const CANCEL: Scene = Scene {
     task: Task::Cancel(KEY),
     script: CANCELS,

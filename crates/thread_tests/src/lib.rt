@@ -10,9 +10,21 @@ mod calls;
 #[cfg(test)]
 mod cancels;
 #[cfg(test)]
+mod consoles;
+#[cfg(test)]
+mod crowd;
+#[cfg(test)]
+mod failures;
+#[cfg(test)]
 mod gates;
 #[cfg(test)]
 mod held;
+#[cfg(test)]
+mod keys;
+#[cfg(test)]
+mod line;
+#[cfg(test)]
+mod links;
 #[cfg(test)]
 mod log;
 #[cfg(test)]
@@ -32,14 +44,26 @@ mod scene;
 #[cfg(test)]
 mod scene_node;
 #[cfg(test)]
+mod seats;
+#[cfg(test)]
 mod sessions;
+#[cfg(test)]
+mod shown;
 #[cfg(test)]
 mod stays;
 #[cfg(test)]
+mod stories;
+#[cfg(test)]
+mod story;
+#[cfg(test)]
 mod talk;
+#[cfg(test)]
+mod together;
 #[cfg(test)]
 mod tracked;
 #[cfg(test)]
 mod turns;
+#[cfg(test)]
+mod waits;
 #[cfg(test)]
 mod words;

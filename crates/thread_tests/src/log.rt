@@ -15,9 +15,11 @@ use std::sync::Wait;
 #[derive(Clone, Copy, Debug, PartialEq, Eq)]
 pub(crate) enum Event {
     Passed(Point),
-    // A connection was asked for.
-    Server(DatabaseNo),
-    Peer(PeerNo),
+    // A connection was asked for: to the server of this database, for a link or a cancel request,
+    // or to this peer.
+    Server(u8),
+    Cancel(u8),
+    Peer(u16),
     // A stream was written to: a whole packet, one byte, or this many bytes.
     Sent(Packet),
     Byte(u8),
@@ -27,6 +29,12 @@ pub(crate) enum Event {
     // The request of the ticket with this number was reported to a desk.
     Ended(u64),
     Failed(u64),
+    // It was asked whether a link is quiet, and a client got a link, or has it no longer.
+    Looked,
+    Attached,
+    Detached,
+    // A connection was closed.
+    Closed,
 }
 
 #[derive(Drop)]
@@ -41,7 +49,7 @@ impl Log {
         }
     }
 
-    fn add(&self, event: Event) {
+    pub(crate) fn add(&self, event: Event) {
         if let Ok(mut events) = self.events.try_borrow_mut() {
             let _ = events.push(event);
         }
@@ -81,7 +89,7 @@ impl<'a> Wire<'a> {
 }
 
 // What was written.
-fn written(bytes: &[u8]) -> Event {
+pub(crate) fn written(bytes: &[u8]) -> Event {
     let mut short = [0; 16];
     match bytes.len() {
         1 => Event::Byte(bytes[0]),
@@ -147,6 +155,8 @@ impl Desk<u8> for LoggedDesk<'_> {
 
     ghost told = { λ _ _ _. ⊤ };
 
+    ghost took = { λ _ _ _. ⊤ };
+
     fn ended<R: Wait>(&mut self, _rt: &R, ticket: Ticket) {
         self.0.add(Event::Ended(ticket.forfeit().number));
     }
@@ -158,6 +168,7 @@ impl Desk<u8> for LoggedDesk<'_> {
     fn release<R: Wait>(&mut self, _rt: &R, lease: Lease<u8>)
         requires ready { ⊤ }
         ensures told { ⊤ }
+        ensures took { ⊤ }
     {
         let _stream = lease.forfeit();
     }
@@ -165,6 +176,7 @@ impl Desk<u8> for LoggedDesk<'_> {
     fn close<R: Wait>(&mut self, _rt: &R, lease: Lease<u8>)
         requires ready { ⊤ }
         ensures told { ⊤ }
+        ensures took { ⊤ }
     {
         let _stream = lease.forfeit();
     }
@@ -190,12 +202,17 @@ impl<'a> Opener for Dialer<'a> {
     type Stream = Wire<'a>;
 
     fn server<R: Wait>(&self, _rt: &R, database: DatabaseNo) -> io::Result<Wire<'a>> {
-        self.log.add(Event::Server(database));
+        self.log.add(Event::Server(database.get()));
+        self.dial()
+    }
+
+    fn cancel<R: Wait>(&self, _rt: &R, database: DatabaseNo) -> io::Result<Wire<'a>> {
+        self.log.add(Event::Cancel(database.get()));
         self.dial()
     }
 
     fn peer<R: Wait>(&self, _rt: &R, peer: PeerNo) -> io::Result<Wire<'a>> {
-        self.log.add(Event::Peer(peer));
+        self.log.add(Event::Peer(peer.get()));
         self.dial()
     }
 }

@@ -2,15 +2,15 @@
 use crate::talk::Turn;
 
 // AuthenticationOk and three ParameterStatus, which each login begins with.
-const WELCOME: &[u8] = b"R\0\0\0\x08\0\0\0\0\
+pub(crate) const WELCOME: &[u8] = b"R\0\0\0\x08\0\0\0\0\
     S\0\0\0\x16server_version\x0016\0\
     S\0\0\0\x19server_encoding\0UTF8\0\
     S\0\0\0\x19client_encoding\0UTF8\0";
 
 // ReadyForQuery, outside of a transaction and in one.
-const IDLE: &[u8] = b"Z\0\0\0\x05I";
+pub(crate) const IDLE: &[u8] = b"Z\0\0\0\x05I";
 
-const OPEN: &[u8] = b"Z\0\0\0\x05T";
+pub(crate) const OPEN: &[u8] = b"Z\0\0\0\x05T";
 
 // BackendKeyData of peer 2, three hops: slot 1 with secret 5, and secret 9 with the slots 0 to 2. A
 // key is the peer in 14 bits, the slot in 16, the secret in 32 and the hops in 2.
@@ -23,36 +23,37 @@ const KEY_AT_1: &[u8] = b"K\0\0\0\x0c\0\x08\0\x04\0\0\0\x27";
 const KEY_AT_2: &[u8] = b"K\0\0\0\x0c\0\x08\0\x08\0\0\0\x27";
 
 // The query `select 1`, and its answer: RowDescription, DataRow and CommandComplete.
-const QUERY: &[u8] = b"Q\0\0\0\x0dselect 1\0";
+pub(crate) const QUERY: &[u8] = b"Q\0\0\0\x0dselect 1\0";
 
-const ROW: &[u8] = b"T\0\0\0\x21\0\x01?column?\0\0\0\0\0\0\0\0\0\0\x17\0\x04\xff\xff\xff\xff\0\0\
+pub(crate) const ROW: &[u8] =
+    b"T\0\0\0\x21\0\x01?column?\0\0\0\0\0\0\0\0\0\0\x17\0\x04\xff\xff\xff\xff\0\0\
     D\0\0\0\x0b\0\x01\0\0\0\x011\
     C\0\0\0\x0dSELECT 1\0";
 
-const BEGIN: &[u8] = b"Q\0\0\0\x0abegin\0";
+pub(crate) const BEGIN: &[u8] = b"Q\0\0\0\x0abegin\0";
 
-const BEGUN: &[u8] = b"C\0\0\0\x0aBEGIN\0";
+pub(crate) const BEGUN: &[u8] = b"C\0\0\0\x0aBEGIN\0";
 
-const COMMIT: &[u8] = b"Q\0\0\0\x0bcommit\0";
+pub(crate) const COMMIT: &[u8] = b"Q\0\0\0\x0bcommit\0";
 
-const COMMITTED: &[u8] = b"C\0\0\0\x0bCOMMIT\0";
+pub(crate) const COMMITTED: &[u8] = b"C\0\0\0\x0bCOMMIT\0";
 
-const TERMINATE: &[u8] = b"X\0\0\0\x04";
+pub(crate) const TERMINATE: &[u8] = b"X\0\0\0\x04";
 
 // The error fields of a node that was started anew, up to the text for a person.
 const RESTARTED: &[u8] = b"SFATAL\0VFATAL\0C57P01\0";
 
 // What a server is sent to log in, and its answer.
-const STARTUP: &[u8] = b"\0\0\0\x23\0\x03\0\0user\0plain\0database\0plain\0\0";
+pub(crate) const STARTUP: &[u8] = b"\0\0\0\x23\0\x03\0\0user\0plain\0database\0plain\0\0";
 
-const LOGIN: &[u8] = b"R\0\0\0\x08\0\0\0\0\
+pub(crate) const LOGIN: &[u8] = b"R\0\0\0\x08\0\0\0\0\
     K\0\0\0\x0c\x21\x22\x23\x24\x25\x26\x27\x28\
     Z\0\0\0\x05I";
 
 // CancelRequest with the key of the owner's link, and with that of peer 3, secret 1, and two hops.
 const CANCEL: &[u8] = b"\0\0\0\x10\x04\xd2\x16\x2e\x11\x12\x13\x14\x15\x16\x17\x18";
 
-const LOWERED: &[u8] = b"\0\0\0\x10\x04\xd2\x16\x2e\0\x0c\0\0\0\0\0\x06";
+pub(crate) const LOWERED: &[u8] = b"\0\0\0\x10\x04\xd2\x16\x2e\0\x0c\0\0\0\0\0\x06";
 
 // What a connection's client does, and what its server or peer does.
 #[derive(Clone, Copy, Debug)]

@@ -7,7 +7,7 @@ use locked_node::{Caller, Journal, Shared};
 use node_core::{
     AcquireReply, DatabaseNo, Lease, LeaveReply, NodeCore, Pass, Permit, ReleaseReply,
 };
-use node_threads::{Gate, Opener, serve_cancel};
+use node_threads::{Admission, Gate, Opener, Service, serve_cancel};
 use peer_forward::WriteCalls;
 use pg_ids::{AnyKey, Boot, Kind, PeerNo, Secret};
 use stat_board::{Board, BoardSeat};
@@ -19,7 +19,7 @@ use std::test::Fail;
 #[derive(Debug, Drop, PartialEq, Eq)]
 pub(crate) struct Stream(pub(crate) u8);
 
-pub(crate) const SHOP: DatabaseNo = DatabaseNo(0);
+const SHOP: DatabaseNo = DatabaseNo(0);
 
 // Another answer than the one that is waited for.
 #[derive(Clone, Copy, Debug, PartialEq, Eq)]
@@ -37,6 +37,8 @@ pub(crate) enum Asked {
 #[derive(Drop)]
 pub(crate) struct Node {
     shared: Shared<Stream>,
+    settings: Settings,
+    admission: Admission,
     caller: Caller<Stream>,
     board: Board,
     seat: BoardSeat,
@@ -54,8 +56,11 @@ impl Node {
         let core = NodeCore::new(alloc, &settings, Boot(9))?;
         let (shared, caller) = Shared::new(alloc, Journal::new(alloc, core)?)?;
         let (board, seat) = Board::new(alloc)?;
+        let admission = Admission::new(alloc, &settings)?;
         Ok(Node {
             shared,
+            settings,
+            admission,
             caller,
             board,
             seat,
@@ -123,22 +128,23 @@ impl Node {
     pub(crate) fn cancel<R: Wait, O: Opener, G: Gate, Q: WriteCalls>(
         &mut self,
         rt: &R,
+        alloc: Global,
         opener: &O,
         gate: &G,
         requester: &mut Q,
         key: AnyKey,
     ) {
-        serve_cancel(
+        let service = Service {
             rt,
-            &self.shared,
-            &mut self.caller,
-            &self.board,
-            &mut self.seat,
+            alloc,
+            shared: &self.shared,
+            settings: &self.settings,
+            admission: &self.admission,
             opener,
             gate,
-            requester,
-            key,
-        );
+        };
+        let (caller, seat) = (&mut self.caller, &mut self.seat);
+        serve_cancel(service, caller, &self.board, seat, requester, key);
     }
 
     // Who makes its calls.
@@ -150,6 +156,8 @@ impl Node {
     pub(crate) fn words(self) -> [u64; 8] {
         let Node {
             shared: _,
+            settings: _,
+            admission: _,
             caller: _,
             board,
             seat,

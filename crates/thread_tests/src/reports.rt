@@ -3,7 +3,7 @@ ghost use Rattle.std.specs.Prelude.{◌≡◌, ◌+◌, ◌<◌};
 
 use crate::log::{Event, Log, LoggedDesk, Marks, Reply, Wire, assert_logged};
 use lease::{Lease, LinkPlace, LinkRecord, Permit, PermitRecord, Ticket, TicketRecord};
-use node_threads::{Desk, DeskCall, ListDesk, Open, Point, relay, report};
+use node_threads::{Context, Desk, DeskCall, ListDesk, Open, Point, relay, report};
 use peer_forward::Outcome;
 use pg_ids::{DatabaseNo, LinkNo, PeerNo};
 use startup::Packet;
@@ -102,9 +102,8 @@ fn assert_reported(
     let ticket = Ticket::new(ticket_record(peer));
     let gate = Marks(log);
     let outcome = report(
-        rt,
+        Context { rt, gate: &gate },
         &mut desk,
-        &gate,
         &mut requester,
         &mut server,
         ticket,
@@ -153,9 +152,8 @@ fn report_failed<R: Wait + Abort>(rt: &R, desk: &mut ListDesk<u64>, log: &Log, p
     let mut requester = Wire::new(log, 0, Reply::End);
     let mut server = Wire::new(log, 16, Reply::Fails);
     let outcome = report(
-        rt,
+        Context { rt, gate: &Open },
         desk,
-        &Open,
         &mut requester,
         &mut server,
         Ticket::new(ticket_record(peer)),

@@ -7,7 +7,7 @@ use ini_config::Settings;
 use link_pool::Claim;
 use locked_node::{Caller as LockCaller, Journal, Shared};
 use node_core::NodeCore;
-use node_threads::{Admission, Entrance, Gate, Link, serve_cancel, serve_client};
+use node_threads::{Admission, Gate, Link, Service, serve_cancel, serve_client};
 use pg_frames::Cutter;
 use pg_ids::{AnyKey, Boot, DatabaseNo, Kind, PeerNo, Secret};
 use stat_board::Board;
@@ -91,25 +91,18 @@ impl Node {
         let Ok(admission) = Admission::new(alloc, &self.settings) else {
             return;
         };
-        let Ok(entrance) = Entrance::new(alloc, &admission) else {
-            return;
-        };
         let mut cutter = Cutter::new(alloc);
-        serve_client(
+        let service = Service {
             rt,
             alloc,
-            &self.lock,
-            caller,
-            &self.settings,
-            &entrance,
-            &visit.dialer(),
+            shared: &self.lock,
+            settings: &self.settings,
+            admission: &admission,
+            opener: &visit.dialer(),
             gate,
-            client,
-            &mut cutter,
-            PLAIN,
-            visit.secret,
-            Kind::Short,
-        );
+        };
+        let (secret, kind) = (visit.secret, Kind::Short);
+        serve_client(service, caller, client, &mut cutter, PLAIN, secret, kind);
     }
 
     // A cancel request with this key is served to its end.
@@ -129,17 +122,20 @@ impl Node {
         let Ok((board, mut seat)) = Board::new(alloc) else {
             return;
         };
-        serve_cancel(
+        let Ok(admission) = Admission::new(alloc, &self.settings) else {
+            return;
+        };
+        let service = Service {
             rt,
-            &self.lock,
-            caller,
-            &board,
-            &mut seat,
-            &visit.dialer(),
+            alloc,
+            shared: &self.lock,
+            settings: &self.settings,
+            admission: &admission,
+            opener: &visit.dialer(),
             gate,
-            client,
-            AnyKey::from_short_bytes(key),
-        );
+        };
+        let key = AnyKey::from_short_bytes(key);
+        serve_cancel(service, caller, &board, &mut seat, client, key);
     }
 
     // How many calls were made in all. The node is at its end.

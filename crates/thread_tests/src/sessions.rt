@@ -1,15 +1,15 @@
 //! Sessions at a real node, over streams in memory: what a client and a server get from each other,
 //! and which calls of the node were counted.
 use crate::calls::assert_calls;
-use crate::talk::{Talk, Turn};
-use ini_config::{Group, Settings};
+use crate::consoles::{CONSOLES, NOT_IN_PROFILE};
+use crate::line::{Dials, Line, Stage};
+use crate::story::{calling, visit};
+use crate::talk::Turn;
 use locked_node::CallAnswer;
-use node_core::{DatabaseNo, RestartReply};
-use node_threads::{Calling, Open, Opener, serve_connection};
-use pg_ids::{Boot, PeerNo};
+use node_core::RestartReply;
+use node_threads::{Calling, Open};
+use pg_ids::Boot;
 use std::alloc::Global;
-use std::io;
-use std::io::ErrorKind;
 use std::process::Abort;
 use std::sync::{Arc, Wait};
 use std::test::Fail;
@@ -57,45 +57,24 @@ const LOGIN_SENT: Turn = Turn::Takes(STARTUP);
 
 const LOGGED_IN: Turn = Turn::Gives(LOGIN);
 
-// What connects to a server that takes these turns, or to none.
-#[derive(Drop)]
-struct Server {
-    turns: Option<&'static [Turn]>,
-}
-
-impl Opener for Server {
-    type Stream = Talk;
-
-    fn server<R: Wait>(&self, _rt: &R, _database: DatabaseNo) -> io::Result<Talk> {
-        match self.turns {
-            Some(turns) => Ok(Talk::new(turns)),
-            None => Err(io::Error::from(ErrorKind::ConnectionRefused)),
-        }
-    }
-
-    fn peer<R: Wait>(&self, _rt: &R, _peer: PeerNo) -> io::Result<Talk> {
-        Err(io::Error::from(ErrorKind::ConnectionRefused))
-    }
-}
-
-// Node 1, alone, with one database, one link and two slots.
-fn calling(alloc: Global, boot: Boot) -> Result<Calling<Talk>, Fail> {
-    let me = PeerNo::new(1).ok_or("no such peer")?;
-    let settings = Settings::plain(alloc, me, Vec::new(alloc), 1, 2)?;
-    let group = Group::check(vec![in alloc; settings]?)?;
-    if group.is_empty() {
-        return Err(Fail::from("no node"));
-    }
-    let group = Arc::new(alloc, group)?;
-    Ok(Calling::new(alloc, &group, 0, [0; 32], boot)?)
-}
+// Node 1, with one link and two slots.
+const NODE: &str = "[pgbouncer]
+pool_mode = transaction
+auth_type = trust
+listen_addr = 127.0.0.1
+peer_id = 1
+default_pool_size = 1
+max_client_conn = 2
+[databases]
+plain = host=127.0.0.1 port=5432 user=plain
+";
 
 // What happens at a node of its own.
 #[derive(Clone, Copy)]
 struct Story {
     boot: u64,
-    // What its server takes, if it can be reached.
-    server: Option<&'static [Turn]>,
+    // What its server does, at one connection after the other. There are no more.
+    servers: &'static [&'static [Turn]],
     // Its clients come one after the other, and each takes all its turns.
     clients: &'static [&'static [Turn]],
     // Then it is started anew, with these answers.
@@ -104,35 +83,31 @@ struct Story {
     calls: &'static [(CallAnswer, u128)],
 }
 
-// A client is served that takes these turns, all of them.
-fn serve<R: Wait + Abort>(
+fn tell<R: Wait + Abort>(
     rt: &R,
     alloc: Global,
-    calling: &mut Calling<Talk>,
-    server: &Server,
-    turns: &'static [Turn],
+    calling: &mut Calling<Line>,
+    stage: &Arc<Stage, Global>,
+    story: &Story,
 ) {
-    let mut client = Talk::new(turns);
-    serve_connection(rt, alloc, calling, server, &Open, &mut client);
-    assert!(rt; client.is_done());
-}
-
-fn tell<R: Wait + Abort>(rt: &R, alloc: Global, calling: &mut Calling<Talk>, story: &Story) {
-    let server = Server {
-        turns: story.server,
-    };
+    let dials = Dials::new(stage, story.servers);
     for turns in story.clients {
-        serve(rt, alloc, calling, &server, turns);
+        assert!(rt;
+            visit(rt, alloc, calling, &dials, &Open, turns),
+            "{turns:?}"
+        );
     }
     for reply in story.restarts {
         assert_eq!(rt; calling.restart(rt), *reply);
     }
     assert_calls(rt, calling.caller(), story.calls);
+    stage.assert_sound(rt);
 }
 
 fn assert_told<R: Wait + Abort>(rt: &R, alloc: Global, story: &Story) -> Result<(), Fail> {
-    let mut calling = calling(alloc, Boot(story.boot))?;
-    tell(rt, alloc, &mut calling, story);
+    let stage = Stage::new(alloc, None)?;
+    let mut calling = calling(alloc, NODE, [0; 32], Boot(story.boot))?;
+    tell(rt, alloc, &mut calling, &stage, story);
     Ok(())
 }
 
@@ -154,6 +129,22 @@ const ASKS_SECOND: &[Turn] = &[
 
 const ASKS_IN_VAIN: &[Turn] = &[COMES, GREETED, Turn::Gives(QUERY), Turn::TakesError(LOST)];
 
+const VIOLATES: Turn = Turn::TakesError(b"SFATAL\0VFATAL\0C08P01\0");
+
+// Parse of the text `vacuum`, Bind, Describe of the portal, Execute and Sync; and the answer:
+// ParseComplete, BindComplete, NoData, CommandComplete and ReadyForQuery.
+const GROUP: &[u8] = b"P\0\0\0\x0e\0vacuum\0\0\0\
+    B\0\0\0\x0c\0\0\0\0\0\0\0\0\
+    D\0\0\0\x06P\0\
+    E\0\0\0\x09\0\0\0\0\0\
+    S\0\0\0\x04";
+
+const GROUP_DONE: &[u8] = b"1\0\0\0\x04\
+    2\0\0\0\x04\
+    n\0\0\0\x04\
+    C\0\0\0\x0bVACUUM\0\
+    Z\0\0\0\x05I";
+
 // The calls where no link opens: the place is free again.
 const CALLS_OF_LOST: &[(CallAnswer, u128)] = &[
     (CallAnswer::AcquireOpen, 1),
@@ -162,77 +153,18 @@ const CALLS_OF_LOST: &[(CallAnswer, u128)] = &[
     (CallAnswer::Left, 1),
 ];
 
-// What a client of the console is greeted with: it gets no key.
-const CONSOLE_GREETING: &[u8] = b"R\0\0\0\x08\0\0\0\0\
-    S\0\0\0\x16server_version\x0016\0\
-    S\0\0\0\x19server_encoding\0UTF8\0\
-    S\0\0\0\x19client_encoding\0UTF8\0\
-    Z\0\0\0\x05I";
-
-// The links of a node that has none: the names of five columns, and no row.
-const NO_LINKS: &[u8] = b"T\0\0\0\x86\0\x05\
-    link\0\0\0\0\0\0\0\0\0\0\x19\xff\xff\xff\xff\xff\xff\0\0\
-    database\0\0\0\0\0\0\0\0\0\0\x19\xff\xff\xff\xff\xff\xff\0\0\
-    place\0\0\0\0\0\0\0\0\0\0\x19\xff\xff\xff\xff\xff\xff\0\0\
-    tickets\0\0\0\0\0\0\0\0\0\0\x19\xff\xff\xff\xff\xff\xff\0\0\
-    condemned\0\0\0\0\0\0\0\0\0\0\x19\xff\xff\xff\xff\xff\xff\0\0\
-    C\0\0\0\x09SHOW\0Z\0\0\0\x05I";
-
-const CONSOLE_COMES: Turn = Turn::Gives(
-    b"\0\0\0\x27\0\x03\0\0user\0plain\0database\0pgbouncer\0\0",
-);
-
-const CONSOLE_GREETED: Turn = Turn::Takes(CONSOLE_GREETING);
-
-const NOT_IN_PROFILE: Turn = Turn::TakesError(b"SFATAL\0VFATAL\0C0A000\0");
-
-// Sessions on the console: queries and other texts, and what ends a session with an error.
-const CONSOLES: &[&[Turn]] = &[
-    &[
-        CONSOLE_COMES,
-        CONSOLE_GREETED,
-        Turn::Gives(b"Q\0\0\0\x0fSHOW LINKS\0"),
-        Turn::Takes(NO_LINKS),
-        Turn::Gives(b"Q\0\0\0\x10show links;\0"),
-        Turn::Takes(NO_LINKS),
-        Turn::Gives(b"Q\0\0\0\x0eSHOW LINK\0"),
-        Turn::TakesError(b"SERROR\0VERROR\0C0A000\0"),
-        Turn::Gives(b"Q\0\0\0\x06\xff\0"),
-        Turn::TakesError(b"SERROR\0VERROR\0C0A000\0"),
-        Turn::Gives(TERMINATE),
-    ],
-    &[
-        CONSOLE_COMES,
-        CONSOLE_GREETED,
-        Turn::Gives(b"P\0\0\0\x08\0\0\0\0"),
-        NOT_IN_PROFILE,
-    ],
-    &[
-        CONSOLE_COMES,
-        CONSOLE_GREETED,
-        Turn::Gives(b"Q\0\0\0\x0eSHOW LINKS"),
-        Turn::TakesError(b"SFATAL\0VFATAL\0C08P01\0"),
-    ],
-    &[
-        CONSOLE_COMES,
-        CONSOLE_GREETED,
-        Turn::Gives(b"Q\0\0\0\x03"),
-        Turn::TakesError(b"SFATAL\0VFATAL\0C08P01\0"),
-    ],
-];
-
 const STORIES: &[Story] = &[
     // A client's query goes to a new link, which is idle after it and serves the next client.
     Story {
         boot: 9,
-        server: Some(&[
+        servers: &[&[
             LOGIN_SENT,
             LOGGED_IN,
             Turn::Takes(QUERY),
             Turn::Gives(ROWS),
             Turn::Takes(QUERY),
             Turn::Gives(ROWS),
-        ]),
+        ]],
         clients: &[ASKS, ASKS_SECOND],
         restarts: &[],
         calls: &[
@@ -248,33 +180,33 @@ const STORIES: &[Story] = &[
     // ends before it: the client gets the error of a lost link.
     Story {
         boot: 9,
-        server: None,
+        servers: &[],
         clients: &[ASKS_IN_VAIN],
         restarts: &[],
         calls: CALLS_OF_LOST,
     },
     Story {
         boot: 9,
-        server: Some(&[LOGIN_SENT, Turn::Gives(b"E\0\0\0\x05\0")]),
+        servers: &[&[LOGIN_SENT, Turn::Gives(b"E\0\0\0\x05\0")]],
         clients: &[ASKS_IN_VAIN],
         restarts: &[],
         calls: CALLS_OF_LOST,
     },
     Story {
         boot: 9,
-        server: Some(&[
+        servers: &[&[
             LOGIN_SENT,
             Turn::Gives(
                 b"R\0\0\0\x08\0\0\0\0K\0\0\0\x0c\x11\x12\x13\x14\x15\x16\x17\x18Z\0\0\0\x05IZ",
             ),
-        ]),
+        ]],
         clients: &[ASKS_IN_VAIN],
         restarts: &[],
         calls: CALLS_OF_LOST,
     },
     Story {
         boot: 9,
-        server: Some(&[LOGIN_SENT]),
+        servers: &[&[LOGIN_SENT]],
         clients: &[ASKS_IN_VAIN],
         restarts: &[],
         calls: CALLS_OF_LOST,
@@ -282,7 +214,7 @@ const STORIES: &[Story] = &[
     // A link that breaks in a reply leaves the pool, and the session ends.
     Story {
         boot: 9,
-        server: Some(&[LOGIN_SENT, LOGGED_IN, Turn::Takes(QUERY)]),
+        servers: &[&[LOGIN_SENT, LOGGED_IN, Turn::Takes(QUERY)]],
         clients: &[ASKS_IN_VAIN],
         restarts: &[],
         calls: &[
@@ -295,7 +227,7 @@ const STORIES: &[Story] = &[
     // A node is started anew behind a client.
     Story {
         boot: 9,
-        server: Some(&[LOGIN_SENT, LOGGED_IN, Turn::Takes(QUERY), Turn::Gives(ROWS)]),
+        servers: &[&[LOGIN_SENT, LOGGED_IN, Turn::Takes(QUERY), Turn::Gives(ROWS)]],
         clients: &[ASKS],
         restarts: &[RestartReply::Restarted],
         calls: &[
@@ -307,21 +239,21 @@ const STORIES: &[Story] = &[
     // A process has 2^32 boots.
     Story {
         boot: 0x1_ffff_fffe,
-        server: None,
+        servers: &[],
         clients: &[],
         restarts: &[RestartReply::Restarted, RestartReply::Exhausted],
         calls: &[(CallAnswer::Restarted, 1)],
     },
     Story {
         boot: 0x1_ffff_ffff,
-        server: None,
+        servers: &[],
         clients: &[],
         restarts: &[RestartReply::Exhausted, RestartReply::Exhausted],
         calls: &[(CallAnswer::Restarted, 0)],
     },
     Story {
         boot: 0xffff_ffff_ffff_ffff,
-        server: None,
+        servers: &[],
         clients: &[],
         restarts: &[RestartReply::Exhausted, RestartReply::Exhausted],
         calls: &[(CallAnswer::Restarted, 0)],
@@ -330,7 +262,7 @@ const STORIES: &[Story] = &[
     // given.
     Story {
         boot: 9,
-        server: None,
+        servers: &[],
         clients: &[
             &[
                 Turn::Gives(b"\0\0\0\x22\0\x03\0\0user\0plain\0database\0none\0\0"),
@@ -341,9 +273,96 @@ const STORIES: &[Story] = &[
         restarts: &[],
         calls: &[(CallAnswer::Joined, 0), (CallAnswer::CancelUnknown, 1)],
     },
+    // What can't be a message, as the first that comes after the login, behind the StartupMessage,
+    // and after a request: a type that is no letter, and a message that is too long. No request is
+    // made of it.
     Story {
         boot: 9,
-        server: None,
+        servers: &[],
+        clients: &[
+            &[COMES, GREETED, Turn::Gives(b"\0"), VIOLATES],
+            &[
+                Turn::Gives(b"\0\0\0\x23\0\x03\0\0user\0plain\0database\0plain\0\0\0"),
+                Turn::Takes(SECOND_GREETING),
+                VIOLATES,
+            ],
+        ],
+        restarts: &[],
+        calls: &[
+            (CallAnswer::Joined, 2),
+            (CallAnswer::AcquireOpen, 0),
+            (CallAnswer::Left, 2),
+        ],
+    },
+    Story {
+        boot: 9,
+        servers: &[&[LOGIN_SENT, LOGGED_IN, Turn::Takes(QUERY), Turn::Gives(ROWS)]],
+        clients: &[
+            &[
+                COMES,
+                GREETED,
+                Turn::Gives(QUERY),
+                Turn::Takes(ROWS),
+                Turn::Gives(b"\0"),
+                VIOLATES,
+            ],
+            &[
+                COMES,
+                Turn::Takes(SECOND_GREETING),
+                Turn::Gives(b"Q\x00\x10\0\x01select"),
+                VIOLATES,
+            ],
+        ],
+        restarts: &[],
+        calls: &[
+            (CallAnswer::Joined, 2),
+            (CallAnswer::ReleasedIdle, 1),
+            (CallAnswer::AcquireGot, 0),
+            (CallAnswer::Left, 2),
+        ],
+    },
+    // A group of the extended protocol is one request, which its server is sent whole, however it
+    // comes. What is no request at all ends the session.
+    Story {
+        boot: 9,
+        servers: &[&[
+            LOGIN_SENT,
+            LOGGED_IN,
+            Turn::Takes(GROUP),
+            Turn::Gives(GROUP_DONE),
+            Turn::Takes(GROUP),
+            Turn::Gives(GROUP_DONE),
+        ]],
+        clients: &[
+            &[
+                COMES,
+                GREETED,
+                Turn::Gives(GROUP),
+                Turn::Takes(GROUP_DONE),
+                Turn::Gives(TERMINATE),
+            ],
+            &[
+                COMES,
+                Turn::Takes(SECOND_GREETING),
+                Turn::Gives(b"P\0\0\0\x0e\0vacuum\0\0\0B"),
+                Turn::Gives(b"\0\0\0\x0c\0\0\0\0\0\0\0\0D\0\0\0\x06P\0E\0\0"),
+                Turn::Gives(b"\0\x09\0\0\0\0\0S\0\0\0\x04"),
+                Turn::Takes(GROUP_DONE),
+                Turn::Gives(b"F\0\0\0\x08\0\0\0\0"),
+                NOT_IN_PROFILE,
+            ],
+        ],
+        restarts: &[],
+        calls: &[
+            (CallAnswer::WentUp, 1),
+            (CallAnswer::AcquireGot, 1),
+            (CallAnswer::ReleasedIdle, 2),
+            (CallAnswer::Left, 2),
+        ],
+    },
+    Story {
+        boot: 9,
+        servers: &[],
         clients: CONSOLES,
         restarts: &[],
         calls: &[(CallAnswer::Joined, 0)],

@@ -57,6 +57,11 @@ impl<'a> Wire<'a> {
             taken: Vec::new(alloc),
         }
     }
+
+    // What it took.
+    pub(crate) fn taken(&self) -> &[u8] {
+        self.taken.as_slice()
+    }
 }
 
 impl Read for Wire<'_> {

@@ -9,8 +9,12 @@ pub(crate) enum Turn {
     Takes(&'static [u8]),
     // It takes one write of an ErrorResponse that begins with these fields.
     TakesError(&'static [u8]),
+    // It takes one write of this many bytes.
+    TakesLength(usize),
     // It gives these bytes at one read.
     Gives(&'static [u8]),
+    // The same, where they end inside the body of a message.
+    GivesPart(&'static [u8]),
 }
 
 // A side of a conversation. What isn't its turn fails, and a read finds the end of the input.
@@ -31,25 +35,62 @@ impl Talk {
         self.turns.is_empty() && self.takes.is_empty()
     }
 
-    fn next(&mut self) -> Option<Turn> {
-        let turn = self.turns.first()?;
-        self.turns = self.turns.split_at(1).1;
-        Some(*turn)
+    // What it gives next, if it is its turn.
+    fn gives(&self) -> Option<&'static [u8]> {
+        if !self.takes.is_empty() {
+            return None;
+        }
+        match self.turns.first()? {
+            Turn::Gives(text) | Turn::GivesPart(text) => Some(*text),
+            _ => None,
+        }
+    }
+
+    // Whether it gives something next.
+    pub(crate) fn is_giving(&self) -> bool {
+        self.gives().is_some()
+    }
+
+    // Whether it gives a part of a message next.
+    pub(crate) fn is_giving_part(&self) -> bool {
+        self.is_giving() && matches!(self.turns.first(), Some(Turn::GivesPart(_)))
     }
 
     // Takes the bytes, if it is their turn.
     fn take(&mut self, bytes: &[u8]) -> bool {
         if self.takes.is_empty() {
-            match self.next() {
-                Some(Turn::Takes(text)) => self.takes = text,
-                Some(Turn::TakesError(fields)) => return is_error(bytes, fields),
-                _ => return false,
+            match self.turns.first() {
+                Some(Turn::TakesError(fields)) => {
+                    self.turns = self.turns.split_at(1).1;
+                    return is_error(bytes, fields);
+                }
+                Some(Turn::TakesLength(length)) => {
+                    self.turns = self.turns.split_at(1).1;
+                    return bytes.len() == *length;
+                }
+                _ => {}
             }
         }
-        if !self.takes.starts_with(bytes) {
+        for byte in bytes {
+            if !self.take_byte(*byte) {
+                return false;
+            }
+        }
+        true
+    }
+
+    fn take_byte(&mut self, byte: u8) -> bool {
+        if self.takes.is_empty() {
+            match self.turns.first() {
+                Some(Turn::Takes(text)) => self.takes = text,
+                _ => return false,
+            }
+            self.turns = self.turns.split_at(1).1;
+        }
+        if self.takes.first() != Some(&byte) {
             return false;
         }
-        self.takes = self.takes.split_at(bytes.len()).1;
+        self.takes = self.takes.split_at(1).1;
         true
     }
 }
@@ -61,15 +102,13 @@ pub(crate) fn is_error(bytes: &[u8], fields: &[u8]) -> bool {
 
 impl Read for Talk {
     fn read(&mut self, buffer: &mut [u8]) -> io::Result<usize> {
-        if !self.takes.is_empty() {
-            return Ok(0);
-        }
-        let Some(Turn::Gives(text)) = self.next() else {
+        let Some(text) = self.gives() else {
             return Ok(0);
         };
         if text.len() > buffer.len() {
             return Err(io::Error::from(ErrorKind::InvalidInput));
         }
+        self.turns = self.turns.split_at(self.turns.len().min(1)).1;
         let count = text.len();
         buffer[..count].copy_from_slice(text);
         Ok(count)

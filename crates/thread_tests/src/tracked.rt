@@ -105,6 +105,12 @@ impl Talk {
             self.turns = self.turns.split_at(1).1;
             return is_error(bytes, fields);
         }
+        if self.takes.is_empty()
+            && let Some(Turn::TakesLength(length)) = self.turns.first()
+        {
+            self.turns = self.turns.split_at(1).1;
+            return bytes.len() == *length;
+        }
         for byte in bytes {
             if !self.take_byte(*byte) {
                 return false;

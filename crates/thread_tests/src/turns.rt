@@ -5,7 +5,7 @@ use crate::stays::Ending::{self, Close, End, Release};
 use crate::stays::{BEGUN, ROW, Script, Wire, begin, ending_of, reads};
 use client_state::DatabaseNo;
 use lease::{Lease, LinkPlace, LinkRecord, Permit, PermitRecord};
-use node_threads::{DeskCall, Link, ListDesk, Open, turn};
+use node_threads::{Context, DeskCall, Link, ListDesk, Open, turn};
 use pg_frames::{Cutter, Flow};
 use pg_ids::{LinkNo, PeerNo};
 use std::process::Abort;
@@ -59,9 +59,8 @@ fn assert_turn<R: Abort + AllocGlobal + Wait>(
     };
     let lease = lease_of(record, link);
     let stayed = turn(
-        rt,
+        Context { rt, gate: &Open },
         &mut desk,
-        &Open,
         &mut session,
         &mut client,
         &mut cutter,

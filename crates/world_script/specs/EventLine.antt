@@ -1,4 +1,4 @@
--- The events of a world's script, by their names and the words behind them (own grammar).
+-- The events of a script, by their names and the words behind them (own grammar).
 use Rattle.std.specs.Prelude.{ℕ, if◌then◌else◌, List, [], ◌∷◌, codes, Option, Some, None}
 use Rattle.std.specs.Map.{lookup}
 use Rattle.std.specs.Option.{option_map}

@@ -1,4 +1,5 @@
--- The text of a world's outcome (own): a line for each event, one for each interrupt, and a count.
+-- The text of an outcome (own): a line for each event, one for each interruption, and a line of
+-- counts.
 use Rattle.std.specs.Prelude.{ℕ, suc, Bool, true, false, List, [], ◌∷◌, ◌++◌, length, map, flat_map, count_by, codes, decimal}
 use Rattle.hex.specs.Hex.{encode_lower}
 use Rattle.pg_ids.specs.AnyKey.{any_key_bytes}

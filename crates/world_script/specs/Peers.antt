@@ -1,4 +1,4 @@
--- The nodes of a world's script, each with all others as its peers (own).
+-- The nodes of a script, each with all others as its peers (own grammar).
 use Rattle.std.specs.Prelude.{ℕ, Bool, not, ◌&&◌, ◌==◌, if◌then◌else◌, List, [], ◌∷◌, ◌++◌, map, filter}
 use Rattle.std.specs.List.{list_any}
 use Rattle.ini_config.specs.Node.{NodeSettings}

@@ -1,4 +1,4 @@
--- What a reader returns, beside what the grammar says: the same, unless memory ran out.
+-- What a reader of scripts returns if memory runs out (internal).
 use Rattle.std.specs.Prelude.{ℕ, ◌+◌, ◌≡◌, List, Result, Ok, Err, Option, Some, None, ⊤, false, true, ◌++◌}
 use Rattle.world_script.specs.Script.{is_fault, node_in, event_in}
 use Rattle.world_script.specs.declared.fault.LineFault.{LineFault}

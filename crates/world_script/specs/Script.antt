@@ -1,5 +1,5 @@
--- Which text is a world's script, of which nodes and events, and which line is its first fault (own
--- grammar).
+-- Which texts are scripts, with which nodes and events, and which line of another text is its first
+-- error (own grammar).
 use Rattle.std.specs.Prelude.{ℕ, ◌≡◌, ◌+◌, ◌<◌, Bool, true, false, ◌||◌, ◌==◌, nat_lt, nat_le, if◌then◌else◌, List, [], ◌∷◌, length, map, flat_map, take, codes, slice_index, slice_index_or, Option, Some, None}
 use Rattle.std.specs.Option.{option_map}
 use Rattle.std.specs.Str.{bytes_eq}

@@ -129,7 +129,7 @@ Example, where login.script has the lines 'node 2 1 1' and 'login 2 10 1':
 const SERVE: &str = "\
 Serve clients and cancel requests as a group of poolers, until stopped
 
-Usage: pgpeer serve --front <PORT> --seed <HEX64> [--boot <N>] <FILE>...
+Usage: pgpeer serve --front <PORT> --seed <HEX64> [--boot <N>] [--stand-in] <FILE>...
 
 Arguments:
   <FILE>...  Settings files, one for each pooler of this process
@@ -140,13 +140,17 @@ Options:
                       give another one at each start, which nobody can guess
       --boot <N>      The number of this start, part of longer keys, 0 to 4294967295 and 0 where it
                       isn't given: give another one at each start
+      --stand-in      Run a stand-in server at each port of 127.0.0.1 that the settings name as a
+                      server's address, for trials without PostgreSQL
   -h, --help          Print help
 
 One file is a pooler of a group whose others run elsewhere. Several files are several poolers of a
 group in one process.
 
-Example:
+Examples:
   $ pgpeer serve --front 6432 --seed $(openssl rand -hex 32) --boot $(date +%s) node1.ini
+
+  $ pgpeer serve --stand-in --front 6432 --seed $(openssl rand -hex 32) node1.ini node2.ini
 ";
 
 const STUB: &str = "\

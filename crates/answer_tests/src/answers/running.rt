@@ -4,7 +4,7 @@ use std::alloc::Global;
 use std::process::Abort;
 use std::test::Fail;
 
-const SERVE: &str = "serve --front <PORT> --seed <HEX64> [--boot <N>] <FILE>...";
+const SERVE: &str = "serve --front <PORT> --seed <HEX64> [--boot <N>] [--stand-in] <FILE>...";
 
 const STUB: &str = "stub [--byte] <PORT>";
 
@@ -27,6 +27,7 @@ fn expect_serve<'a>(
     words: &'a [&'a str],
     front: u16,
     boot: u32,
+    stand_in: bool,
     files: &[&str],
 ) {
     let Ok(Some(Running::Serve(request))) = Running::read(rt.alloc(), words) else {
@@ -35,41 +36,71 @@ fn expect_serve<'a>(
     };
     assert_eq!(rt; request.front, front, "{words:?}");
     assert_eq!(rt; request.boot, boot, "{words:?}");
+    assert_eq!(rt; request.stand_in, stand_in, "{words:?}");
     assert_eq!(rt; request.files.as_slice(), files, "{words:?}");
     for (at, byte) in request.seed.iter().enumerate() {
         assert_eq!(rt; *byte as usize, at, "{words:?}");
     }
 }
 
-// The arguments, the port, the boot number and the files.
-const SERVED: [(&str, u16, u32, &[&str]); 5] = [
-    ("serve --front 6432 --seed SEED a.ini", 6432, 0, &["a.ini"]),
+// The arguments, the port, the boot number, whether stand-in servers run, and the files.
+const SERVED: [(&str, u16, u32, bool, &[&str]); 7] = [
+    (
+        "serve --front 6432 --seed SEED a.ini",
+        6432,
+        0,
+        false,
+        &["a.ini"],
+    ),
     (
         "serve a.ini --boot 7 --seed SEED b.ini --front 1",
         1,
         7,
+        false,
         &["a.ini", "b.ini"],
     ),
     (
         "serve --boot=4294967295 --front=65535 --seed SEED a.ini",
         65535,
         4294967295,
+        false,
         &["a.ini"],
     ),
-    ("serve --front 1 --seed SEED --boot 0 -- -a", 1, 0, &["-a"]),
+    (
+        "serve --front 1 --seed SEED --boot 0 -- -a",
+        1,
+        0,
+        false,
+        &["-a"],
+    ),
     (
         "serve a.ini a.ini --seed SEED --front 6432",
         6432,
         0,
+        false,
         &["a.ini", "a.ini"],
+    ),
+    (
+        "serve --stand-in --front 6432 --seed SEED a.ini b.ini",
+        6432,
+        0,
+        true,
+        &["a.ini", "b.ini"],
+    ),
+    (
+        "serve a.ini --front 1 --seed SEED --stand-in",
+        1,
+        0,
+        true,
+        &["a.ini"],
     ),
 ];
 
 #[test]
 fn serve(rt: HostRuntime) -> Result<(), Fail> {
-    for (line, front, boot, files) in SERVED {
+    for (line, front, boot, stand_in, files) in SERVED {
         let words = words_of(rt.alloc(), line)?;
-        expect_serve(&rt, &words, front, boot, files);
+        expect_serve(&rt, &words, front, boot, stand_in, files);
     }
     Ok(())
 }
@@ -248,7 +279,7 @@ fn missing(rt: HostRuntime) -> Result<(), Fail> {
 }
 
 // The arguments, which of them stands there twice, and the usage.
-const TWICE: [(&str, &str, &str); 4] = [
+const TWICE: [(&str, &str, &str); 5] = [
     (
         "serve --front 1 --front 2 --seed SEED a.ini",
         "--front <PORT>",
@@ -262,6 +293,11 @@ const TWICE: [(&str, &str, &str); 4] = [
     (
         "serve --front 1 --seed SEED --boot 1 --boot 2 a.ini",
         "--boot <N>",
+        SERVE,
+    ),
+    (
+        "serve --stand-in --front 1 --seed SEED --stand-in a.ini",
+        "--stand-in",
         SERVE,
     ),
     ("stub --byte 1 --byte", "--byte", STUB),

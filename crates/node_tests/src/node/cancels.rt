@@ -78,8 +78,7 @@ const BY_KEY: &[(Act, Said)] = &[
     (Act::Cancel(FIRST), Said::Refused(61)),
 ];
 
-// A short request never finds a long key, nor the reverse, and a long one has to name boot and
-// serial.
+// A request finds only a key of its own kind, and one with a long key has to name boot and serial.
 const BY_KIND: &[(Act, Said)] = &[
     (Act::Join(1), Said::Key(FIRST)),
     (Act::JoinLong(5), Said::LongKey(SECOND, 0, 0)),

@@ -1,5 +1,5 @@
 //! Ten thousand steps: rounds of forty, drawn by a generator. No step takes memory: all that is
-//! asked for is there before the first one, as `examples/refused_memory` tries from outside.
+//! asked for is there before the first one, as `tools/refused_memory` tries from outside.
 use crate::node::desk::{Act, Desk, Made, Said};
 use crate::node::{KEY, NOTHING, OTHER_KEY, run_later};
 use node_core::{CloseReply, EndedReply, FailedReply, ReleaseReply, RestartReply, UpFailedReply};

@@ -1,4 +1,4 @@
-//! Conversations of real clients with a real server (`examples/transcripts`), which a session
+//! Conversations of real clients with a real server (`tools/transcripts`), which a session
 //! passes on unchanged.
 use super::groups::assert_group;
 use super::link_frames::{HeadDone, assert_head};

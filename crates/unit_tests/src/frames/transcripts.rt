@@ -1,4 +1,4 @@
-//! Streams of real clients and a real server (`examples/transcripts`), in the pieces in which they
+//! Streams of real clients and a real server (`tools/transcripts`), in the pieces in which they
 //! came.
 use super::*;
 

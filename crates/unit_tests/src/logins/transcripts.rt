@@ -1,4 +1,4 @@
-//! Logins of real clients at a real server (`examples/transcripts`). The keys are those that the
+//! Logins of real clients at a real server (`tools/transcripts`). The keys are those that the
 //! clients sent in their CancelRequests.
 use super::*;
 

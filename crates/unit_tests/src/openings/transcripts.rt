@@ -1,4 +1,4 @@
-//! First packets of real clients, and keys that a real server gave them (`examples/transcripts`).
+//! First packets of real clients, and keys that a real server gave them (`tools/transcripts`).
 use super::*;
 
 // StartupMessages of psql (twice), of psycopg 2 and 3, and of pgjdbc: the database, how many bytes,

@@ -1,0 +1,164 @@
+//! Requests for another node that come at once, of which one finds no seat.
+use crate::calls::calls_of;
+use crate::messages::LOWERED;
+use crate::story::calling;
+use crate::talk::Turn;
+use crate::together::SEED;
+use crate::tracked::{Dialer, Talk, Tracker};
+use locked_node::CallAnswer;
+use node_threads::{Calling, Gate, Open, Point, serve_connection};
+use pg_ids::Boot;
+use std::alloc::Global;
+use std::process::Abort;
+use std::sync::atomic::{AtomicU64, Ordering};
+use std::sync::{Arc, Wait};
+use std::test::Fail;
+use std::thread;
+use std::thread::Threads;
+use std::time::Duration;
+
+// Node 2 with the peer 3.
+const NODE: &str = "[pgbouncer]
+pool_mode = transaction
+auth_type = trust
+listen_addr = 127.0.0.1
+peer_id = 2
+default_pool_size = 1
+max_client_conn = 1
+[databases]
+plain = host=127.0.0.1 port=5432 user=plain
+[peers]
+3 = host=127.0.0.1 port=6433
+";
+
+// How many requests for other nodes have a seat at most.
+const SHARE: u64 = 128;
+
+const FORWARDS: &[Turn] = &[Turn::Gives(b"\0\0\0\x10\x04\xd2\x16\x2e\0\x0c\0\0\0\0\0\x07")];
+
+const PEER: &[Turn] = &[Turn::Takes(LOWERED)];
+
+// A gate that holds all at `Ordered`, until as many are there as may have seats and a further
+// request has come.
+#[derive(Drop)]
+struct Crowd<'a> {
+    arrived: AtomicU64,
+    may_go: AtomicU64,
+    tracker: &'a Arc<Tracker, Global>,
+}
+
+impl Gate for Crowd<'_> {
+    fn pass<R: Wait>(&self, rt: &R, point: Point) {
+        if point == Point::Ordered {
+            self.arrived.fetch_add(1, Ordering::SeqCst);
+            self.arrived.wake_all();
+            self.may_go.park_timeout(rt, 0, Duration::from_secs(20));
+        }
+    }
+}
+
+// A request for peer 3 is served, with this gate.
+fn forward<R: Wait, G: Gate>(
+    rt: &R,
+    alloc: Global,
+    calling: &mut Calling<Talk>,
+    tracker: &Arc<Tracker, Global>,
+    gate: &G,
+) {
+    let dialer = Dialer {
+        tracker,
+        turns: PEER,
+    };
+    if let Ok(mut client) = Talk::new(tracker, FORWARDS) {
+        serve_connection(rt, alloc, calling, &dialer, gate, &mut client);
+    }
+}
+
+impl Crowd<'_> {
+    // Sends a request that is held.
+    fn come_first<R: Wait>(&self, rt: &R, alloc: Global, calling: &mut Calling<Talk>) {
+        forward(rt, alloc, calling, self.tracker, self);
+    }
+
+    // Waits until all are there, sends a further request, and lets all go.
+    fn come_last<R: Wait>(&self, rt: &R, alloc: Global, calling: &mut Calling<Talk>) {
+        for _i in 0..2_000u32 {
+            let arrived = self.arrived.load(Ordering::SeqCst);
+            if arrived >= SHARE {
+                break;
+            }
+            let limit = Duration::from_millis(10);
+            self.arrived
+                .park_timeout(rt, (arrived % (1 << 32)) as u32, limit);
+        }
+        forward(rt, alloc, calling, self.tracker, &Open);
+        self.may_go.store(1, Ordering::SeqCst);
+        self.may_go.wake_all();
+    }
+}
+
+// As many requests come at once as may have seats, and one more, in a thread each.
+fn come<R: Threads + Wait + Sync>(
+    rt: &R,
+    alloc: Global,
+    crowd: &Crowd<'_>,
+    callings: &mut Vec<Calling<Talk>>,
+) {
+    let threads = callings.len().max(1);
+    thread::for_each_mut(
+        rt,
+        callings.as_mut_slice(),
+        threads,
+        &|place, calling| {
+            if place == 0 {
+                crowd.come_last(rt, alloc, calling);
+            } else {
+                crowd.come_first(rt, alloc, calling);
+            }
+        },
+    );
+}
+
+// The one that comes last gets no order, and all others do.
+fn assert_one_is_closed(rt: &impl Abort, callings: &[Calling<Talk>]) {
+    for (place, calling) in callings.iter().enumerate() {
+        let forwarded = calls_of(calling.caller(), CallAnswer::Forwarded);
+        assert_eq!(rt; forwarded, u128::from(place > 0), "{place}");
+    }
+}
+
+// A caller for each.
+fn callings(alloc: Global) -> Result<Vec<Calling<Talk>>, Fail> {
+    let mut first = calling(alloc, NODE, SEED, Boot(9))?;
+    let mut callings = Vec::new(alloc);
+    for _i in 0..SHARE {
+        callings.push(first.split().ok_or("no caller")?)?;
+    }
+    callings.push(first)?;
+    Ok(callings)
+}
+
+fn assert_closed<R: Threads + Wait + Sync + Abort>(
+    rt: &R,
+    alloc: Global,
+    crowd: &Crowd<'_>,
+    mut callings: Vec<Calling<Talk>>,
+) {
+    come(rt, alloc, crowd, &mut callings);
+    assert_one_is_closed(rt, callings.as_slice());
+    // Its client was written nothing, and no connection was made for it.
+    let ends = crowd.tracker.ends();
+    assert_eq!(rt; (ends.made, ends.done, ends.strayed), (257, 257, 0));
+}
+
+#[test]
+fn no_seat(rt: HostRuntime) -> Result<(), Fail> {
+    let tracker = Tracker::new(rt.alloc())?;
+    let crowd = Crowd {
+        arrived: AtomicU64::new(0),
+        may_go: AtomicU64::new(0),
+        tracker: &tracker,
+    };
+    assert_closed(&rt, rt.alloc(), &crowd, callings(rt.alloc())?);
+    Ok(())
+}

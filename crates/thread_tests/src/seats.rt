@@ -1,0 +1,149 @@
+//! The seats at a node's board: how many requests have one at a time, and that all come back.
+use crate::calls::assert_calls;
+use crate::line::{Dials, Line, Stage};
+use crate::story::{calling, visit};
+use crate::talk::Turn;
+use locked_node::CallAnswer;
+use node_threads::{Calling, Open, Seat, Seats};
+use pg_ids::{AnyKey, Boot};
+use std::alloc::Global;
+use std::process::Abort;
+use std::sync::{Arc, Wait};
+use std::test::Fail;
+
+// Node 2 with the peer 3.
+const NODE: &str = "[pgbouncer]
+pool_mode = transaction
+auth_type = trust
+listen_addr = 127.0.0.1
+peer_id = 2
+default_pool_size = 1
+max_client_conn = 1
+[databases]
+plain = host=127.0.0.1 port=5432 user=plain
+[peers]
+3 = host=127.0.0.1 port=6433
+";
+
+// How many seats there are for requests. The console has one of the 256.
+const SEATS: usize = 255;
+
+// How many of them requests for other nodes have at most, and those with one key.
+const SHARE: usize = 128;
+
+// The short key with this secret of node 2, slot 0, three hops.
+fn key(secret: u8) -> AnyKey {
+    AnyKey::from_short_bytes([0, 8, 0, 0, 0, 0, secret, 3])
+}
+
+// Requests of one kind: with a key with this secret, for this node or another.
+#[derive(Clone, Copy, Debug)]
+struct Requests {
+    secret: u8,
+    is_own: bool,
+}
+
+// Takes seats for such requests until there is none, and returns how many.
+fn take_all<R: Wait>(rt: &R, seats: &Seats, requests: Requests, taken: &mut Vec<Seat>) -> usize {
+    for count in 0..1_000 {
+        let Some(seat) = seats.take(rt, key(requests.secret), requests.is_own) else {
+            return count;
+        };
+        let _ = taken.push(seat);
+    }
+    1_000
+}
+
+// As many of these are given back.
+fn give_back<R: Wait>(rt: &R, seats: &Seats, taken: &mut Vec<Seat>, count: usize) {
+    for _i in 0..count {
+        if let Some(seat) = taken.pop() {
+            seats.give_back(rt, seat);
+        }
+    }
+}
+
+// Half of the seats are for requests of one kind at most, and the rest for another. Then there is
+// none for a third, until one is given back.
+fn assert_shared<R: Wait + Abort>(
+    rt: &R,
+    seats: &Seats,
+    first: Requests,
+    second: Requests,
+    taken: &mut Vec<Seat>,
+) {
+    let rest = SEATS.wrapping_sub(SHARE);
+    let third = Requests {
+        secret: 200,
+        is_own: true,
+    };
+    assert_eq!(rt; take_all(rt, seats, first, taken), SHARE);
+    assert_eq!(rt; take_all(rt, seats, first, taken), 0);
+    assert_eq!(rt; take_all(rt, seats, second, taken), rest);
+    assert_eq!(rt; take_all(rt, seats, third, taken), 0);
+    give_back(rt, seats, taken, 1);
+    assert_eq!(rt; take_all(rt, seats, third, taken), 1);
+    give_back(rt, seats, taken, SEATS);
+}
+
+// Requests for other nodes, and those with two keys of this one.
+const FORWARDS: Requests = Requests {
+    secret: 1,
+    is_own: false,
+};
+
+const FIRST: Requests = Requests {
+    secret: 1,
+    is_own: true,
+};
+
+const SECOND: Requests = Requests {
+    secret: 2,
+    is_own: true,
+};
+
+#[test]
+fn shares(rt: HostRuntime) -> Result<(), Fail> {
+    let seats = Seats::new(rt.alloc())?;
+    let mut taken = Vec::new(rt.alloc());
+    for (first, second) in [(FORWARDS, FIRST), (FIRST, SECOND), (SECOND, FORWARDS)] {
+        assert_shared(&rt, &seats, first, second, &mut taken);
+    }
+    Ok(())
+}
+
+// A request for a client that isn't there, and one for peer 3, which can't be reached.
+const UNKNOWN: &[Turn] = &[Turn::Gives(b"\0\0\0\x10\x04\xd2\x16\x2e\0\x08\0\0\0\0\0\x07")];
+
+const FORWARDED: &[Turn] = &[
+    Turn::Gives(b"\0\0\0\x10\x04\xd2\x16\x2e\0\x0c\0\0\0\0\0\x07"),
+    Turn::Takes(b"E"),
+];
+
+// Twice as many requests as there are seats, of each kind, one after another.
+fn assert_served<R: Wait + Abort>(
+    rt: &R,
+    alloc: Global,
+    calling: &mut Calling<Line>,
+    stage: &Arc<Stage, Global>,
+) {
+    let dials = Dials::new(stage, &[]);
+    for _i in 0..512u32 {
+        assert!(rt; visit(rt, alloc, calling, &dials, &Open, UNKNOWN));
+        assert!(rt; visit(rt, alloc, calling, &dials, &Open, FORWARDED));
+    }
+    let calls = [
+        (CallAnswer::CancelUnknown, 512),
+        (CallAnswer::Forwarded, 512),
+    ];
+    assert_calls(rt, calling.caller(), &calls);
+    stage.assert_sound(rt);
+}
+
+#[test]
+fn seats_come_back(rt: HostRuntime) -> Result<(), Fail> {
+    let stage = Stage::new(rt.alloc(), None)?;
+    let mut calling = calling(rt.alloc(), NODE, [0; 32], Boot(9))?;
+    assert_served(&rt, rt.alloc(), &mut calling, &stage);
+    Ok(())
+}

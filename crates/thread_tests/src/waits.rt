@@ -1,0 +1,352 @@
+//! A client waits to be let in while another has the only link of their node.
+ghost use Rattle.std.specs.Thread.{IsSync};
+
+use crate::calls::calls_of;
+use crate::gates::{Asking, Marks, sees};
+use crate::messages::{IDLE, LOGIN, QUERY, ROW, STARTUP, TERMINATE, WELCOME};
+use crate::shown::{CONSOLE, SHOW_CLIENTS};
+use crate::stays::{Wire, reads};
+use crate::story::calling;
+use crate::talk::Turn;
+use crate::together::SEED;
+use crate::tracked::{Dialer, Talk, Tracker};
+use locked_node::CallAnswer;
+use node_threads::{Calling, Open, serve_connection};
+use pg_ids::Boot;
+use std::alloc::Global;
+use std::io::{Read, Write};
+use std::process::Abort;
+use std::sync::atomic::Ordering;
+use std::sync::{Arc, Wait};
+use std::test::Fail;
+use std::thread::Threads;
+use std::time::{Clock, Duration};
+use std::{io, thread};
+
+// Node 2, with one link and two slots.
+const NODE: &str = "[pgbouncer]
+pool_mode = transaction
+auth_type = trust
+listen_addr = 127.0.0.1
+peer_id = 2
+default_pool_size = 1
+max_client_conn = 2
+[databases]
+plain = host=127.0.0.1 port=5432 user=plain
+";
+
+// The keys of the first client and of the second, as in `keys`, the second at slot 1.
+const FIRST: &[u8] = b"K\0\0\0\x0c\0\x08\0\x03\x45\xd6\xc9\x53";
+
+const SECOND: &[u8] = b"K\0\0\0\x0c\0\x08\0\x04\x5f\x61\x95\x33";
+
+const CANCEL: &[Turn] = &[Turn::Gives(b"\0\0\0\x10\x04\xd2\x16\x2e\0\x08\0\x04\x5f\x61\x95\x33")];
+
+// A client that keeps the link for a while.
+const KEEPS: &[Turn] = &[
+    Turn::Gives(STARTUP),
+    Turn::Takes(WELCOME),
+    Turn::Takes(FIRST),
+    Turn::Takes(IDLE),
+    Turn::Gives(QUERY),
+    Turn::Takes(ROW),
+    Turn::Takes(IDLE),
+    Turn::Gives(TERMINATE),
+];
+
+// One that waits meanwhile, and is cancelled or served.
+const IS_CANCELLED: &[Turn] = &[
+    Turn::Gives(STARTUP),
+    Turn::Takes(WELCOME),
+    Turn::Takes(SECOND),
+    Turn::Takes(IDLE),
+    Turn::Gives(QUERY),
+    Turn::TakesError(b"SERROR\0VERROR\0C57014\0"),
+    Turn::Takes(IDLE),
+    Turn::Gives(TERMINATE),
+];
+
+const IS_SERVED: &[Turn] = &[
+    Turn::Gives(STARTUP),
+    Turn::Takes(WELCOME),
+    Turn::Takes(SECOND),
+    Turn::Takes(IDLE),
+    Turn::Gives(QUERY),
+    Turn::Takes(ROW),
+    Turn::Takes(IDLE),
+    Turn::Gives(TERMINATE),
+];
+
+// A client with any key.
+const COMES: &[Turn] = &[
+    Turn::Gives(STARTUP),
+    Turn::TakesLength(103),
+    Turn::Gives(QUERY),
+    Turn::Takes(ROW),
+    Turn::Takes(IDLE),
+    Turn::Gives(TERMINATE),
+];
+
+// A server that serves one query, and one that serves two. A byte stands behind the last answer of
+// the others, so that the link is closed.
+const ONE: &[Turn] = &[
+    Turn::Takes(STARTUP),
+    Turn::Gives(LOGIN),
+    Turn::Takes(QUERY),
+    Turn::Gives(ROW),
+    Turn::Gives(IDLE),
+];
+
+const TWO: &[Turn] = &[
+    Turn::Takes(STARTUP),
+    Turn::Gives(LOGIN),
+    Turn::Takes(QUERY),
+    Turn::Gives(ROW),
+    Turn::Gives(IDLE),
+    Turn::Takes(QUERY),
+    Turn::Gives(ROW),
+    Turn::Gives(b"Z\0\0\0\x05IN"),
+];
+
+const ONE_AND_MORE: &[Turn] = &[
+    Turn::Takes(STARTUP),
+    Turn::Gives(LOGIN),
+    Turn::Takes(QUERY),
+    Turn::Gives(ROW),
+    Turn::Gives(b"Z\0\0\0\x05IN"),
+];
+
+// What the threads share.
+#[derive(Clone, Copy)]
+struct Scene<'a> {
+    alloc: Global,
+    tracker: &'a Arc<Tracker, Global>,
+    marks: &'a Marks,
+    server: &'static [Turn],
+    // The client that waits, and whether it is cancelled.
+    waits: &'static [Turn],
+    is_cancelled: bool,
+}
+
+impl Scene<'_> {
+    fn dialer(&self, turns: &'static [Turn]) -> Dialer<'_> {
+        Dialer {
+            tracker: self.tracker,
+            turns,
+        }
+    }
+
+    // A client comes that takes these turns.
+    fn visit<R: Wait>(&self, rt: &R, calling: &mut Calling<Talk>, turns: &'static [Turn]) {
+        if let Ok(mut client) = Talk::new(self.tracker, turns) {
+            let dialer = self.dialer(ONE_AND_MORE);
+            serve_connection(rt, self.alloc, calling, &dialer, &Open, &mut client);
+        }
+    }
+}
+
+// The client that keeps its link.
+fn keep<R: Wait>(rt: &R, scene: Scene<'_>, mut calling: Calling<Talk>) -> Calling<Talk> {
+    if let Ok(mut client) = Talk::new(scene.tracker, KEEPS) {
+        let dialer = scene.dialer(scene.server);
+        serve_connection(
+            rt,
+            scene.alloc,
+            &mut calling,
+            &dialer,
+            scene.marks,
+            &mut client,
+        );
+    }
+    calling
+}
+
+// The client that waits.
+fn wait<R: Wait>(rt: &R, scene: Scene<'_>, mut calling: Calling<Talk>) -> Calling<Talk> {
+    let _has_link = sees(&scene.marks.has_link);
+    if let Ok(talk) = Talk::new(scene.tracker, scene.waits) {
+        let mut client = Asking::new(talk, scene.marks);
+        let dialer = scene.dialer(&[]);
+        serve_connection(rt, scene.alloc, &mut calling, &dialer, &Open, &mut client);
+    }
+    calling
+}
+
+// Whether the node's console shows a client that waits for a link.
+fn is_waiting<R: Wait>(rt: &R, scene: Scene<'_>, calling: &mut Calling<Talk>) -> bool {
+    let pieces = [CONSOLE, SHOW_CLIENTS, TERMINATE];
+    let mut client = Wire::new(scene.alloc, reads(&pieces));
+    let dialer = scene.dialer(&[]);
+    serve_connection(rt, scene.alloc, calling, &dialer, &Open, &mut client);
+    let shown = client.taken();
+    for start in 0..shown.len() {
+        if shown.split_at(start).1.starts_with(b"waiting") {
+            return true;
+        }
+    }
+    false
+}
+
+// Cancels the client that waits, or lets it wait until it is in the node's queue. Then the other
+// may go.
+fn look<R: Wait + Clock>(rt: &R, scene: Scene<'_>, mut calling: Calling<Talk>) -> Calling<Talk> {
+    let _has_asked = sees(&scene.marks.has_asked);
+    if scene.is_cancelled {
+        for _i in 0..20u32 {
+            thread::sleep(rt, Duration::from_millis(3));
+            scene.visit(rt, &mut calling, CANCEL);
+            if calls_of(calling.caller(), CallAnswer::Unwaited) > 0 {
+                break;
+            }
+        }
+    } else {
+        for _i in 0..1_000u32 {
+            thread::sleep(rt, Duration::from_millis(3));
+            if is_waiting(rt, scene, &mut calling) {
+                break;
+            }
+        }
+    }
+    scene.marks.may_go.store(true, Ordering::SeqCst);
+    calling
+}
+
+// The client that waits and whoever looks at it, in two threads.
+fn by_two<R: Threads + Wait + Clock + Sync>(
+    rt: &R,
+    scene: Scene<'_>,
+    one: Calling<Talk>,
+    other: Calling<Talk>,
+) -> (Calling<Talk>, Calling<Talk>) {
+    thread::join(
+        rt,
+        || -> Calling<Talk>
+            requires { IsSync R.row }
+        { wait(rt, scene, one) },
+        || -> Calling<Talk>
+            requires { IsSync R.row }
+        { look(rt, scene, other) },
+    )
+}
+
+// All three, whose callers are returned.
+fn by_three<R: Threads + Wait + Clock + Sync + Abort>(
+    rt: &R,
+    scene: Scene<'_>,
+    mut first: Calling<Talk>,
+) -> (Calling<Talk>, Calling<Talk>, Calling<Talk>) {
+    let Some(second) = first.split() else {
+        panic!(rt; "no second caller");
+    };
+    let Some(third) = first.split() else {
+        panic!(rt; "no third caller");
+    };
+    let (first, (second, third)) = thread::join(
+        rt,
+        || -> Calling<Talk>
+            requires { IsSync R.row }
+        { keep(rt, scene, first) },
+        || -> (Calling<Talk>, Calling<Talk>)
+            requires { IsSync R.row }
+        { by_two(rt, scene, second, third) },
+    );
+    (first, second, third)
+}
+
+// All streams that were made are closed, took all their turns and nothing else.
+#[track_caller]
+fn assert_done(rt: &impl Abort, tracker: &Tracker) {
+    let ends = tracker.ends();
+    assert_eq!(rt;
+        (ends.closed, ends.done, ends.strayed),
+        (ends.made, ends.made, 0)
+    );
+}
+
+// A client that waits is cancelled. Returns how many requests came before it waited.
+fn cancel_one<R: Threads + Wait + Clock + Sync + Abort>(
+    rt: &R,
+    alloc: Global,
+) -> Result<u128, Fail> {
+    let tracker = Tracker::new(alloc)?;
+    let marks = Marks::new();
+    let scene = Scene {
+        alloc,
+        tracker: &tracker,
+        marks: &marks,
+        server: ONE,
+        waits: IS_CANCELLED,
+        is_cancelled: true,
+    };
+    let first = calling(alloc, NODE, SEED, Boot(9))?;
+    let early = cancelled_of(rt, scene, first);
+    assert_done(rt, &tracker);
+    Ok(early)
+}
+
+fn cancelled_of<R: Threads + Wait + Clock + Sync + Abort>(
+    rt: &R,
+    scene: Scene<'_>,
+    first: Calling<Talk>,
+) -> u128 {
+    let (_first, second, third) = by_three(rt, scene, first);
+    assert_eq!(rt; calls_of(second.caller(), CallAnswer::AcquireCancelled), 1);
+    assert_eq!(rt; calls_of(third.caller(), CallAnswer::Unwaited), 1);
+    calls_of(third.caller(), CallAnswer::CancelNoLink)
+}
+
+// Requests for a client that waits to be let in find it waiting. If it weren't told to ask, those
+// of the first 20 milliseconds would find it without a link: some six each time.
+#[test]
+fn waits_are_cancelled(rt: HostRuntime) -> Result<(), Fail> {
+    let mut early = 0u128;
+    for _i in 0..10u32 {
+        early = early.wrapping_add(cancel_one(&rt, rt.alloc())?);
+    }
+    assert!(rt; early < 20, "{early}");
+    Ok(())
+}
+
+// How long a client comes and goes.
+fn visited_for<R: Wait + Clock>(rt: &R, scene: Scene<'_>, calling: &mut Calling<Talk>) -> Duration {
+    let before = rt.monotonic().unwrap_or(Duration::ZERO);
+    scene.visit(rt, calling, COMES);
+    let after = rt.monotonic().unwrap_or(Duration::ZERO);
+    after.saturating_sub(before)
+}
+
+// After a client has waited in the node's queue others are let in at once. Of a hundred that come,
+// one after another, each would wait for 20 milliseconds otherwise.
+fn come_later<R: Threads + Wait + Clock + Sync + Abort>(
+    rt: &R,
+    scene: Scene<'_>,
+    first: Calling<Talk>,
+) {
+    let (mut first, second, _third) = by_three(rt, scene, first);
+    assert!(rt; calls_of(second.caller(), CallAnswer::AcquireWaiting) > 0);
+    let mut quick = 0u32;
+    for _i in 0..100u32 {
+        if visited_for(rt, scene, &mut first) < Duration::from_millis(20) {
+            quick = quick.wrapping_add(1);
+        }
+    }
+    assert!(rt; quick > 25, "{quick}");
+}
+
+#[test]
+fn others_are_let_in_after_a_queue(rt: HostRuntime) -> Result<(), Fail> {
+    let tracker = Tracker::new(rt.alloc())?;
+    let marks = Marks::new();
+    let scene = Scene {
+        alloc: rt.alloc(),
+        tracker: &tracker,
+        marks: &marks,
+        server: TWO,
+        waits: IS_SERVED,
+        is_cancelled: false,
+    };
+    let first = calling(rt.alloc(), NODE, SEED, Boot(9))?;
+    come_later(&rt, scene, first);
+    assert_done(&rt, &tracker);
+    Ok(())
+}
