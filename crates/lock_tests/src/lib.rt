@@ -18,5 +18,3 @@ mod sums;
 mod threads;
 #[cfg(test)]
 mod turns;
-#[cfg(test)]
-mod wakes;
