@@ -152,9 +152,7 @@ impl<S: Drop> Shared<S> {
                     return;
                 }
             } else if found == asleep || self.change(seat, word, found, asleep) {
-                self.table
-                    .shared
-                    .park_timeout(rt, word, expected, longest);
+                self.table.shared.park_timeout(rt, word, expected, longest);
                 slept = true;
             }
         }
