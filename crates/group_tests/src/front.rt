@@ -68,6 +68,9 @@ fn addresses(rt: HostRuntime) -> Result<(), Fail> {
     let listener = TcpListener::bind(&rt, ANY_PORT)?;
     let taken = listener.local_addr()?.port();
     let ports = free_ports(&rt, 2)?;
+    if ports.len() < 2 {
+        return Err(Fail::from("no ports"));
+    }
     let (front, own) = (ports[0], ports[1]);
     expect_taken(&rt, taken, own, taken)?;
     expect_taken(&rt, front, taken, taken)?;
