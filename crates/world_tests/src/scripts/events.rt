@@ -7,14 +7,14 @@ use std::test::Fail;
 use world::Event;
 
 // Event lines, and the events as `Debug` shows them, which hides secrets and servers' keys.
-const EVENTS: [(&str, &str); 27] = [
+const EVENTS: [(&str, &str); 31] = [
     (
         "login 2 10 1",
-        "Login(PeerNo { number: 2 }, Label(10), DatabaseNo(0), Secret(..), Short)",
+        "Login(NodeNo(2), Label(10), DatabaseNo(0), Secret(..), Short)",
     ),
     (
         "login32 16383 4294967295 0",
-        "Login(PeerNo { number: 16383 }, Label(4294967295), DatabaseNo(0), Secret(..), Long)",
+        "Login(NodeNo(16383), Label(4294967295), DatabaseNo(0), Secret(..), Long)",
     ),
     ("acquire 10", "Acquire(Label(10))"),
     ("up 10 0000000100000002", "Up(Label(10), ServerKey(..))"),
@@ -29,8 +29,8 @@ const EVENTS: [(&str, &str); 27] = [
     ("put -", "Put(Bytes { bytes: [] })"),
     ("put 04d2162e", "Put(Bytes { bytes: [4, 210, 22, 46] })"),
     ("put 04D2162E", "Put(Bytes { bytes: [4, 210, 22, 46] })"),
-    ("deliver 3 2", "Deliver(FlightNo(3), PeerNo { number: 2 })"),
-    ("accept 3 0", "Accept(FlightNo(3), PeerNo { number: 0 })"),
+    ("deliver 3 2", "Deliver(FlightNo(3), NodeNo(2))"),
+    ("accept 3 0", "Accept(FlightNo(3), NodeNo(0))"),
     ("fend 3", "ForwardEnded(FlightNo(3))"),
     ("ftold 3", "ForwardTold(FlightNo(3))"),
     ("fbroken 3", "ForwardBroken(FlightNo(3))"),
@@ -38,12 +38,20 @@ const EVENTS: [(&str, &str); 27] = [
     ("end 4", "End(ConnectionNo(4))"),
     ("told 4", "Told(ConnectionNo(4))"),
     ("broken 4", "Broken(ConnectionNo(4))"),
-    ("restart 2", "Restart(PeerNo { number: 2 }, None)"),
+    ("restart 2", "Restart(NodeNo(2), None)"),
     (
         "restart 2 1",
-        "Restart(PeerNo { number: 2 }, Some(Boot(1)))",
+        "Restart(NodeNo(2), Some(Boot(1)))",
     ),
     ("acquire 0000000010", "Acquire(Label(10))"),
+    // Nodes that can't be there.
+    (
+        "login 16384 10 1",
+        "Login(NodeNo(16384), Label(10), DatabaseNo(0), Secret(..), Short)",
+    ),
+    ("deliver 0 16384", "Deliver(FlightNo(0), NodeNo(16384))"),
+    ("accept 0 4294967295", "Accept(FlightNo(0), NodeNo(4294967295))"),
+    ("restart 4294967295", "Restart(NodeNo(4294967295), None)"),
 ];
 
 #[test]
@@ -93,12 +101,12 @@ const FORWARDED: &str = "node 1 1 1\nnode 2 1 1\nlogin 2 10 1\nacquire 10\n\
     fend 1\nact 0\nend 0\ntold 0\nfend 1\nftold 1\n";
 
 const FORWARDED_EVENTS: [&str; 12] = [
-    "Login(PeerNo { number: 2 }, Label(10), DatabaseNo(0), Secret(..), Short)",
+    "Login(NodeNo(2), Label(10), DatabaseNo(0), Secret(..), Short)",
     "Acquire(Label(10))",
     "Up(Label(10), ServerKey(..))",
     "Put(Bytes { bytes: [0, 0, 0, 16, 4, 210, 22, 46, 0, 8, 0, 0, 0, 0, 0, 7] })",
-    "Deliver(FlightNo(0), PeerNo { number: 1 })",
-    "Accept(FlightNo(1), PeerNo { number: 2 })",
+    "Deliver(FlightNo(0), NodeNo(1))",
+    "Accept(FlightNo(1), NodeNo(2))",
     "ForwardEnded(FlightNo(1))",
     "Act(ConnectionNo(0))",
     "End(ConnectionNo(0))",

@@ -6,11 +6,11 @@ use std::test::Fail;
 use world_script::ScriptError;
 
 // Lines without a form of the grammar.
-const LINES: [&str; 38] = [
+const LINES: [&str; 39] = [
     "login 2 10",
     "login 2 10 1 1",
     "login 2 10 x",
-    "login 16384 10 1",
+    "login 4294967296 10 1",
     "login32 2 10",
     "Login 2 10 1",
     "log 2 10 1",
@@ -35,7 +35,8 @@ const LINES: [&str; 38] = [
     "put 0g",
     "put 00 00",
     "deliver 0",
-    "deliver 0 16384",
+    "deliver 0 4294967296",
+    "deliver 0 x",
     "accept 0",
     "fend",
     "restart 2 1 1",
