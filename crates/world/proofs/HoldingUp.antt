@@ -91,13 +91,16 @@ holder_of w f whole b slot link p held =
       s.0.label,
       record {
         outstanding = hand.0;
-        has = (lease.0, record {
-          place = face.0;
-          session = s.0;
-          is = record { there = s.1; named = refl };
-          stays = ap (λ (z : Face). z.stays) s.2 ∙ face.3.stays;
-          holds = subst (λ (n : ℕ). s.0.hand ≡ Hand.Lease lease.0 n hand.0) same hand.1;
-        });
+        has = (
+          lease.0,
+          record {
+            place = face.0;
+            session = s.0;
+            is = record { there = s.1; named = refl };
+            stays = ap (λ (z : Face). z.stays) s.2 ∙ face.3.stays;
+            holds = subst (λ (n : ℕ). s.0.hand ≡ Hand.Lease lease.0 n hand.0) same hand.1;
+          },
+        );
         last = ap (slice_get (lasts_of w)) (sym same) ∙ own.3;
       },
     )

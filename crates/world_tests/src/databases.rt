@@ -6,9 +6,7 @@ use node_core::DatabaseNo;
 use pg_ids::{Kind, Secret, ServerKey};
 use std::alloc::{AllocError, Global};
 use std::test::Fail;
-use world::{
-    ArrivalNo, BackendNo, Bytes, ConnectionNo, Event, FlightNo, Interrupt, Label, NodeNo,
-};
+use world::{ArrivalNo, BackendNo, Bytes, ConnectionNo, Event, FlightNo, Interrupt, Label, NodeNo};
 
 const SETTINGS: &str = "[pgbouncer]\npool_mode = transaction\nauth_type = trust\n\
     listen_addr = 127.0.0.1\npeer_id = 2\n\

@@ -39,10 +39,7 @@ const EVENTS: [(&str, &str); 31] = [
     ("told 4", "Told(ConnectionNo(4))"),
     ("broken 4", "Broken(ConnectionNo(4))"),
     ("restart 2", "Restart(NodeNo(2), None)"),
-    (
-        "restart 2 1",
-        "Restart(NodeNo(2), Some(Boot(1)))",
-    ),
+    ("restart 2 1", "Restart(NodeNo(2), Some(Boot(1)))"),
     ("acquire 0000000010", "Acquire(Label(10))"),
     // Nodes that can't be there.
     (
@@ -50,7 +47,10 @@ const EVENTS: [(&str, &str); 31] = [
         "Login(NodeNo(16384), Label(10), DatabaseNo(0), Secret(..), Short)",
     ),
     ("deliver 0 16384", "Deliver(FlightNo(0), NodeNo(16384))"),
-    ("accept 0 4294967295", "Accept(FlightNo(0), NodeNo(4294967295))"),
+    (
+        "accept 0 4294967295",
+        "Accept(FlightNo(0), NodeNo(4294967295))",
+    ),
     ("restart 4294967295", "Restart(NodeNo(4294967295), None)"),
 ];
 
