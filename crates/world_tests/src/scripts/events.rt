@@ -1,10 +1,12 @@
 //! Event lines, each alone behind a node.
-use super::{joined, script_of};
+use super::{joined, repeated, script_of};
 use pg_ids::Kind;
 use std::alloc::Global;
 use std::process::Abort;
 use std::test::Fail;
 use world::Event;
+
+const MANY: usize = 10_000;
 
 // Event lines, and the events as `Debug` shows them, which hides secrets and servers' keys.
 const EVENTS: [(&str, &str); 31] = [
@@ -92,6 +94,15 @@ fn expect_key(rt: &impl Abort, events: &[Event]) {
         return;
     };
     assert_eq!(rt; key.to_bytes(), [0, 0, 0, 1, 0, 0, 0, 255]);
+}
+
+// A long script.
+#[test]
+fn many_lines(rt: HostRuntime) -> Result<(), Fail> {
+    let text = repeated(rt.alloc(), "node 2 1 2\n", "acquire 10\n", MANY)?;
+    let script = script_of(rt.alloc(), &text)?;
+    assert_eq!(rt; script.events.len(), MANY);
+    Ok(())
 }
 
 // A request that goes from one node to another on a forward connection, which is ended once the end

@@ -1,5 +1,5 @@
 //! Faults of form, each in the second line, and the most nodes.
-use super::{expect_fault, joined};
+use super::{expect_fault, joined, repeated};
 use std::alloc::Global;
 use std::process::Abort;
 use std::test::Fail;
@@ -80,15 +80,6 @@ fn first_faults(rt: HostRuntime) {
     for (text, line) in SCRIPTS {
         expect_fault(&rt, text, line);
     }
-}
-
-// A text with as many such parts.
-fn repeated(alloc: Global, first: &str, part: &str, count: usize) -> Result<String, Fail> {
-    let mut text = String::from_str(alloc, first)?;
-    for _ in 0..count {
-        text.push_str(part)?;
-    }
-    Ok(text)
 }
 
 #[test]
