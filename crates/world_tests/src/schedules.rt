@@ -1,10 +1,13 @@
 //! Worked schedules, each with its outcome to the byte; they are the scripts of the examples.
 use crate::scripts::script_of;
+use cancel_router::RouteRefusal;
 use ini_config::{Group, Settings};
+use node_core::{CancelRefusal, JoinRefusal};
+use pg_ids::{AnyKey, ClientKey, LongPart};
 use std::alloc::{AllocError, Global};
 use std::process::Abort;
 use std::test::Fail;
-use world::{Event, Interrupt, Took, World, run};
+use world::{Event, Interrupt, Reply, Took, World, run};
 use world_script::{Script, write_outcome};
 
 // What events brought about: whom they interrupted, and the text of their outcome.
@@ -46,17 +49,34 @@ pub(crate) fn write_alone(alloc: Global, took: &[Took], text: &mut Vec<u8>) -> R
 fn take_steps(alloc: Global, world: &mut World, events: &[Event]) -> Result<Played, Fail> {
     let mut took = Vec::new(alloc);
     for event in events {
-        take_step(world, event, &mut took)?;
+        take_step(world, event, &mut took, None)?;
     }
     collect(alloc, world, &took)
 }
 
-fn take_step(world: &mut World, event: &Event, took: &mut Vec<Took>) -> Result<(), Fail> {
+// One step. The last argument does nothing: the checker finds the types that a reply may hold in
+// signatures alone.
+fn take_step(
+    world: &mut World,
+    event: &Event,
+    took: &mut Vec<Took>,
+    _: Option<ReplyTypes>,
+) -> Result<(), Fail> {
     match world.step(event) {
         Ok(did) => Ok(took.push(did)?),
         Err(_) => Err(Fail::from(AllocError)),
     }
 }
+
+type ReplyTypes = (
+    Reply,
+    AnyKey,
+    ClientKey,
+    LongPart,
+    JoinRefusal,
+    CancelRefusal,
+    RouteRefusal,
+);
 
 // Whom the world has interrupted, and the text of the outcome.
 fn collect(alloc: Global, world: &World, took: &[Took]) -> Result<Played, Fail> {
