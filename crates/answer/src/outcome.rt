@@ -43,7 +43,7 @@ fn text_of(alloc: Global, took: &[Took], world: &World) -> Result<Vec<u8>, Fault
         (λ fault. fault ≡ Fault.Memory) }
 {
     let mut text = Vec::new(alloc);
-    match write_outcome(took, world.interrupts(), &mut text) {
+    match write_outcome(took, world, &mut text) {
         Ok(()) => Ok(text),
         Err(_) => Err(Fault::Memory),
     }

@@ -33,6 +33,7 @@ pub mod Starting
 pub mod FirstStarts
 pub mod Cores
 pub mod ServerOf
+pub mod Unnamed
 pub mod EveryStep
 pub mod Finality
 pub mod Possible
@@ -43,3 +44,4 @@ pub mod Striking
 pub mod Issuing
 pub mod Requesting
 pub mod Stepping
+pub mod HoldingUp

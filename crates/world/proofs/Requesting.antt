@@ -6,6 +6,7 @@ use Rattle.lease.specs.declared.link_record.LinkRecord.{LinkRecord}
 use Rattle.world.specs.declared.event.Event.{Event}
 use Rattle.world.specs.declared.reply.{Reply.Reply, Took.Took}
 use Rattle.world.specs.World.{World, Backend, Hand, Session, IsSession}
+use Rattle.world.specs.Admissible.{HasSomeLease}
 use Rattle.world.specs.Changes.{and_then, holding, with_session}
 use Rattle.world.specs.LinkEvents.{rests}
 use Rattle.world.specs.WorldRun.{WorldStep}
@@ -34,6 +35,12 @@ held_backend w f p at n s lease there hand =
       },
     )
 
+-- a client that has a lease
+pub some_lease : (w : World) (label p at n : ℕ) (s : Session) (lease : LinkRecord) → IsSession w.sessions label p s → s.stays ≡ true
+    → s.hand ≡ Hand.Lease lease at n → HasSomeLease w label
+some_lease w label p at n s lease is stays hand =
+    (at, n, (lease, record { place = p; session = s; is = is; stays = stays; holds = hand }))
+
 -- a client sends a request
 pub sends : (w new : World) (label p at n : ℕ) (s : Session) (lease : LinkRecord) (b : Backend) (bs : List Backend)
     → IsSession w.sessions label p s → s.stays ≡ true → s.hand ≡ Hand.Lease lease at n
@@ -41,7 +48,7 @@ pub sends : (w new : World) (label p at n : ℕ) (s : Session) (lease : LinkReco
     → new ≡ with_session p (holding (Hand.Lease lease at (n + 1)) s) (record w { backends = bs })
     → WorldStep (Event.Send label) (Took.Done Reply.Done) w new
 sends w new label p at n s lease b bs is stays hand there sent after = (
-  (at, n, (lease, record { place = p; session = s; is = is; stays = stays; holds = hand })),
+  some_lease w label p at n s lease is stays hand,
   (
     record {
       place = p;

@@ -41,7 +41,7 @@ added_here (x ∷ xs) c b same none =
     let more = added_here xs c b same none in omega (arith, more)
 
 -- a client whose claim is a link has its lease
-claimed_lease : (v : PoolView) (slot : ℕ) (at : LinkPlace) (link : Link) (g : Grip) → IsPool v
+pub claimed_lease : (v : PoolView) (slot : ℕ) (at : LinkPlace) (link : Link) (g : Grip) → IsPool v
     → slice_get v.claims slot ≡ Some (Claim.Link at) → place_at v at ≡ Some (Place.Link link)
     → GripFits v slot g → (lease : LinkRecord) × (b : ℕ) × (g ≡ Grip.Lease lease b) × (lease ≡ link.details)
 claimed_lease v slot at link Grip.Nothing whole claim there fits =

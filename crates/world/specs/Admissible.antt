@@ -181,3 +181,16 @@ Admissible w (Event.Told place) =
 Admissible w (Event.Broken place) = (connection : Connection) × IsUnreported w place connection
 Admissible w (Event.Restart node asked) =
     HasNode w node × ((boot : ℕ) × IsNextBoot w.starts node asked boot)
+
+-- The event makes a list of the world longer, or a count of it greater, so memory may be refused.
+abbrev pub NeedsRoom : Event → Type 0
+NeedsRoom (Event.Login node label database secret kind) = Unit {0}
+NeedsRoom (Event.Up label key) = Unit {0}
+NeedsRoom (Event.Send label) = Unit {0}
+NeedsRoom (Event.Finish backend) = Unit {0}
+NeedsRoom (Event.Put bytes) = Unit {0}
+NeedsRoom (Event.Deliver flight node) = Unit {0}
+NeedsRoom (Event.Accept flight node) = Unit {0}
+NeedsRoom (Event.Act place) = Unit {0}
+NeedsRoom (Event.Restart node asked) = Unit {0}
+NeedsRoom other = ⊥

@@ -8,6 +8,7 @@ pub mod CancelEvents
 pub mod WorldRun
 pub mod SafeCancellation
 pub mod Facts
+pub mod HoldsUp
 pub mod Starts
 pub mod Wire
 pub mod Held

@@ -6,6 +6,7 @@ use Rattle.node_core.specs.View.{NodeView, IsFresh}
 use Rattle.world.specs.declared.event.Event.{Event}
 use Rattle.world.specs.declared.reply.{Reply.Reply, Took.Took}
 use Rattle.world.specs.Admissible.{Admissible}
+use Rattle.world.specs.Settled.{SettledStays}
 use Rattle.world.specs.World.{World, Report, nothing_yet}
 use Rattle.world.specs.LinkEvents.{LogsIn, Asks, Opens, Fails, Sends, Takes, Finishes, GetsReady, GivesBack, Closes, Goes}
 use Rattle.world.specs.CancelEvents.{Puts, Comes, Accepts, Forwards, Acts, Ends, Tells, Breaks, Restarts}
@@ -54,6 +55,15 @@ pub data Runs : World → List Event → List Took → World → Type 0 where
       → WorldStep event did old between → Runs between events more new
       → Runs old (event ∷ events) (did ∷ more) new
 
+-- Events one after another, where from each world of the list on, to the list's end, what is settled
+-- stays so, and no interruption comes for it or for what came of it.
+pub data RunsSettled : World → List Event → List Took → World → Type 0 where
+  Over : (w : World) → RunsSettled w [] [] w
+  Then : (event : Event) (did : Took) (events : List Event) (more : List Took)
+      (old between new : World)
+      → WorldStep event did old between → RunsSettled between events more new
+      → SettledStays old new → RunsSettled old (event ∷ events) (did ∷ more) new
+
 -- the nodes of a group that were just made, with boot 0
 abbrev pub AreFresh : List NodeSettings → List NodeView → Type 0
 AreFresh group nodes = AllZip (λ (settings : NodeSettings). IsFresh settings 0) group nodes
@@ -64,6 +74,13 @@ pub record WorldRun (group : List NodeSettings) (events : List Event) (did : Lis
   pub nodes : List NodeView
   pub fresh : AreFresh group nodes
   pub runs : Runs (nothing_yet group nodes) events did w
+
+-- such a world, where what was settled at any place of the list is settled for good
+pub record SettledRun (group : List NodeSettings) (events : List Event) (did : List Took)
+    (w : World) : Type 0 where
+  pub nodes : List NodeView
+  pub fresh : AreFresh group nodes
+  pub runs : RunsSettled (nothing_yet group nodes) events did w
 
 -- the world of a group in which nothing has happened: its nodes were just made
 abbrev pub IsNew : List NodeSettings → World → Type 0

@@ -2,8 +2,8 @@
 ghost use Rattle.std.specs.Prelude.{◌≡◌, IfOk};
 ghost use Rattle.world.specs.Facts.{IsEvent};
 
-use crate::numbers::{BackendNo, ConnectionNo, FlightNo, Label};
-use pg_ids::{Boot, DatabaseNo, Kind, PeerNo, Secret, ServerKey};
+use crate::numbers::{BackendNo, ConnectionNo, FlightNo, Label, NodeNo};
+use pg_ids::{Boot, DatabaseNo, Kind, Secret, ServerKey};
 use std::alloc::{AllocError, Global};
 use std::marker::Model;
 
@@ -46,12 +46,12 @@ impl Bytes {
     }
 }
 
-/// An event.
+/// An event. One that names a node which isn't there can't take place.
 #[derive(Debug, Drop)]
 pub enum Event {
     /// A new client logs in at this node to this database, draws this secret, and wants a key of
     /// this kind.
-    Login(PeerNo, Label, DatabaseNo, Secret, Kind),
+    Login(NodeNo, Label, DatabaseNo, Secret, Kind),
     /// The client asks for a link of its database.
     Acquire(Label),
     /// The link that the client may open is open, and its server cancels by this key.
@@ -75,9 +75,9 @@ pub enum Event {
     /// Somebody sends these bytes.
     Put(Bytes),
     /// The bytes come to this node as a connection of their own.
-    Deliver(FlightNo, PeerNo),
+    Deliver(FlightNo, NodeNo),
     /// The forwarded request comes to this node on its forward connection.
-    Accept(FlightNo, PeerNo),
+    Accept(FlightNo, NodeNo),
     /// The forward connection is ended without a byte.
     ForwardEnded(FlightNo),
     /// The node that forwarded learns of that end.
@@ -93,11 +93,11 @@ pub enum Event {
     /// The node learns that the cancel connection broke.
     Broken(ConnectionNo),
     /// The node starts anew, with this boot, or else with one more than the greatest that it had.
-    Restart(PeerNo, Option<Boot>),
+    Restart(NodeNo, Option<Boot>),
 }
 
 impl Event {
-    /// Its numbers are in the ranges of their types.
+    /// Does nothing when it runs: says that its numbers are in the ranges of their types.
     pub(crate) fn in_range(&self)
         ensures { IsEvent self.now }
     {

@@ -20,7 +20,7 @@ mod world;
 
 pub use event::{Bytes, Event};
 pub use memory::Memory;
-pub use numbers::{ArrivalNo, BackendNo, ConnectionNo, FlightNo, Label, ServerNo};
+pub use numbers::{ArrivalNo, BackendNo, ConnectionNo, FlightNo, Label, NodeNo, ServerNo};
 pub use reply::{Reply, Took};
 pub use request::{Arrival, Connection, Forward, Interrupt, Issue, Report, Start, Taken};
 pub use session::{Hand, Session};

@@ -1,8 +1,9 @@
-//! The numbers by which a world's events name clients and things.
-ghost use Rattle.std.specs.Prelude.{ℕ};
+//! The numbers by which a world's events name nodes, clients and things.
+ghost use Rattle.std.specs.Prelude.{ℕ, ◌≡◌, ◌≤◌, ◌^◌, IfSome, IfNone};
 ghost use Rattle.std.proofs.Common.{rules};
 
 use crate::index::Key;
+use pg_ids::PeerNo;
 use std::marker::Model;
 
 /// A client, by a number of its own that no other session of the world has.
@@ -19,6 +20,31 @@ impl Model for Label {
     ghost view = { λ n. n.0 };
 
     ghost inverse = { λ n. record { 0 = n } };
+}
+
+/// A node, by its number; there may be none with it.
+#[derive(Clone, Copy, Debug, PartialEq, Eq, PartialOrd, Ord, Hash)]
+pub struct NodeNo(pub u32);
+
+impl Model for NodeNo {
+    ghost Value = { ℕ };
+
+    ghost view = { λ n. n.0 };
+
+    ghost inverse = { λ n. record { 0 = n } };
+}
+
+impl NodeNo {
+    /// The number as a node's own, which is at most 16383.
+    pub(crate) fn peer(self) -> Option<PeerNo>
+        ensures value { IfSome result (λ peer. peer ≡ self) }
+        ensures none { IfNone result (2 ^ 14 ≤ self) }
+    {
+        if self.0 >= 1 << 14 {
+            return None;
+        }
+        PeerNo::new(self.0 as u16)
+    }
 }
 
 /// A server process, numbered from 0 in the order of their making.

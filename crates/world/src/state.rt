@@ -1,10 +1,10 @@
 //! The state of a world, and its events by subject.
-ghost use Rattle.std.specs.Prelude.{◌≡◌, ℕ, true, IfSome, IfNone, IfOk, OnErr, length};
+ghost use Rattle.std.specs.Prelude.{◌≡◌, ℕ, true, IfSome, IfNone, IfOk, OnErr};
 ghost use Rattle.lease.specs.declared.link_record.LinkRecord.{LinkRecord};
 ghost use Rattle.world.specs.World.{IsSession};
 ghost use Rattle.world.specs.declared.session.Hand.TheVariants as hand;
 ghost use Rattle.world.specs.Held.{IsHeld};
-ghost use Rattle.world.specs.Admissible.{HasInHand, HasPermit};
+ghost use Rattle.world.specs.Admissible.{Admissible, HasInHand, HasPermit, NeedsRoom};
 ghost use Rattle.world.specs.Facts.{AreWhole, Facts};
 ghost use Rattle.world.specs.WorldRun.{IsNew, WorldStep};
 
@@ -122,13 +122,12 @@ impl State {
         })
     }
 
-    /// How many nodes there are.
-    pub fn nodes(&self) -> usize
-        ensures count { result ≡ length self.now.nodes }
-        // What is true of every node.
-        ensures whole { AreWhole self.now.nodes }
+    /// Does nothing when it runs: says what is true of every node, which a caller of other methods
+    /// doesn't see.
+    pub fn known(&self)
+        ensures { AreWhole self.now.nodes }
     {
-        self.nodes.len()
+        self.nodes.len();
     }
 
     /// The interruptions, in their order.
@@ -139,15 +138,18 @@ impl State {
     }
 
     /// An event, which takes place exactly where it is admissible.
+    #[tactic(auto, using(crate::proofs::Unnamed::skips_login, crate::proofs::Unnamed::skips_deliver, crate::proofs::Unnamed::skips_accept, crate::proofs::Unnamed::skips_restart))]
     pub fn apply(&mut self, event: &Event) -> Result<Took, Memory>
         requires { Facts self.old }
         ensures step { IfOk result (λ took. WorldStep event.now took self.old self.new) }
         ensures err { OnErr result (self.new ≡ self.old) }
+        ensures may { OnErr result (NeedsRoom event.now × Admissible self.old event.now) }
     {
         match event {
-            Event::Login(node, label, database, secret, kind) => {
-                self.login(*node, *label, *database, *secret, *kind)
-            }
+            Event::Login(node, label, database, secret, kind) => match node.peer() {
+                Some(node) => self.login(node, *label, *database, *secret, *kind),
+                None => Ok(Took::Skipped),
+            },
             Event::Acquire(label) => Ok(self.acquire(*label)),
             Event::Up(label, key) => self.up(*label, *key),
             Event::UpFailed(label) => Ok(self.up_failed(*label)),
@@ -159,8 +161,14 @@ impl State {
             Event::Close(label) => Ok(self.close(*label)),
             Event::Leave(label) => Ok(self.leave(*label)),
             Event::Put(bytes) => self.put(bytes),
-            Event::Deliver(flight, node) => self.deliver(*flight, *node),
-            Event::Accept(flight, node) => self.accept(*flight, *node),
+            Event::Deliver(flight, node) => match node.peer() {
+                Some(node) => self.deliver(*flight, node),
+                None => Ok(Took::Skipped),
+            },
+            Event::Accept(flight, node) => match node.peer() {
+                Some(node) => self.accept(*flight, node),
+                None => Ok(Took::Skipped),
+            },
             Event::ForwardEnded(flight) => Ok(self.end_forward(*flight)),
             Event::ForwardTold(flight) => Ok(self.tell_forward(*flight)),
             Event::ForwardBroken(flight) => Ok(self.break_forward(*flight)),
@@ -168,7 +176,10 @@ impl State {
             Event::End(connection) => Ok(self.end(*connection)),
             Event::Told(connection) => Ok(self.told(*connection)),
             Event::Broken(connection) => Ok(self.broken(*connection)),
-            Event::Restart(node, boot) => self.restart(*node, *boot),
+            Event::Restart(node, boot) => match node.peer() {
+                Some(node) => self.restart(node, *boot),
+                None => Ok(Took::Skipped),
+            },
         }
     }
 

@@ -1,7 +1,10 @@
 //! A world of events, which is safe by its type.
 ghost use Rattle.std.specs.Prelude.{◌≡◌, ◌++◌, ◌∷◌, [], IfOk, OnOk, OnErr};
 ghost use Rattle.world.specs.World.{nothing_yet};
-ghost use Rattle.world.specs.WorldRun.{IsNew, Runs, WorldRun, WorldStep};
+ghost use Rattle.world.specs.Admissible.{Admissible, NeedsRoom};
+ghost use Rattle.world.specs.WorldRun.{IsNew, Runs, RunsSettled, SettledRun, WorldRun, WorldStep};
+ghost use Rattle.world.specs.Facts.{Facts};
+ghost use Rattle.world.specs.HoldsUp.{HoldsUp};
 ghost use Rattle.world.specs.SafeCancellation.{IsSafe};
 ghost use Rattle.world.specs.Settled.{SettledStays, NothingToCome, EndedIsSettled};
 
@@ -55,11 +58,10 @@ impl World {
         ensures step { IfOk result (λ took. WorldStep event.now took self.old self.new) }
         ensures settled { SettledStays self.old self.new }
         ensures err { OnErr result (self.new ≡ self.old) }
+        // It may be refused only to an admissible event that makes the world larger.
+        ensures memory { OnErr result (NeedsRoom event.now × Admissible self.old event.now) }
     {
-        // Every node's view is whole, and the event's numbers are in the ranges of their types.
-        self.state.nodes();
-        event.in_range();
-        self.state.apply(event)
+        self.advance(event)
     }
 
     /// The interruptions, in their order. What follows is true of every world.
@@ -72,19 +74,36 @@ impl World {
         // a byte means that the request is settled.
         ensures nothing_to_come { NothingToCome self.now }
         ensures ended_is_settled { EndedIsSettled self.now }
+        // What holds this up, over all nodes at once.
+        ensures holds_up { HoldsUp self.now }
     {
+        self.state.known();
         self.state.interrupts()
     }
 }
 
 impl World {
+    // An event, with what is true of the world before and after it.
+    fn advance(&mut self, event: &Event) -> Result<Took, Memory>
+        ensures step { IfOk result (λ took. WorldStep event.now took self.old self.new) }
+        ensures err { OnErr result (self.new ≡ self.old) }
+        ensures memory { OnErr result (NeedsRoom event.now × Admissible self.old event.now) }
+        ensures facts { Facts self.old × Facts self.new }
+    {
+        self.state.known();
+        event.in_range();
+        self.state.apply(event)
+    }
+
     // Events one after another, with what each took.
     fn steps(&mut self, alloc: Global, events: &[Event]) -> Result<Vec<Took>, Memory>
-        ensures { IfOk result (λ took. Runs self.old events.now took.items self.new) }
+        ensures runs { IfOk result (λ took. Runs self.old events.now took.items self.new) }
+        ensures settled { IfOk result
+            (λ took. RunsSettled self.old events.now took.items self.new) }
     {
         let mut took = Vec::with_capacity(alloc, events.len())?;
         for event in events {
-            let did = self.step(event)?;
+            let did = self.advance(event)?;
             note(&mut took, did, None)?;
         }
         Ok(took)
@@ -115,6 +134,8 @@ type ReplyTypes = (
 /// each event took.
 pub fn run(alloc: Global, group: Group, events: &[Event]) -> Result<(World, Vec<Took>), Memory>
     ensures run { IfOk result (λ ran. WorldRun group events.now ran.1.items ran.0) }
+    // What is settled at any place of the list is settled for good, and is not interrupted later.
+    ensures settled { IfOk result (λ ran. SettledRun group events.now ran.1.items ran.0) }
     ensures safe { IfOk result (λ ran. IsSafe ran.0) }
     ensures nothing_to_come { IfOk result (λ ran. NothingToCome ran.0) }
 {

@@ -7,10 +7,10 @@ use Rattle.pg_ids.specs.declared.any_key.Kind.{Kind}
 use Rattle.pg_ids.specs.declared.any_key.Kind.TheVariants.{Short, Long}
 use Rattle.world.specs.declared.event.Event.{Event}
 use Rattle.world.specs.declared.event.Event.TheVariants as event
-use Rattle.world_script.specs.Words.{◌>>=◌, number_of, node_number, key_of, bytes_of}
+use Rattle.world_script.specs.Words.{◌>>=◌, number_of, key_of, bytes_of}
 
--- the events of one number, which is that of a client, a server process, a flight or a cancel
--- connection
+-- the events of one number, which is that of a client, a server process, a flight, a cancel
+-- connection, or a node that starts with its next boot
 abbrev pub numbered_events : List (List ℕ × (ℕ → Event))
 numbered_events =
     (codes "acquire", event.Acquire)
@@ -28,7 +28,8 @@ numbered_events =
     ∷ (codes "act", event.Act)
     ∷ (codes "end", event.End)
     ∷ (codes "told", event.Told)
-    ∷ (codes "broken", event.Broken) ∷ []
+    ∷ (codes "broken", event.Broken)
+    ∷ (codes "restart", λ node. event.Restart node None) ∷ []
 
 -- the event of this name, with a number
 unfoldable pub numbered_event : List ℕ → ℕ → Option Event
@@ -38,14 +39,11 @@ numbered_event name n = option_map (λ make. make n) (lookup (bytes_eq name) num
 abbrev pub numbered_by : List ℕ → List ℕ → Option Event
 numbered_by name word = number_of word >>= numbered_event name
 
--- the event of this name, with one word behind it: bytes, a node that starts with its next boot, or
--- a number
+-- the event of this name, with one word behind it: bytes or a number
 unfoldable pub one_word_event : List ℕ → List ℕ → Option Event
 one_word_event name word =
     if bytes_eq name (codes "put") then option_map event.Put (bytes_of word)
-    else (if bytes_eq name (codes "restart")
-    then option_map (λ node. event.Restart node None) (node_number word)
-    else numbered_by name word)
+    else numbered_by name word
 
 -- a client's new link with its server's key
 unfoldable pub up_event : List ℕ → List ℕ → Option Event
@@ -57,7 +55,7 @@ up_event first second = do
 -- a node that starts with a boot
 unfoldable pub restart_event : List ℕ → List ℕ → Option Event
 restart_event first second = do
-  node ← node_number first
+  node ← number_of first
   boot ← number_of second
   Some (event.Restart node (Some boot))
 
@@ -65,7 +63,7 @@ restart_event first second = do
 unfoldable pub flight_event : (ℕ → ℕ → Event) → List ℕ → List ℕ → Option Event
 flight_event make first second = do
   flight ← number_of first
-  node ← node_number second
+  node ← number_of second
   Some (make flight node)
 
 -- the events with two words behind their names
@@ -94,7 +92,7 @@ login_kind name = lookup (bytes_eq name) logins
 unfoldable pub login_event : List ℕ → List ℕ → List ℕ → List ℕ → Option Event
 login_event name first second third = do
   kind ← login_kind name
-  node ← node_number first
+  node ← number_of first
   label ← number_of second
   secret ← number_of third
   Some (event.Login node label 0 secret kind)

@@ -32,7 +32,7 @@ unfoldable pub number_from : ℕ → ℕ → List ℕ → Option ℕ
 number_from low high word = number_of word
     >>= λ n. if nat_le low n && nat_le n high then Some n else None
 
--- a node's number
+-- the number of a node line
 abbrev pub node_number : List ℕ → Option ℕ
 node_number word = number_from 0 16383 word
 

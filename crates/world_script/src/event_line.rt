@@ -1,16 +1,14 @@
 //! The events of a script, by their names and the words behind them.
-ghost use Rattle.std.specs.Prelude.{◌≡◌, None};
-ghost use Rattle.std.specs.Option.{option_map};
+ghost use Rattle.std.specs.Prelude.{◌≡◌};
 ghost use Rattle.world_script.specs.EventLine.{numbered_event, numbered_by, one_word_event, two_word_event, login_kind, login_event};
 ghost use Rattle.world_script.specs.Reads.{Finds};
-ghost use Rattle.world_script.specs.Words.{node_number, number_of};
-ghost use Rattle.world.specs.declared.event.Event.TheVariants as event;
+ghost use Rattle.world_script.specs.Words.{number_of};
 
 use crate::fault::LineFault;
-use crate::word::{bytes, node_number, number, server_key};
+use crate::word::{bytes, number, server_key};
 use pg_ids::{Boot, DatabaseNo, Kind, Secret};
 use std::alloc::Global;
-use world::{BackendNo, ConnectionNo, Event, FlightNo, Label};
+use world::{BackendNo, ConnectionNo, Event, FlightNo, Label, NodeNo};
 
 /// The event of this name, with one word behind it.
 #[tactic(auto, unfolding(crate::specs::EventLine::one_word_event))]
@@ -19,16 +17,8 @@ pub(crate) fn one_word_event(alloc: Global, name: &str, word: &str) -> Result<Ev
 {
     match name {
         "put" => Ok(Event::Put(bytes(alloc, word)?)),
-        "restart" => restart_next(word).ok_or(LineFault::Form),
         _ => numbered(name, word).ok_or(LineFault::Form),
     }
-}
-
-// A node that starts with its next boot.
-fn restart_next(word: &str) -> Option<Event>
-    ensures { result ≡ option_map (λ node. event.Restart node None) (node_number word.now) }
-{
-    Some(Event::Restart(node_number(word)?, None))
 }
 
 // The event of this name, with a number behind it.
@@ -61,6 +51,8 @@ fn numbered_event(name: &str, number: u32) -> Option<Event>
         "end" => Some(Event::End(ConnectionNo(long))),
         "told" => Some(Event::Told(ConnectionNo(long))),
         "broken" => Some(Event::Broken(ConnectionNo(long))),
+        // With its next boot.
+        "restart" => Some(Event::Restart(NodeNo(number), None)),
         _ => None,
     }
 }
@@ -72,9 +64,9 @@ pub(crate) fn two_word_event(name: &str, first: &str, second: &str) -> Option<Ev
 {
     match name {
         "up" => Some(Event::Up(label(first)?, server_key(second)?)),
-        "deliver" => Some(Event::Deliver(flight(first)?, node_number(second)?)),
-        "accept" => Some(Event::Accept(flight(first)?, node_number(second)?)),
-        "restart" => Some(Event::Restart(node_number(first)?, Some(boot(second)?))),
+        "deliver" => Some(Event::Deliver(flight(first)?, node(second)?)),
+        "accept" => Some(Event::Accept(flight(first)?, node(second)?)),
+        "restart" => Some(Event::Restart(node(first)?, Some(boot(second)?))),
         _ => None,
     }
 }
@@ -83,6 +75,12 @@ fn label(word: &str) -> Option<Label>
     ensures { result ≡ number_of word.now }
 {
     Some(Label(number(word)?))
+}
+
+fn node(word: &str) -> Option<NodeNo>
+    ensures { result ≡ number_of word.now }
+{
+    Some(NodeNo(number(word)?))
 }
 
 fn flight(word: &str) -> Option<FlightNo>
@@ -103,7 +101,7 @@ pub(crate) fn login_event(name: &str, first: &str, second: &str, third: &str) ->
     ensures { result ≡ login_event name.now first.now second.now third.now }
 {
     let kind = login_kind(name)?;
-    let node = node_number(first)?;
+    let node = node(first)?;
     let label = label(second)?;
     let secret = Secret(number(third)?);
     Some(Event::Login(node, label, DatabaseNo(0), secret, kind))

@@ -5,21 +5,17 @@ ghost use Rattle.world_script.specs.Outcome.{outcome, ended, event_line, event_l
 
 use crate::reply_text::{write_phrase, write_took};
 use std::alloc::{AllocError, Global};
-use world::{Interrupt, Took};
+use world::{Interrupt, Memory, Took, World};
 
-/// Appends the text of an outcome: what became of each event, the interrupts, and how many there
-/// were. Leaves the buffer as it was if memory runs out.
-pub fn write_outcome(
-    took: &[Took],
-    interrupts: &[Interrupt],
-    out: &mut Vec<u8>,
-) -> Result<(), AllocError>
+/// Appends the text of an outcome: what became of each event, whom this world's events
+/// interrupted, and how many there were. Leaves the buffer as it was if memory runs out.
+pub fn write_outcome(took: &[Took], world: &World, out: &mut Vec<u8>) -> Result<(), Memory>
     ensures ok { OnOk result (out.new.items
-        ≡ out.old.items ++ outcome took.now interrupts.now) }
+        ≡ out.old.items ++ outcome took.now world.now.interrupts) }
     ensures err { OnErr result (out.new.items ≡ out.old.items) }
 {
-    let text = outcome(*out.allocator(), took, interrupts)?;
-    out.extend_from_slice(text.as_bytes())
+    let text = outcome(*out.allocator(), took, world.interrupts())?;
+    Ok(out.extend_from_slice(text.as_bytes())?)
 }
 
 fn outcome(alloc: Global, took: &[Took], interrupts: &[Interrupt]) -> Result<String, AllocError>

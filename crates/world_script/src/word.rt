@@ -72,7 +72,7 @@ pub(crate) fn number_from(low: u32, high: u32, word: &str) -> Option<u32>
     }
 }
 
-/// A node's number.
+/// The number of a node line.
 pub(crate) fn node_number(word: &str) -> Option<PeerNo>
     ensures { result ≡ node_number word.now }
 {

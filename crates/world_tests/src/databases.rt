@@ -3,10 +3,10 @@
 use crate::schedules::{group_of, play};
 use ini_config::{Settings, read_settings};
 use node_core::DatabaseNo;
-use pg_ids::{Kind, PeerNo, Secret, ServerKey};
+use pg_ids::{Kind, Secret, ServerKey};
 use std::alloc::{AllocError, Global};
 use std::test::Fail;
-use world::{ArrivalNo, BackendNo, Bytes, ConnectionNo, Event, FlightNo, Interrupt, Label};
+use world::{ArrivalNo, BackendNo, Bytes, ConnectionNo, Event, FlightNo, Interrupt, Label, NodeNo};
 
 const SETTINGS: &str = "[pgbouncer]\npool_mode = transaction\nauth_type = trust\n\
     listen_addr = 127.0.0.1\npeer_id = 2\n\
@@ -40,7 +40,7 @@ fn request(alloc: Global, slot: u8) -> Result<Event, AllocError> {
 }
 
 // A client logs in to a database of its own, opens a link, and runs a query.
-fn runs_query(events: &mut Vec<Event>, node: PeerNo, place: u8) -> Result<(), Fail> {
+fn runs_query(events: &mut Vec<Event>, node: NodeNo, place: u8) -> Result<(), Fail> {
     let label = Label(10 + u32::from(place));
     let secret = Secret(1 + u32::from(place));
     events.push(Event::Login(node, label, DatabaseNo(place), secret, Kind::Short))?;
@@ -55,7 +55,7 @@ fn runs_query(events: &mut Vec<Event>, node: PeerNo, place: u8) -> Result<(), Fa
 fn is_cancelled(
     alloc: Global,
     events: &mut Vec<Event>,
-    node: PeerNo,
+    node: NodeNo,
     place: u8,
 ) -> Result<(), Fail> {
     events.push(request(alloc, place)?)?;
@@ -64,7 +64,7 @@ fn is_cancelled(
     Ok(())
 }
 
-fn schedule(alloc: Global, node: PeerNo) -> Result<Vec<Event>, Fail> {
+fn schedule(alloc: Global, node: NodeNo) -> Result<Vec<Event>, Fail> {
     let mut events = Vec::new(alloc);
     runs_query(&mut events, node, 0)?;
     runs_query(&mut events, node, 1)?;
@@ -89,7 +89,8 @@ const STRUCK: [Interrupt; 2] = [
 #[test]
 fn each_strikes_its_own_server(rt: HostRuntime) -> Result<(), Fail> {
     let settings = settings(rt.alloc(), SETTINGS)?;
-    let events = schedule(rt.alloc(), settings.peer_id())?;
+    let node = NodeNo(u32::from(settings.peer_id().get()));
+    let events = schedule(rt.alloc(), node)?;
     let group = group_of(vec![in rt.alloc(); settings]?)?;
     let played = play(rt.alloc(), group, &events)?;
     assert_eq!(rt; played.interrupts.as_slice(), STRUCK.as_slice());

@@ -17,6 +17,15 @@ fn joined(alloc: Global, parts: &[&str]) -> Result<String, AllocError> {
     Ok(text)
 }
 
+// A text with as many such parts.
+fn repeated(alloc: Global, first: &str, part: &str, count: usize) -> Result<String, Fail> {
+    let mut text = String::from_str(alloc, first)?;
+    for _ in 0..count {
+        text.push_str(part)?;
+    }
+    Ok(text)
+}
+
 // The script of a text without a fault. Out of memory is returned as `AllocError`.
 pub(crate) fn script_of(alloc: Global, text: &str) -> Result<Script, Fail> {
     match read_script(alloc, text) {

@@ -11,6 +11,7 @@ ghost use Rattle.world.specs.declared.request.Connection.{Connection as Connecti
 ghost use Rattle.world.specs.declared.request.Forward.{Forward as ForwardRow};
 ghost use Rattle.world.specs.World.{Backend, IsBackend, IsNode, IsOwner, IsServer};
 ghost use Rattle.world.specs.CancelEvents.{Comes, Arrives, IsRequest, IsOther, takes_key};
+ghost use Rattle.world.specs.Admissible.{Admissible};
 ghost use Rattle.world.specs.Facts.{Facts, OneServer};
 ghost use Rattle.world.specs.WorldRun.{WorldStep};
 
@@ -45,6 +46,7 @@ impl State {
         ensures step { IfOk result
             (λ took. WorldStep (event.Deliver flight node) took self.old self.new) }
         ensures err { OnErr result (self.new ≡ self.old) }
+        ensures may { OnErr result (Admissible self.old (event.Deliver flight node)) }
     {
         if flight.0 as usize >= self.flights.len() || self.nodes.get(node).is_none() {
             return Ok(Took::Skipped);
@@ -58,6 +60,7 @@ impl State {
         ensures step { IfOk result
             (λ took. WorldStep (event.Accept flight node) took self.old self.new) }
         ensures err { OnErr result (self.new ≡ self.old) }
+        ensures may { OnErr result (Admissible self.old (event.Accept flight node)) }
     {
         let Some(found) = self.forwards.of_flight(flight) else {
             return Ok(Took::Skipped);

@@ -3,7 +3,7 @@ ghost use Rattle.std.specs.Prelude.{◌≡◌, ◌↔◌, ◌<◌, ◌^◌, IfOk
 ghost use Rattle.pg_ids.specs.Key.{IsKey};
 ghost use Rattle.key_table.specs.Slots.{first_key};
 ghost use Rattle.world.specs.declared.event.Event.TheVariants as event;
-ghost use Rattle.world.specs.Admissible.{IsNewSecret, MayLogIn};
+ghost use Rattle.world.specs.Admissible.{Admissible, IsNewSecret, MayLogIn};
 ghost use Rattle.world.specs.Facts.{AreWhole, Facts};
 ghost use Rattle.world.specs.WorldRun.{WorldStep};
 
@@ -30,6 +30,7 @@ impl State {
         ensures step { IfOk result (λ took.
             WorldStep (event.Login node label database secret kind) took self.old self.new) }
         ensures err { OnErr result (self.new ≡ self.old) }
+        ensures may { OnErr result (Admissible self.old (event.Login node label database secret kind)) }
     {
         if !self.may_log_in(node, label, database, secret, kind) {
             return Ok(Took::Skipped);
@@ -123,6 +124,7 @@ impl State {
         ensures step { IfOk result
             (λ took. WorldStep (event.Restart node asked) took self.old self.new) }
         ensures err { OnErr result (self.new ≡ self.old) }
+        ensures may { OnErr result (Admissible self.old (event.Restart node asked)) }
     {
         let Some(_) = self.nodes.get(node) else {
             return Ok(Took::Skipped);

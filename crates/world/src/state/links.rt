@@ -1,6 +1,7 @@
 //! The links that clients ask for, open, and give back.
 ghost use Rattle.std.specs.Prelude.{◌≡◌, Some, IfOk, OnErr, slice_get};
 ghost use Rattle.world.specs.declared.event.Event.TheVariants as event;
+ghost use Rattle.world.specs.Admissible.{Admissible};
 ghost use Rattle.world.specs.Facts.{Facts};
 ghost use Rattle.link_pool.specs.declared.place.{Place.Place as PlaceValue, Link.Link as LinkValue};
 ghost use Rattle.world.specs.World.{Backend};
@@ -82,6 +83,7 @@ impl State {
         requires { Facts self.old }
         ensures step { IfOk result (λ took. WorldStep (event.Up label key) took self.old self.new) }
         ensures err { OnErr result (self.new ≡ self.old) }
+        ensures may { OnErr result (Admissible self.old (event.Up label key)) }
     {
         let Some(opening) = self.opening(label) else {
             return Ok(Took::Skipped);

@@ -1,6 +1,7 @@
 //! Requests on their way from clients to server processes, and their answers.
 ghost use Rattle.std.specs.Prelude.{◌≡◌, IfOk, OnErr};
 ghost use Rattle.world.specs.declared.event.Event.TheVariants as event;
+ghost use Rattle.world.specs.Admissible.{Admissible};
 ghost use Rattle.world.specs.Facts.{Facts};
 ghost use Rattle.world.specs.WorldRun.{WorldStep};
 
@@ -16,6 +17,7 @@ impl State {
         requires { Facts self.old }
         ensures step { IfOk result (λ took. WorldStep (event.Send label) took self.old self.new) }
         ensures err { OnErr result (self.new ≡ self.old) }
+        ensures may { OnErr result (Admissible self.old (event.Send label)) }
     {
         let Some(held) = self.held(label) else {
             return Ok(Took::Skipped);
@@ -57,6 +59,7 @@ impl State {
     pub fn finish(&mut self, at: BackendNo) -> Result<Took, Memory>
         ensures step { IfOk result (λ took. WorldStep (event.Finish at) took self.old self.new) }
         ensures err { OnErr result (self.new ≡ self.old) }
+        ensures may { OnErr result (Admissible self.old (event.Finish at)) }
     {
         let Some(process) = self.backends.get(at) else {
             return Ok(Took::Skipped);

@@ -2,6 +2,7 @@
 ghost use Rattle.std.specs.Prelude.{◌≡◌, ◌<◌, ◌++◌, ◌∷◌, [], IfOk, OnErr};
 ghost use Rattle.std.specs.Vec.{vec_len, vec_capacity};
 ghost use Rattle.world.specs.declared.event.Event.TheVariants as event;
+ghost use Rattle.world.specs.Admissible.{Admissible};
 ghost use Rattle.world.specs.Facts.{Facts};
 ghost use Rattle.world.specs.WorldRun.{WorldStep};
 
@@ -18,6 +19,7 @@ impl State {
         requires { Facts self.old }
         ensures step { IfOk result (λ took. WorldStep (event.Act place) took self.old self.new) }
         ensures err { OnErr result (self.new ≡ self.old) }
+        ensures may { OnErr result (Admissible self.old (event.Act place)) }
     {
         let Some(connection) = self.connections.get(place.0 as usize) else {
             return Ok(Took::Skipped);

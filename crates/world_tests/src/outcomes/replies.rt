@@ -77,7 +77,7 @@ fn expect_reply(
     text: &str,
 ) -> Result<(), Fail> {
     let wanted = format!(in rt.alloc(); "1 {text}\nevents 1 skipped 0 interrupts 0\n")?;
-    expect_outcome(rt, &[Took::Done(reply)], &[], wanted.as_str())
+    expect_outcome(rt, &[Took::Done(reply)], wanted.as_str())
 }
 
 #[test]

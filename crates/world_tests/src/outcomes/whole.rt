@@ -1,11 +1,11 @@
 //! Whole outcomes of worked schedules.
 use super::expect_outcome;
+use crate::schedules::write_alone;
 use cancel_router::RouteRefusal;
 use node_core::{CancelRefusal, JoinRefusal};
 use pg_ids::AnyKey;
 use std::test::Fail;
-use world::{ArrivalNo, BackendNo, ConnectionNo, FlightNo, Interrupt, Label, Reply, Took};
-use world_script::write_outcome;
+use world::{ArrivalNo, BackendNo, FlightNo, Reply, Took};
 
 // The key of node 2's slot 0 with secret 1.
 fn first_key() -> Took {
@@ -14,41 +14,14 @@ fn first_key() -> Took {
 
 #[test]
 fn empty_outcome(rt: HostRuntime) -> Result<(), Fail> {
-    expect_outcome(&rt, &[], &[], "events 0 skipped 0 interrupts 0\n")
+    expect_outcome(&rt, &[], "events 0 skipped 0 interrupts 0\n")
 }
 
-// A request that came before its client's login is unknown; the next one strikes the client.
+// A request that came before its client's login is unknown.
 const UNKNOWN: [Took; 2] = [
     Took::Done(Reply::Flight(FlightNo(0))),
     Took::Done(Reply::CancelRefused(ArrivalNo(0), CancelRefusal::Route(RouteRefusal::Unknown))),
 ];
-
-const STRUCK: [Took; 6] = [
-    Took::Done(Reply::Open),
-    Took::Done(Reply::Lease(BackendNo(0))),
-    Took::Done(Reply::Done),
-    Took::Done(Reply::Done),
-    Took::Done(Reply::Serve(ArrivalNo(1), ConnectionNo(0))),
-    Took::Done(Reply::Struck(BackendNo(0), Label(10))),
-];
-
-const STRUCK_TEXT: &str = "1 flight 0\n2 refused 0 61\n3 key 0008000000000007\n4 open\n5 lease 0\n\
-    6 ok\n7 ok\n8 serve 1 0\n9 struck 0 10\ninterrupt 0 10 1\n\
-    events 9 skipped 0 interrupts 1\n";
-
-#[test]
-fn struck_client(rt: HostRuntime) -> Result<(), Fail> {
-    let mut took = Vec::new(rt.alloc());
-    took.extend_from_slice(&UNKNOWN)?;
-    took.push(first_key())?;
-    took.extend_from_slice(&STRUCK)?;
-    let interrupt = Interrupt {
-        backend: BackendNo(0),
-        label: Label(10),
-        arrival: ArrivalNo(1),
-    };
-    expect_outcome(&rt, &took, &[interrupt], STRUCK_TEXT)
-}
 
 const NO_RELEASE: [Took; 4] = [
     Took::Done(Reply::Open),
@@ -66,7 +39,6 @@ fn skipped_release(rt: HostRuntime) -> Result<(), Fail> {
     expect_outcome(
         &rt,
         &took,
-        &[],
         "1 key 0008000000000007\n2 open\n3 lease 0\n4 ok\n5 skipped\n\
         events 5 skipped 1 interrupts 0\n",
     )
@@ -75,7 +47,7 @@ fn skipped_release(rt: HostRuntime) -> Result<(), Fail> {
 #[test]
 fn behind_other_bytes(rt: HostRuntime) -> Result<(), Fail> {
     let mut out = vec![in rt.alloc(); b'a', b'\n']?;
-    write_outcome(&[Took::Skipped], &[], &mut out)?;
+    write_alone(rt.alloc(), &[Took::Skipped], &mut out)?;
     assert_eq!(rt;
         out.as_slice(),
         b"a\n1 skipped\nevents 1 skipped 1 interrupts 0\n".as_slice()
@@ -107,5 +79,5 @@ fn long_keys(rt: HostRuntime) -> Result<(), Fail> {
     took.push(Took::Skipped)?;
     took.push(Took::Done(Reply::JoinRefused(JoinRefusal::Full)))?;
     took.extend_from_slice(&UNKNOWN)?;
-    expect_outcome(&rt, &took, &[], LONG_KEYS_TEXT)
+    expect_outcome(&rt, &took, LONG_KEYS_TEXT)
 }

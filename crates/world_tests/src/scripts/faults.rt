@@ -1,16 +1,16 @@
 //! Faults of form, each in the second line, and the most nodes.
-use super::{expect_fault, joined};
+use super::{expect_fault, joined, repeated};
 use std::alloc::Global;
 use std::process::Abort;
 use std::test::Fail;
 use world_script::ScriptError;
 
 // Lines without a form of the grammar.
-const LINES: [&str; 38] = [
+const LINES: [&str; 39] = [
     "login 2 10",
     "login 2 10 1 1",
     "login 2 10 x",
-    "login 16384 10 1",
+    "login 4294967296 10 1",
     "login32 2 10",
     "Login 2 10 1",
     "log 2 10 1",
@@ -35,7 +35,8 @@ const LINES: [&str; 38] = [
     "put 0g",
     "put 00 00",
     "deliver 0",
-    "deliver 0 16384",
+    "deliver 0 4294967296",
+    "deliver 0 x",
     "accept 0",
     "fend",
     "restart 2 1 1",
@@ -79,15 +80,6 @@ fn first_faults(rt: HostRuntime) {
     for (text, line) in SCRIPTS {
         expect_fault(&rt, text, line);
     }
-}
-
-// A text with as many such parts.
-fn repeated(alloc: Global, first: &str, part: &str, count: usize) -> Result<String, Fail> {
-    let mut text = String::from_str(alloc, first)?;
-    for _ in 0..count {
-        text.push_str(part)?;
-    }
-    Ok(text)
 }
 
 #[test]

@@ -2,8 +2,11 @@ use Rattle.std.proofs.Common.{List, refl, subst, ◌∙◌, ap}
 use Rattle.link_pool.specs.declared.replies.RestartReply.{RestartReply}
 use Rattle.world.specs.World.{World, Start, HadBoot}
 use Rattle.world.specs.Changes.{and_then}
+use Rattle.world.specs.Admissible.{Admissible}
+use Rattle.world.specs.declared.event.Event.{Event}
 use Rattle.world.specs.contracts.state.State.{the_view}
 use Rattle.world.proofs.Restarting.{next_boot}
+use Rattle.world.proofs.Stepping.{on_err}
 use Rattle.world.proofs.state.State.restart.Goals as goal
 
 pub push-requires-clause-new : goal.push-requires-clause-new
@@ -49,3 +52,10 @@ returns-in-Exhausted-clause-step c =
         );
       },
     )
+
+pub returns-in_err-reserve-clause-may : goal.returns-in_err-reserve-clause-may
+returns-in_err-reserve-clause-may c =
+    let there = c.in-Some.ensures.found in
+    let may : Admissible c.args.self.now (Event.Restart c.args.node c.args.asked) =
+    rw (← c.self.view_is) ((there.0, c.in-Some.field-0.now.view, there.1), (c.in-Some-next.boot, c.in-Some-next.ensures.next)) in
+    on_err c.from_residual.result may

@@ -2,7 +2,8 @@ use Rattle.std.proofs.Common.{ℕ, Some, ap, refl, ◌∙◌}
 use Rattle.world.specs.World.{World, Hand}
 use Rattle.world.specs.Changes.{holding, with_session}
 use Rattle.world.specs.contracts.state.State.{the_view}
-use Rattle.world.proofs.Requesting.{held_backend, sends}
+use Rattle.world.proofs.Requesting.{held_backend, sends, some_lease}
+use Rattle.world.proofs.Stepping.{on_err}
 use Rattle.world.proofs.state.State.send.Goals as goal
 
 pub returns-in_default-clause-step : goal.returns-in_default-clause-step
@@ -28,3 +29,16 @@ returns-clause-step c =
     (c.put_in_hand.ensures ∙ ap (λ (n : ℕ). let w : World = the_view c.self.inside in
     with_session held.place (holding (Hand.Lease held.hand.lease held.hand.at n) held.session)
     (record w { backends = c.send.new.self.rows })) one))
+
+pub returns-in_default-checked_add-clause-may : goal.returns-in_default-checked_add-clause-may
+returns-in_default-checked_add-clause-may c =
+    let held = c.in-Some.held in
+    some_lease c.args.self.now c.args.label held.place held.hand.at held.hand.outstanding held.session held.hand.lease
+    c.in-Some.ensures.found c.in-Some.ensures.stays c.in-Some.ensures.hand
+
+pub returns-in_err-send-clause-may : goal.returns-in_err-send-clause-may
+returns-in_err-send-clause-may c =
+    let held = c.in-Some.held in
+    on_err c.from_residual.result
+    (some_lease c.args.self.now c.args.label held.place held.hand.at held.hand.outstanding held.session held.hand.lease
+    c.in-Some.ensures.found c.in-Some.ensures.stays c.in-Some.ensures.hand)
