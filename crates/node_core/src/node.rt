@@ -130,11 +130,15 @@ impl<S: Drop> NodeCore<S> {
         self.clients.get(slot.get() as usize).copied().flatten()
     }
 
-    // The client of each live slot, by slot.
-    pub(crate) fn clients(&self, alloc: Global) -> Result<Vec<Option<Client>>, AllocError>
+    // The client of each live slot, by slot, in memory that was taken before.
+    pub(crate) fn clients(
+        &self,
+        room: Vec<Option<Client>>,
+    ) -> Result<Vec<Option<Client>>, AllocError>
         ensures { IfOk result (λ clients. clients.items ≡ self.now.view.clients) }
     {
-        let mut clients = Vec::with_capacity(alloc, self.clients.len())?;
+        let mut clients = room;
+        clients.clear();
         clients.extend_from_slice(&self.clients)?;
         Ok(clients)
     }
