@@ -1,5 +1,5 @@
 //! A node: what can be read of its state, and its steps by subject.
-ghost use Rattle.std.specs.Prelude.{◌≡◌, ◌<◌, IfOk, length, slice_get};
+ghost use Rattle.std.specs.Prelude.{◌≡◌, ◌<◌, ◌≤◌, None, IfOk, length, slice_get};
 ghost use Rattle.link_pool.specs.Turns.{IsTurn};
 ghost use Rattle.link_pool.specs.Streams.{NothingStored, AreStored, RestartStreams};
 ghost use Rattle.node_core.specs.View.{IsView, IsFresh, client_at, links_of};
@@ -146,8 +146,9 @@ impl<S: Drop> NodeCore<S> {
     /// The slot whose turn it is at a database: the first that waits for it, if a link is idle or a
     /// place is free; and none where there is no such database.
     pub fn turn(&self, database: DatabaseNo) -> Option<SlotNo>
-        ensures { database < length self.now.view.pools
+        ensures turn { database < length self.now.view.pools
             → IsTurn database result self.now.view.links }
+        ensures none { length self.now.view.pools ≤ database → result ≡ None }
     {
         if database.get() as usize >= self.pools.len() {
             return None;

@@ -48,11 +48,7 @@ impl<S: Drop> View<S> {
 
     /// What the node is now, in memory that was taken before. It takes more only where that was
     /// taken for fewer slots, or for other pools, than the node has.
-    pub fn fill(
-        alloc: Global,
-        room: ViewRoom,
-        node: &NodeCore<S>,
-    ) -> Result<View<S>, AllocError>
+    pub fn fill(alloc: Global, room: ViewRoom, node: &NodeCore<S>) -> Result<View<S>, AllocError>
         ensures { IfOk result (λ view. view ≡ node.now.view) }
     {
         node.incarnation();
