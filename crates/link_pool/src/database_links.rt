@@ -2,8 +2,6 @@
 ghost use Rattle.std.specs.Prelude.{vec_capacity, ◌≡◌, ◌≢◌, ◌<◌, ◌≤◌, ℕ, [], true, false, Some, IfSome, IfNone, IfOk, length, map, slice_get, option_map, replicate};
 ghost use Rattle.link_pool.specs.declared.entry.Entry.{Entry as EntryOf};
 ghost use Rattle.link_pool.specs.declared.entry.Entry.TheVariants as entry;
-ghost use Rattle.link_pool.specs.PoolStep.{is_idle};
-ghost use Rattle.link_pool.specs.Pool.{is_free};
 ghost use Rattle.link_pool.specs.Stacks.{put_on, top, under_top, all_places};
 ghost use Rattle.link_pool.specs.Entries.{place_of, idle_entry, free_entry, settled, leaving, stored_link, lent, ungiven, put_at, with_entry, freed, new_links, TakesIdle, IsQuarantined};
 
@@ -117,13 +115,14 @@ impl<S: Drop> DatabaseLinks<S> {
         self.idle.last().copied()
     }
 
-    // What is at each place.
-    pub(crate) fn places(&self, alloc: Global) -> Result<Vec<Place>, AllocError>
+    // What is at each place, in memory that was taken before.
+    pub(crate) fn places(&self, room: Vec<Place>) -> Result<Vec<Place>, AllocError>
         ensures { IfOk result (λ places. places.items ≡ map place_of self.now.entries) }
     {
-        let mut places = Vec::with_capacity(alloc, self.entries.len())?;
+        let mut places = room;
+        places.clear();
         for index in 0..self.entries.len() {
-            places.push_reserved(self.entries[index].place());
+            places.push(self.entries[index].place())?;
         }
         Ok(places)
     }
@@ -178,9 +177,10 @@ impl<S: Drop> DatabaseLinks<S> {
         requires not_free { free_entry (slice_get self.old.entries index) ≡ false }
         ensures { self.new ≡ with_entry index entry self.old }
     {
-        let place = entry.place();
+        let (is_idle, is_free) = (entry.is_idle(), entry.is_free());
         self.entries[index as usize] = entry;
-        list(place, index, &mut self.idle, &mut self.free);
+        push_if(&mut self.idle, is_idle, index);
+        push_if(&mut self.free, is_free, index);
     }
 
     // The link of a place, which isn't idle, has these tickets. The stream of a link that leaves
@@ -195,28 +195,20 @@ impl<S: Drop> DatabaseLinks<S> {
     {
         let entry = &mut self.entries[index as usize];
         let stream = entry.settle(hold);
-        let place = entry.place();
-        list(place, index, &mut self.idle, &mut self.free);
+        let (is_idle, is_free) = (entry.is_idle(), entry.is_free());
+        push_if(&mut self.idle, is_idle, index);
+        push_if(&mut self.free, is_free, index);
         stream
     }
 }
 
-// A place is put on a stack, if what is there from now on is free or an idle link.
-fn list(what: Place, index: u16, idle: &mut Vec<u16>, free: &mut Vec<u16>)
-    requires idle { is_idle (Some what) ≡ true → length idle.old.items < vec_capacity idle.old }
-    requires free { is_free (Some what) ≡ true → length free.old.items < vec_capacity free.old }
-    ensures idle { idle.new.items ≡ put_on (is_idle (Some what)) index idle.old.items }
-    ensures idle_capacity { vec_capacity idle.new ≡ vec_capacity idle.old }
-    ensures free { free.new.items ≡ put_on (is_free (Some what)) index free.old.items }
-    ensures free_capacity { vec_capacity free.new ≡ vec_capacity free.old }
+// A place is put on a stack, if it is of the stack's kind.
+fn push_if(stack: &mut Vec<u16>, is_of_kind: bool, index: u16)
+    requires { is_of_kind ≡ true → length stack.old.items < vec_capacity stack.old }
+    ensures places { stack.new.items ≡ put_on is_of_kind index stack.old.items }
+    ensures capacity { vec_capacity stack.new ≡ vec_capacity stack.old }
 {
-    match what {
-        Place::Free => free.push_reserved(index),
-        Place::Link(link) => {
-            if let LinkState::Idle = link.state {
-                idle.push_reserved(index);
-            }
-        }
-        Place::Open(_, _) => {}
+    if is_of_kind {
+        stack.push_reserved(index);
     }
 }

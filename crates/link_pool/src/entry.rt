@@ -1,6 +1,6 @@
 //! What a pool keeps at one place: the link with its stream, where no client has that.
-ghost use Rattle.std.specs.Prelude.{◌≡◌};
-ghost use Rattle.link_pool.specs.Entries.{place_of, claim_of, settled, leaving, stored_link, lent, ungiven};
+ghost use Rattle.std.specs.Prelude.{◌≡◌, Some, None};
+ghost use Rattle.link_pool.specs.Entries.{place_of, claim_of, idle_entry, free_entry, settled, leaving, stored_link, lent, ungiven, IsQuarantined};
 
 use crate::place::{Claim, Link, LinkState, Place};
 use lease::{IdleLink, Lease, LinkPlace, LinkRecord, PermitRecord, QuarantinedLink};
@@ -78,6 +78,31 @@ impl<S: Drop> Entry<S> {
         Place::Link(link)
     }
 
+    // Whether it is an idle link.
+    pub(crate) fn is_idle(&self) -> bool
+        ensures { result ≡ idle_entry (Some self.now) }
+    {
+        match self {
+            Entry::Idle { .. } => true,
+            Entry::Free | Entry::Open { .. } | Entry::Held { .. } | Entry::Quarantined { .. } => {
+                false
+            }
+        }
+    }
+
+    // Whether nothing is there.
+    pub(crate) fn is_free(&self) -> bool
+        ensures { result ≡ free_entry (Some self.now) }
+    {
+        match self {
+            Entry::Free => true,
+            Entry::Open { .. }
+            | Entry::Held { .. }
+            | Entry::Idle { .. }
+            | Entry::Quarantined { .. } => false,
+        }
+    }
+
     // What the client claims that has something here, or gave the link back.
     pub(crate) fn claim(&self, at: &LinkPlace) -> Claim
         ensures { result ≡ claim_of at.now self.now }
@@ -145,21 +170,23 @@ impl<S: Drop> Entry<S> {
         ensures stream { result ≡ leaving to self.old }
         ensures entry { self.new ≡ settled to self.old }
     {
-        match std::mem::replace(self, Entry::Free) {
-            Entry::Held {
-                details,
-                key,
-                hold: _,
-                slot,
-            } => {
-                *self = Entry::Held {
-                    details,
-                    key,
-                    hold: to,
-                    slot,
-                };
+        match self {
+            Entry::Held { hold, .. } => {
+                *hold = to;
                 None
             }
+            Entry::Quarantined { .. } => self.settle_quarantined(to),
+            Entry::Free | Entry::Open { .. } | Entry::Idle { .. } => None,
+        }
+    }
+
+    // The same, of a quarantined link.
+    fn settle_quarantined(&mut self, to: Hold) -> Option<S>
+        requires { IsQuarantined (Some self.old) }
+        ensures stream { result ≡ leaving to self.old }
+        ensures entry { self.new ≡ settled to self.old }
+    {
+        match std::mem::replace(self, Entry::Free) {
             Entry::Quarantined {
                 link,
                 key,

@@ -17,6 +17,7 @@ use crate::database_links::DatabaseLinks;
 use crate::entry::Entry;
 use crate::next_number::NextNumber;
 use crate::place::{Claim, Place};
+use crate::place_room::PlaceRoom;
 use crate::replies::RestartReply;
 use lease::{LinkPlace, PermitRecord};
 use pg_ids::{PeerNo, SlotNo};
@@ -106,23 +107,26 @@ impl<S: Drop> Pool<S> {
         self.incarnation
     }
 
-    /// What is at each place, by database.
-    pub fn places(&self, alloc: Global) -> Result<Vec<Vec<Place>>, AllocError>
+    /// What is at each place, by database, in memory that was taken before.
+    pub fn places(&self, alloc: Global, room: PlaceRoom) -> Result<Vec<Vec<Place>>, AllocError>
         ensures { IfOk result (λ all. map (λ places. places.items) all.items
             ≡ map (λ pool. pool.places) self.now.view.pools) }
     {
-        let mut all = Vec::with_capacity(alloc, self.pools.len())?;
+        let PlaceRoom { mut all, mut rows } = room;
+        all.clear();
         for database in 0..self.pools.len() {
-            all.push_reserved(self.pools[database].places(alloc)?);
+            let row = rows.pop().unwrap_or(Vec::new(alloc));
+            all.push(self.pools[database].places(row)?)?;
         }
         Ok(all)
     }
 
-    /// What each client has, by slot.
-    pub fn claims(&self, alloc: Global) -> Result<Vec<Claim>, AllocError>
+    /// What each client has, by slot, in memory that was taken before.
+    pub fn claims(&self, room: Vec<Claim>) -> Result<Vec<Claim>, AllocError>
         ensures { IfOk result (λ claims. claims.items ≡ self.now.view.claims) }
     {
-        let mut claims = Vec::with_capacity(alloc, self.claims.len())?;
+        let mut claims = room;
+        claims.clear();
         claims.extend_from_slice(&self.claims)?;
         Ok(claims)
     }

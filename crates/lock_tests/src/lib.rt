@@ -18,3 +18,5 @@ mod sums;
 mod threads;
 #[cfg(test)]
 mod turns;
+#[cfg(test)]
+mod wakes;

@@ -4,3 +4,4 @@ pub mod Totals
 pub mod Journal
 pub mod Lock
 pub mod CallerOf
+pub mod Waking

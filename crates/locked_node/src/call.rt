@@ -4,12 +4,14 @@ ghost use Rattle.node_core.specs.declared.exchange.Exchange.{Exchange};
 ghost use Rattle.node_core.specs.NodeStep.{IsStep};
 ghost use Rattle.locked_node.specs.Journal.{Puts};
 ghost use Rattle.locked_node.specs.Totals.{IsCountOf};
+ghost use Rattle.locked_node.specs.Waking.{database_of, woken_by};
 
 use crate::call_note::CallNote;
 use crate::log::Log;
 use node_core::{DatabaseNo, NodeCore};
 
-/// A call of one step, with what it hands in. `S` is the stream of a link.
+/// A call of one step, with what it hands in. `S` is the stream of a link. The eleven steps are all:
+/// outside of this crate `Log` and `CallNote` have no name.
 pub trait Call<S>: Sized {
     /// The step's reply.
     type Reply;
@@ -43,17 +45,17 @@ pub trait Call<S>: Sized {
         ensures step { IsStep (exchange (handed self) result) core.old core.new }
         ensures streams { streams self result core.old.stored core.new.stored };
 
-    /// The database at which the step may make it another client's turn. No clause says so.
-    fn database(&self, core: &NodeCore<S>) -> Option<DatabaseNo> {
-        let _ = core;
-        None
-    }
+    /// The database at which the step may make it another client's turn.
+    fn database(&self, core: &NodeCore<S>) -> Option<DatabaseNo>
+        ensures { (reply : Self.Reply) → result
+            ≡ database_of core.now.view (exchange (handed self.now) reply) };
 
-    /// Puts the call with its reply in a log, and notes what of it is counted, and whom it wakes.
-    /// No clause says whom.
+    /// Puts the call with its reply in a log, and notes what of it is counted, and whom the reply
+    /// alone wakes.
     fn record(details: &Self::Details, reply: &Self::Reply, log: &mut Log, note: &mut CallNote)
         ensures put { Puts log.old (exchange details.now reply.now) log.new }
-        ensures count { IsCountOf (exchange details.now reply.now) note.new };
+        ensures count { IsCountOf (exchange details.now reply.now) note.new }
+        ensures woken { note.new.turn.woken ≡ woken_by (exchange details.now reply.now) };
 
     /// Spends what was handed in, where no call is left.
     fn forfeit(self) -> Self::Reply

@@ -1,5 +1,6 @@
 //! What is noted of a call as it is made.
 ghost use Rattle.std.specs.Prelude.{◌≡◌, []};
+ghost use Rattle.locked_node.specs.declared.turn.Woken.TheVariants.{Nobody};
 
 use crate::call_answer::CallAnswer;
 use crate::call_kind::CallKind;
@@ -35,6 +36,7 @@ impl CallNote {
     pub(crate) fn begin(&mut self, answer: CallAnswer, key: Kind)
         ensures kind { self.new.kind ≡ record { answer = answer; key = key } }
         ensures numbers { self.new.numbers.items ≡ [] }
+        ensures woken { self.new.turn.woken ≡ Nobody }
     {
         self.kind = CallKind { answer, key };
         self.numbers.clear();

@@ -35,7 +35,7 @@ use std::sync::Wait;
 impl<S: Drop> Shared<S> {
     ghost use Rattle.locked_node.specs.Lock.{Counted, Somewhere};
 
-    // Makes a call of any step, and then wakes whoever's turn it is.
+    // Makes a call of any step, and wakes whoever's turn it is as soon as the lock is given back.
     #[inline(always)]
     fn call<R: Wait, C: Call<S>>(&self, rt: &R, caller: &mut Caller<S>, call: C) -> C::Reply
         requires own { caller.old.lock ≡ self.now }
@@ -50,10 +50,9 @@ impl<S: Drop> Shared<S> {
         let mut note = CallNote::new();
         self.take(rt, &mut caller.seat);
         let reply = self.make(&mut caller.seat, call, &mut note);
-        self.give(&mut caller.seat);
+        self.pass_on(rt, &mut caller.seat, &note.turn);
         caller.allowance -= 1;
         caller.tally.add(&note);
-        self.wake(rt, caller, &note.turn);
         reply
     }
 

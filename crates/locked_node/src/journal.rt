@@ -37,6 +37,7 @@ impl<S: Drop> Journal<S> {
     ghost use Rattle.locked_node.specs.Journal.{CALL_LIMIT, TAIL_LIMIT};
     ghost use Rattle.locked_node.specs.Replay.{Replay};
     ghost use Rattle.locked_node.specs.Totals.{IsEmpty, IsCountOf, calls_at, all_calls};
+    ghost use Rattle.locked_node.specs.Waking.{Wakes, woken_by, database_of};
 
     /// The journal of a node that begins with its state. It takes all the memory that it needs.
     pub fn new(alloc: Global, core: NodeCore<S>) -> Result<Journal<S>, AllocError>
@@ -103,6 +104,9 @@ impl<S: Drop> Journal<S> {
             (journal_view self.new) }
         ensures streams { C.streams call result self.old.stored self.new.stored }
         ensures count { IsCountOf (C.exchange (C.handed call) result) note.new }
+        ensures turn { Wakes (woken_by (C.exchange (C.handed call) result))
+            (database_of self.old.view (C.exchange (C.handed call) result)) note.new.turn
+            self.new.view }
     {
         self.core.incarnation();
         let details = call.details();

@@ -2,7 +2,7 @@
 use crate::call::Call;
 use crate::call_note::CallNote;
 use crate::journal::Journal;
-use node_core::View;
+use node_core::{View, ViewRoom};
 use std::alloc::{AllocError, Global};
 use std::marker::Model;
 
@@ -41,12 +41,12 @@ impl<S: Drop> Locked<S> {
         self.journal.make(call, note)
     }
 
-    /// What the node is.
-    pub(crate) fn copy(&self, alloc: Global) -> Result<View<S>, AllocError>
+    /// What the node is, in memory that was taken before.
+    pub(crate) fn copy(&self, alloc: Global, room: ViewRoom) -> Result<View<S>, AllocError>
         ensures view { IfOk result (λ view. view ≡ self.now.view) }
         ensures whole { IsView self.now.view }
         ensures numbers { CountsWithin (calls_at self.now.log.totals) self.now.view }
     {
-        View::of(alloc, self.journal.view())
+        View::fill(alloc, room, self.journal.view())
     }
 }

@@ -12,9 +12,10 @@ use crate::journal::Journal;
 use crate::locked::Locked;
 use crate::log::MOST;
 use crate::rule::{Both, Give, Hand, Look, Place, Return, Rule, Share, Take};
+use crate::turn::Turn;
 use atomic_table::Table;
 use crossbeam_utils::Backoff;
-use node_core::View;
+use node_core::{View, ViewRoom};
 use std::alloc::{AllocError, Global};
 use std::marker::Model;
 use std::snapshot::Snapshot;
@@ -33,10 +34,18 @@ const AWAITED: u64 = 2;
 // one may make several calls.
 const LOOKS: u32 = 6;
 
+/// The place of the first slot's word among the table's. The lock's word comes first, and has a
+/// cache line of its own: a client that sleeps or is woken takes no line from whoever calls.
+pub(crate) const FIRST_SLOT: usize = 8;
+
 /// A node with its journal, behind a lock.
 #[derive(Drop)]
 pub struct Shared<S> {
     pub(crate) table: Table<Locked<S>, Share, Snapshot<Locked<S>>, Rule, Global>,
+    // What a copy of the node needs, which no step changes: how many slots it has, and the pool
+    // size of each database.
+    slots: usize,
+    pool_sizes: Vec<u16>,
 }
 
 impl<S> Model for Shared<S> {
@@ -73,12 +82,15 @@ impl<S: Drop> Shared<S> {
     {
         let tally = *journal.totals();
         let allowance = journal.calls_left();
-        let words = vec![in alloc; FREE; 1 + journal.view().slots()]?;
+        let slots = journal.view().slots();
+        let mut pool_sizes = Vec::new(alloc);
+        pool_sizes.extend_from_slice(journal.view().pool_sizes())?;
+        let words = vec![in alloc; FREE; FIRST_SLOT + slots]?;
         let locked = Locked { journal };
         let start = Snapshot::of(&locked);
-        let mut slots = Vec::with_capacity(alloc, 1)?;
-        slots.push(locked)?;
-        let Ok((table, seat)) = Table::new(alloc, &words, slots, &start) else {
+        let mut only = Vec::with_capacity(alloc, 1)?;
+        only.push(locked)?;
+        let Ok((table, seat)) = Table::new(alloc, &words, only, &start) else {
             return Err(AllocError);
         };
         let first = Caller {
@@ -86,7 +98,12 @@ impl<S: Drop> Shared<S> {
             allowance,
             tally,
         };
-        Ok((Shared { table }, first))
+        let shared = Shared {
+            table,
+            slots,
+            pool_sizes,
+        };
+        Ok((shared, first))
     }
 
     /// The journal, at the end. If all callers were joined to this one, its totals are the
@@ -122,7 +139,11 @@ impl<S: Drop> Shared<S> {
             → IsWhole caller (journal_view result.0) }
         ensures among { result.1 ≡ true → IsAmong caller result.0.log }
     {
-        let Shared { table } = self;
+        let Shared {
+            table,
+            slots: _,
+            pool_sizes: _,
+        } = self;
         let Caller {
             seat,
             allowance: _,
@@ -260,9 +281,21 @@ impl<S: Drop> Shared<S> {
         seat.slot_mut(&self.table.shared, 0).make(call, note)
     }
 
+    // Gives the lock back, with one call more in the journal, and wakes whoever the call wakes.
+    #[inline(always)]
+    pub(crate) fn pass_on<R: Wait>(&self, rt: &R, seat: &mut Place<S>, turn: &Turn)
+        requires own { seat.old.table_id ≡ self.now }
+        requires called { Called seat.old.me }
+        ensures own { seat.new.table_id ≡ seat.old.table_id }
+        ensures given { Given seat.old.me seat.new.me }
+    {
+        self.give(seat);
+        self.wake(rt, seat, turn);
+    }
+
     // Gives the lock back, with one call more in the journal.
     #[inline(always)]
-    pub(crate) fn give(&self, seat: &mut Place<S>)
+    fn give(&self, seat: &mut Place<S>)
         requires own { seat.old.table_id ≡ self.now }
         requires called { Called seat.old.me }
         ensures own { seat.new.table_id ≡ seat.old.table_id }
@@ -274,15 +307,20 @@ impl<S: Drop> Shared<S> {
         }
     }
 
-    // What the node is that the seat has found.
-    fn copy(&self, alloc: Global, seat: &mut Place<S>) -> Result<View<S>, AllocError>
+    // What the node is that the seat has found, in memory that was taken before.
+    fn copy(
+        &self,
+        alloc: Global,
+        room: ViewRoom,
+        seat: &mut Place<S>,
+    ) -> Result<View<S>, AllocError>
         requires own { seat.old.table_id ≡ self.now }
         requires found { IsFound seat.old.me }
         ensures own { seat.new.table_id ≡ seat.old.table_id }
         ensures same { seat.new.me ≡ seat.old.me }
         ensures view { IfOk result (λ view. IsCopy seat.old.me view) }
     {
-        seat.slot_mut(&self.table.shared, 0).copy(alloc)
+        seat.slot_mut(&self.table.shared, 0).copy(alloc, room)
     }
 
     // Gives the lock back, with the journal as it was found.
@@ -300,8 +338,9 @@ impl<S: Drop> Shared<S> {
 
     /// What the node is at one moment between the calls of all callers: a view of this node, whose
     /// incarnation and next numbers are at least the counts of the calls that this caller made. It
-    /// is no call itself: it isn't counted, and needs no allowance. The node is copied under the
-    /// lock, so the work there grows with its slots and places.
+    /// is no call itself: it isn't counted, and needs no allowance. The memory for the copy is taken
+    /// before the lock is, and filled under it, so the work there grows with the node's slots and
+    /// places.
     pub fn copy_view<R: Wait>(
         &self,
         rt: &R,
@@ -314,8 +353,9 @@ impl<S: Drop> Shared<S> {
         ensures numbers { IfOk result (λ view. CountsWithin (calls_at caller.old.tally) view) }
         ensures same { caller.new ≡ caller.old }
     {
+        let room = ViewRoom::new(alloc, self.slots, self.pool_sizes.as_slice())?;
         self.take(rt, &mut caller.seat);
-        let view = self.copy(alloc, &mut caller.seat);
+        let view = self.copy(alloc, room, &mut caller.seat);
         self.put_back(&mut caller.seat);
         view
     }

@@ -1,4 +1,6 @@
 //! Whom a step wakes.
+ghost use Rattle.locked_node.specs.Waking.{Wakes, WokenAt};
+
 use node_core::{DatabaseNo, NodeCore};
 use pg_ids::SlotNo;
 
@@ -23,12 +25,26 @@ pub(crate) struct Turn {
 impl Turn {
     // A step was made, which may have made it another client's turn at a database.
     #[inline(always)]
-    pub(crate) fn pass_on<S: Drop>(&mut self, core: &NodeCore<S>, database: Option<DatabaseNo>) {
+    pub(crate) fn pass_on<S: Drop>(&mut self, core: &NodeCore<S>, database: Option<DatabaseNo>)
+        ensures { Wakes self.old.woken database self.new core.now.view }
+    {
         self.incarnation = core.incarnation();
-        if let (Woken::Nobody, Some(database)) = (self.woken, database) {
-            if let Some(slot) = core.turn(database) {
-                self.woken = Woken::One(slot);
-            }
+        if let Woken::Nobody = self.woken {
+            self.woken = turn_at(core, database);
         }
+    }
+}
+
+// The client whose turn it is at a database.
+#[inline(always)]
+fn turn_at<S: Drop>(core: &NodeCore<S>, database: Option<DatabaseNo>) -> Woken
+    ensures { WokenAt database result core.now.view }
+{
+    let Some(database) = database else {
+        return Woken::Nobody;
+    };
+    match core.turn(database) {
+        Some(slot) => Woken::One(slot),
+        None => Woken::Nobody,
     }
 }

@@ -8,7 +8,7 @@ ghost use Rattle.std.specs.Prelude.{◌≡◌, ◌≢◌, ◌<◌, IfSome};
 
 use crate::caller::Caller;
 use crate::rule::{Place, Rest};
-use crate::shared::Shared;
+use crate::shared::{FIRST_SLOT, Shared};
 use crate::turn::{Turn, Woken};
 use lease::Pass;
 use pg_ids::SlotNo;
@@ -36,7 +36,7 @@ impl<S: Drop> Shared<S> {
     fn slot_word(&self, slot: SlotNo) -> Option<usize>
         ensures { IfSome result (λ word. (word ≢ 0) × (word < self.now.words)) }
     {
-        let word = 1 + slot.get() as usize;
+        let word = FIRST_SLOT + slot.get() as usize;
         if word < self.table.word_count() {
             Some(word)
         } else {
@@ -84,14 +84,15 @@ impl<S: Drop> Shared<S> {
     }
 
     // Wakes whoever a step wakes.
-    pub(crate) fn wake<R: Wait>(&self, rt: &R, caller: &mut Caller<S>, turn: &Turn)
-        requires own { caller.old.lock ≡ self.now }
-        ensures same { caller.new ≡ caller.old }
+    pub(crate) fn wake<R: Wait>(&self, rt: &R, seat: &mut Place<S>, turn: &Turn)
+        requires own { seat.old.table_id ≡ self.now }
+        ensures own { seat.new.table_id ≡ seat.old.table_id }
+        ensures same { seat.new.me ≡ seat.old.me }
     {
         match turn.woken {
             Woken::Nobody => {}
-            Woken::One(slot) => self.wake_slot(rt, &mut caller.seat, turn.incarnation, slot),
-            Woken::All => self.wake_every(rt, &mut caller.seat, turn.incarnation),
+            Woken::One(slot) => self.wake_slot(rt, seat, turn.incarnation, slot),
+            Woken::All => self.wake_every(rt, seat, turn.incarnation),
         }
     }
 

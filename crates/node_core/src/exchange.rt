@@ -15,7 +15,7 @@ pub enum LeaveReply<P> {
     Left,
     /// The client holds a link or a permit for one, so it stays.
     Holding(P),
-    /// The pass is of another incarnation or another node, so nothing changes.
+    /// The pass is of another incarnation or another node, or isn't its slot's, so nothing changes.
     Stale,
     /// No number is left for a step, so nothing changes, and the pass is spent.
     Exhausted,

@@ -8,6 +8,7 @@ mod exchange;
 mod node;
 mod refusal;
 mod view;
+mod view_room;
 
 pub use client::Client;
 pub use exchange::{Exchange, LeaveReply, Order};
@@ -22,3 +23,4 @@ pub use node::NodeCore;
 pub use pg_ids::DatabaseNo;
 pub use refusal::{CancelRefusal, JoinRefusal, StepRefusal};
 pub use view::View;
+pub use view_room::ViewRoom;

@@ -1,5 +1,5 @@
 //! A node: what can be read of its state, and its steps by subject.
-ghost use Rattle.std.specs.Prelude.{◌≡◌, ◌<◌, IfOk, length, slice_get};
+ghost use Rattle.std.specs.Prelude.{◌≡◌, ◌<◌, ◌≤◌, None, IfOk, length, slice_get};
 ghost use Rattle.link_pool.specs.Turns.{IsTurn};
 ghost use Rattle.link_pool.specs.Streams.{NothingStored, AreStored, RestartStreams};
 ghost use Rattle.node_core.specs.View.{IsView, IsFresh, client_at, links_of};
@@ -130,11 +130,15 @@ impl<S: Drop> NodeCore<S> {
         self.clients.get(slot.get() as usize).copied().flatten()
     }
 
-    // The client of each live slot, by slot.
-    pub(crate) fn clients(&self, alloc: Global) -> Result<Vec<Option<Client>>, AllocError>
+    // The client of each live slot, by slot, in memory that was taken before.
+    pub(crate) fn clients(
+        &self,
+        room: Vec<Option<Client>>,
+    ) -> Result<Vec<Option<Client>>, AllocError>
         ensures { IfOk result (λ clients. clients.items ≡ self.now.view.clients) }
     {
-        let mut clients = Vec::with_capacity(alloc, self.clients.len())?;
+        let mut clients = room;
+        clients.clear();
         clients.extend_from_slice(&self.clients)?;
         Ok(clients)
     }
@@ -142,8 +146,9 @@ impl<S: Drop> NodeCore<S> {
     /// The slot whose turn it is at a database: the first that waits for it, if a link is idle or a
     /// place is free; and none where there is no such database.
     pub fn turn(&self, database: DatabaseNo) -> Option<SlotNo>
-        ensures { database < length self.now.view.pools
+        ensures turn { database < length self.now.view.pools
             → IsTurn database result self.now.view.links }
+        ensures none { length self.now.view.pools ≤ database → result ≡ None }
     {
         if database.get() as usize >= self.pools.len() {
             return None;

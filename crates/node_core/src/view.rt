@@ -5,6 +5,7 @@ ghost use Rattle.node_core.specs.View.{IsView};
 
 use crate::client::Client;
 use crate::node::NodeCore;
+use crate::view_room::ViewRoom;
 use lease::LinkPlace;
 use link_pool::{Claim, Place};
 use std::alloc::{AllocError, Global};
@@ -37,18 +38,31 @@ impl<S> Model for View<S> {
 }
 
 impl<S: Drop> View<S> {
-    /// What the node is now. This is the one call of a node that takes memory, and it takes as much
-    /// as the node has slots and places.
+    /// What the node is now, in memory that is taken for it.
     pub fn of(alloc: Global, node: &NodeCore<S>) -> Result<View<S>, AllocError>
         ensures { IfOk result (λ view. view ≡ node.now.view) }
     {
+        let room = ViewRoom::new(alloc, node.slots(), node.pool_sizes())?;
+        View::fill(alloc, room, node)
+    }
+
+    /// What the node is now, in memory that was taken before. It takes more only where that was
+    /// taken for fewer slots, or for other pools, than the node has.
+    pub fn fill(alloc: Global, room: ViewRoom, node: &NodeCore<S>) -> Result<View<S>, AllocError>
+        ensures { IfOk result (λ view. view ≡ node.now.view) }
+    {
         node.incarnation();
+        let ViewRoom {
+            clients,
+            claims,
+            places,
+        } = room;
         let links = node.links();
         Ok(View {
             node: Snapshot::of(node),
-            clients: node.clients(alloc)?,
-            claims: links.claims(alloc)?,
-            places: links.places(alloc)?,
+            clients: node.clients(clients)?,
+            claims: links.claims(claims)?,
+            places: links.places(alloc, places)?,
         })
     }
 

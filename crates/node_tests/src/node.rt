@@ -10,6 +10,7 @@ mod cancels;
 mod desk;
 mod links;
 mod logins;
+mod many_databases;
 mod quarantined;
 mod restarts;
 mod rounds;

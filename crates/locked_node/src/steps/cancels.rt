@@ -47,6 +47,11 @@ impl<S: Drop> Call<S> for Cancel {
     }
 
     #[inline(always)]
+    fn database(&self, _core: &NodeCore<S>) -> Option<DatabaseNo> {
+        None
+    }
+
+    #[inline(always)]
     fn record(details: &Self::Details, reply: &Self::Reply, log: &mut Log, note: &mut CallNote) {
         let key = details.kind();
         match reply {

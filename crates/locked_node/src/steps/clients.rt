@@ -5,6 +5,10 @@ ghost use Rattle.link_pool.specs.Streams.{AcquireStreams};
 ghost use Rattle.link_pool.specs.declared.replies.AcquireReply.TheVariants as acquire;
 ghost use Rattle.locked_node.specs.Journal.{Puts};
 ghost use Rattle.locked_node.specs.Totals.{IsCountOf};
+ghost use Rattle.locked_node.specs.Waking.{database_at, database_of, woken_by};
+ghost use Rattle.lease.specs.LinkValue.{LinkValue};
+ghost use Rattle.lease.specs.declared.permit.PermitRecord.{PermitRecord as PermitRecordOf};
+ghost use Rattle.link_pool.specs.declared.replies.AcquireReply.{AcquireReply as AcquireReplyOf};
 ghost use Rattle.node_core.specs.declared.exchange.Exchange.TheVariants as call;
 ghost use Rattle.node_core.specs.declared.exchange.LeaveReply.TheVariants as leave;
 ghost use Rattle.node_core.specs.declared.refusal.JoinRefusal.TheVariants as join;
@@ -22,7 +26,9 @@ use pg_ids::{Kind, Secret};
 
 // The database of the client of a pass, whether that is stale or not.
 #[inline(always)]
-fn client_database<S: Drop>(core: &NodeCore<S>, pass: &Pass) -> Option<DatabaseNo> {
+fn client_database<S: Drop>(core: &NodeCore<S>, pass: &Pass) -> Option<DatabaseNo>
+    ensures { result ≡ database_at core.now.view pass.now }
+{
     match core.client(pass.details().key.slot()) {
         Some(client) => Some(client.database),
         None => None,
@@ -54,6 +60,11 @@ impl<S: Drop> Call<S> for Join {
     #[inline(always)]
     fn make(self, core: &mut NodeCore<S>) -> Self::Reply {
         core.join(self.0, self.1, self.2)
+    }
+
+    #[inline(always)]
+    fn database(&self, _core: &NodeCore<S>) -> Option<DatabaseNo> {
+        None
     }
 
     #[inline(always)]
@@ -175,7 +186,10 @@ impl<S: Drop> Call<S> for Acquire<'_> {
     }
 
     #[inline(always)]
-    fn database(&self, core: &NodeCore<S>) -> Option<DatabaseNo> {
+    fn database(&self, core: &NodeCore<S>) -> Option<DatabaseNo>
+        ensures { (reply : AcquireReplyOf (LinkValue S) PermitRecordOf) → result
+            ≡ database_of core.now.view (call.Acquire self.now.0.now (acquire_said reply)) }
+    {
         client_database(core, self.0)
     }
 
@@ -183,6 +197,8 @@ impl<S: Drop> Call<S> for Acquire<'_> {
     fn record(details: &Self::Details, reply: &Self::Reply, log: &mut Log, note: &mut CallNote)
         ensures put { Puts log.old (call.Acquire details.now (acquire_said reply.now)) log.new }
         ensures count { IsCountOf (call.Acquire details.now (acquire_said reply.now)) note.new }
+        ensures woken { note.new.turn.woken
+            ≡ woken_by (call.Acquire details.now (acquire_said reply.now)) }
     {
         let (answer, said) = match reply {
             AcquireReply::Got(lease) => (

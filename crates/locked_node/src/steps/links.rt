@@ -46,6 +46,11 @@ impl<S: Drop> Call<S> for Up<S> {
     }
 
     #[inline(always)]
+    fn database(&self, _core: &NodeCore<S>) -> Option<DatabaseNo> {
+        None
+    }
+
+    #[inline(always)]
     fn record(details: &Self::Details, reply: &Self::Reply, log: &mut Log, note: &mut CallNote) {
         let (permit, key) = details;
         match reply {

@@ -8,7 +8,7 @@ use crate::call_answer::CallAnswer;
 use crate::call_note::CallNote;
 use crate::log::Log;
 use crate::turn::Woken;
-use node_core::{Exchange, NodeCore, RestartReply};
+use node_core::{DatabaseNo, Exchange, NodeCore, RestartReply};
 use pg_ids::{Boot, Kind};
 
 /// A new start, with this boot.
@@ -36,6 +36,11 @@ impl<S: Drop> Call<S> for Restart {
     #[inline(always)]
     fn make(self, core: &mut NodeCore<S>) -> Self::Reply {
         core.restart(self.0)
+    }
+
+    #[inline(always)]
+    fn database(&self, _core: &NodeCore<S>) -> Option<DatabaseNo> {
+        None
     }
 
     #[inline(always)]

@@ -1,11 +1,9 @@
-use Rattle.std.proofs.Common.{◌≡◌, ◌≤◌, length, map, take, vec_capacity, vec_len}
+use Rattle.std.proofs.Common.{◌≡◌, map, take}
 use Rattle.link_pool.specs.Entries.{place_of}
 use Rattle.link_pool.proofs.database_links.DatabaseLinks.places.Given as goal
 
 -- the places so far are those of the entries so far
 abbrev pub invariant-loop-index : goal.invariant-loop-index
 invariant-loop-index g l = record {
-  room : length l.self-inside.entries.items ≤ vec_capacity l.places;
-  count : vec_len l.places ≡ l.index;
   made : l.places.items ≡ map place_of (take l.index l.self-inside.entries.items);
 }

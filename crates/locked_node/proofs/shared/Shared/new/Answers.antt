@@ -19,7 +19,7 @@ new-requires g c =
     let is : all_calls start.log.totals ≡ all_calls c.args.journal.log.totals = ap (λ (j : JournalView). all_calls j.log.totals) c.of-start.ensures in
     let room : all_calls start.log.totals ≤ CALL_LIMIT = omega (arith, left, is) in
     let there : start ∷ [] ≡ c.push.new.self.items = search rules in
-    let many : ℕ = 1 + c.slots.result in
+    let many : ℕ = 8 + c.slots-slots.result in
     let words : c.deref.result.now ≡ replicate many 0 = search rules in
     subst (λ (w : List ℕ). IsLocked start (opening w c.push.new.self.items (first_share start))) (sym words)
     (subst (λ (l : List JournalView). IsLocked start (opening (replicate many 0) l (first_share start))) there
