@@ -29,4 +29,6 @@ mod queues;
 #[cfg(test)]
 mod routes;
 #[cfg(test)]
+mod settings;
+#[cfg(test)]
 mod stand_in;
