@@ -6,7 +6,7 @@ use crate::calls::calls_of;
 use crate::line::{Dials, Failing, Fault, Line, Side, Stage};
 use crate::shown::{assert_nothing_held, assert_words};
 use crate::stories::{ANSWERS, ANSWERS_LAST, ASKS_LAST, STORIES, Story};
-use crate::story::{Others, calling, visit, visit_all};
+use crate::story::{NODE, Others, calling, visit, visit_all};
 use crate::together::SEED;
 use locked_node::{CallAnswer, Caller};
 use node_threads::{Calling, Link, Open};
@@ -15,20 +15,6 @@ use std::alloc::Global;
 use std::process::Abort;
 use std::sync::{Arc, Wait};
 use std::test::Fail;
-
-// Node 2, with one link and one slot.
-const NODE: &str = "[pgbouncer]
-pool_mode = transaction
-auth_type = trust
-listen_addr = 127.0.0.1
-peer_id = 2
-default_pool_size = 1
-max_client_conn = 1
-[databases]
-plain = host=127.0.0.1 port=5432 user=plain
-[peers]
-3 = host=127.0.0.1 port=6433
-";
 
 // More calls than any story has.
 const CALLS: usize = 1_000;

@@ -9,26 +9,13 @@
 //! serial behind it.
 use crate::log::Event;
 use crate::messages::{IDLE, LOGIN, QUERY, ROW, STARTUP, TERMINATE, WELCOME};
+use crate::story::NODE;
 use crate::talk::Turn;
 use crate::together::{NOBODY, Story, Visits, assert_played};
 use locked_node::CallAnswer;
 use node_threads::Point;
 use startup::Packet;
 use std::test::Fail;
-
-// Node 2, with one link and one slot.
-const NODE: &str = "[pgbouncer]
-pool_mode = transaction
-auth_type = trust
-listen_addr = 127.0.0.1
-peer_id = 2
-default_pool_size = 1
-max_client_conn = 1
-[databases]
-plain = host=127.0.0.1 port=5432 user=plain
-[peers]
-3 = host=127.0.0.1 port=6433
-";
 
 // The StartupMessage of the protocol with long keys.
 const LONG_STARTUP: &[u8] = b"\0\0\0\x23\0\x03\0\x02user\0plain\0database\0plain\0\0";
@@ -98,14 +85,17 @@ const LONG_KEYS: Story = Story {
     others: Visits {
         clients: &[
             &[Turn::Gives(
-                b"\0\0\0\x20\x04\xd2\x16\x2e\0\x08\0\x03\x45\xd6\xc9\x53\0\0\0\x07\0\0\0\0\0\0\0\0\0\0\0\0",
+                b"\0\0\0\x20\x04\xd2\x16\x2e\0\x08\0\x03\x45\xd6\xc9\x53\
+                    \0\0\0\x07\0\0\0\0\0\0\0\0\0\0\0\0",
             )],
             &[Turn::Gives(b"\0\0\0\x10\x04\xd2\x16\x2e\0\x08\0\x03\x45\xd6\xc9\x53")],
             &[Turn::Gives(
-                b"\0\0\0\x20\x04\xd2\x16\x2e\0\x08\0\x03\x45\xd6\xc9\x53\0\0\0\x07\0\0\0\0\0\0\0\0\0\0\0\x01",
+                b"\0\0\0\x20\x04\xd2\x16\x2e\0\x08\0\x03\x45\xd6\xc9\x53\
+                    \0\0\0\x07\0\0\0\0\0\0\0\0\0\0\0\x01",
             )],
             &[Turn::Gives(
-                b"\0\0\0\x20\x04\xd2\x16\x2e\0\x08\0\x03\x45\xd6\xc9\x53\0\0\0\x06\0\0\0\0\0\0\0\0\0\0\0\0",
+                b"\0\0\0\x20\x04\xd2\x16\x2e\0\x08\0\x03\x45\xd6\xc9\x53\
+                    \0\0\0\x06\0\0\0\0\0\0\0\0\0\0\0\0",
             )],
         ],
         servers: &[&[Turn::Takes(CANCEL)]],
@@ -124,10 +114,12 @@ const FORWARDED: Story = Story {
     settings: NODE,
     first: Visits {
         clients: &[&[Turn::Gives(
-            b"\0\0\0\x20\x04\xd2\x16\x2e\0\x0c\0\x01\x02\x03\x04\x07\x11\x12\x13\x14\x15\x16\x17\x18\x19\x1a\x1b\x1c\x1d\x1e\x1f\x20",
+            b"\0\0\0\x20\x04\xd2\x16\x2e\0\x0c\0\x01\x02\x03\x04\x07\
+                \x11\x12\x13\x14\x15\x16\x17\x18\x19\x1a\x1b\x1c\x1d\x1e\x1f\x20",
         )]],
         servers: &[&[Turn::Takes(
-            b"\0\0\0\x20\x04\xd2\x16\x2e\0\x0c\0\x01\x02\x03\x04\x06\x11\x12\x13\x14\x15\x16\x17\x18\x19\x1a\x1b\x1c\x1d\x1e\x1f\x20",
+            b"\0\0\0\x20\x04\xd2\x16\x2e\0\x0c\0\x01\x02\x03\x04\x06\
+                \x11\x12\x13\x14\x15\x16\x17\x18\x19\x1a\x1b\x1c\x1d\x1e\x1f\x20",
         )]],
         calls: &[(CallAnswer::Forwarded, 1)],
         events: None,

@@ -1,34 +1,12 @@
 //! In which order a session comes by its link, uses it and hands it in, and who gets none.
 use crate::log::Event;
 use crate::messages::{IDLE, LOGIN, QUERY, ROW, STARTUP, TERMINATE, WELCOME};
+use crate::story::{NODE, TWO_SLOTS};
 use crate::talk::Turn;
 use crate::together::{NOBODY, Story, Visits, assert_played};
 use locked_node::CallAnswer;
 use node_threads::Point;
 use std::test::Fail;
-
-// Nodes with one link, and with one slot or two.
-const ONE_SLOT: &str = "[pgbouncer]
-pool_mode = transaction
-auth_type = trust
-listen_addr = 127.0.0.1
-peer_id = 2
-default_pool_size = 1
-max_client_conn = 1
-[databases]
-plain = host=127.0.0.1 port=5432 user=plain
-";
-
-const TWO_SLOTS: &str = "[pgbouncer]
-pool_mode = transaction
-auth_type = trust
-listen_addr = 127.0.0.1
-peer_id = 2
-default_pool_size = 1
-max_client_conn = 2
-[databases]
-plain = host=127.0.0.1 port=5432 user=plain
-";
 
 const PLAIN: u8 = 0;
 
@@ -95,7 +73,7 @@ const ANSWERS_AND_MORE: &[Turn] = &[
 // Clients come, one after another. The first link of the pool is as it was left, or isn't.
 const fn alone(first: Visits, is_quiet: bool) -> Story {
     Story {
-        settings: ONE_SLOT,
+        settings: NODE,
         first,
         is_quiet,
         others: NOBODY,
@@ -258,7 +236,7 @@ fn turns_on_links(rt: HostRuntime) -> Result<(), Fail> {
 
 #[test]
 fn clients_without_a_link(rt: HostRuntime) -> Result<(), Fail> {
-    let stories = [beside(ONE_SLOT, FULL, false), beside(TWO_SLOTS, GONE, true)];
+    let stories = [beside(NODE, FULL, false), beside(TWO_SLOTS, GONE, true)];
     for story in &stories {
         assert_played(&rt, rt.alloc(), story)?;
     }

@@ -6,7 +6,7 @@ use crate::gates::{Asking, Marks, sees};
 use crate::messages::{IDLE, LOGIN, QUERY, ROW, STARTUP, TERMINATE, WELCOME};
 use crate::shown::{CONSOLE, SHOW_CLIENTS};
 use crate::stays::{Wire, reads};
-use crate::story::calling;
+use crate::story::{TWO_SLOTS, calling};
 use crate::talk::Turn;
 use crate::together::SEED;
 use crate::tracked::{Dialer, Talk, Tracker};
@@ -22,18 +22,6 @@ use std::test::Fail;
 use std::thread::Threads;
 use std::time::{Clock, Duration};
 use std::{io, thread};
-
-// Node 2, with one link and two slots.
-const NODE: &str = "[pgbouncer]
-pool_mode = transaction
-auth_type = trust
-listen_addr = 127.0.0.1
-peer_id = 2
-default_pool_size = 1
-max_client_conn = 2
-[databases]
-plain = host=127.0.0.1 port=5432 user=plain
-";
 
 // The keys of the first client and of the second, as in `keys`, the second at slot 1.
 const FIRST: &[u8] = b"K\0\0\0\x0c\0\x08\0\x03\x45\xd6\xc9\x53";
@@ -278,7 +266,7 @@ fn cancel_one<R: Threads + Wait + Clock + Sync + Abort>(
         waits: IS_CANCELLED,
         is_cancelled: true,
     };
-    let first = calling(alloc, NODE, SEED, Boot(9))?;
+    let first = calling(alloc, TWO_SLOTS, SEED, Boot(9))?;
     let early = cancelled_of(rt, scene, first);
     assert_done(rt, &tracker);
     Ok(early)
@@ -345,7 +333,7 @@ fn others_are_let_in_after_a_queue(rt: HostRuntime) -> Result<(), Fail> {
         waits: IS_SERVED,
         is_cancelled: false,
     };
-    let first = calling(rt.alloc(), NODE, SEED, Boot(9))?;
+    let first = calling(rt.alloc(), TWO_SLOTS, SEED, Boot(9))?;
     come_later(&rt, scene, first);
     assert_done(&rt, &tracker);
     Ok(())
