@@ -1,6 +1,8 @@
 //! In which order a session comes by its link, uses it and hands it in, and who gets none.
 use crate::log::Event;
-use crate::messages::{IDLE, LOGIN, QUERY, ROW, STARTUP, TERMINATE, WELCOME};
+use crate::messages::{
+    IDLE, LOGIN, QUERY, ROW, SERVES_ONE, STARTUP, TERMINATE, WELCOME, asks,
+};
 use crate::story::{NODE, TWO_SLOTS};
 use crate::talk::Turn;
 use crate::together::{NOBODY, Story, Visits, assert_played};
@@ -15,25 +17,8 @@ const COMES: Turn = Turn::Gives(STARTUP);
 // BackendKeyData, for any key.
 const KEY: Turn = Turn::Takes(b"K\0\0\0\x0c\0\x08\0\x03\x45\xd6\xc9\x53");
 
-// A client that asks once, and its server.
-const ASKS: &[Turn] = &[
-    COMES,
-    Turn::Takes(WELCOME),
-    KEY,
-    Turn::Takes(IDLE),
-    Turn::Gives(QUERY),
-    Turn::Takes(ROW),
-    Turn::Takes(IDLE),
-    Turn::Gives(TERMINATE),
-];
-
-const ANSWERS: &[Turn] = &[
-    Turn::Takes(STARTUP),
-    Turn::Gives(LOGIN),
-    Turn::Takes(QUERY),
-    Turn::Gives(ROW),
-    Turn::Gives(IDLE),
-];
+// A client that asks once.
+const ASKS: &[Turn] = asks![COMES; KEY];
 
 // A client that asks twice, and a server that answers both queries.
 const ASKS_TWICE: &[Turn] = &[
@@ -112,7 +97,7 @@ const QUIET: Visits = Visits {
 // another.
 const DISTURBED: Visits = Visits {
     clients: &[ASKS_TWICE],
-    servers: &[ANSWERS, ANSWERS],
+    servers: &[SERVES_ONE, SERVES_ONE],
     calls: &[
         (CallAnswer::AcquireOpen, 2),
         (CallAnswer::AcquireGot, 1),
@@ -178,7 +163,7 @@ const fn beside(settings: &'static str, others: Visits, are_gone: bool) -> Story
         settings,
         first: Visits {
             clients: &[ASKS],
-            servers: &[ANSWERS],
+            servers: &[SERVES_ONE],
             calls: &[(CallAnswer::ReleasedIdle, 1)],
             events: None,
         },

@@ -3,7 +3,9 @@ ghost use Rattle.std.specs.Thread.{IsSync};
 
 use crate::calls::calls_of;
 use crate::gates::{Asking, Marks, sees};
-use crate::messages::{IDLE, LOGIN, QUERY, ROW, STARTUP, TERMINATE, WELCOME};
+use crate::messages::{
+    IDLE, LOGIN, QUERY, ROW, SERVES_ONE, STARTUP, TERMINATE, WELCOME, asks,
+};
 use crate::shown::{CONSOLE, SHOW_CLIENTS};
 use crate::stays::{Wire, reads};
 use crate::story::{TWO_SLOTS, calling};
@@ -31,16 +33,7 @@ const SECOND: &[u8] = b"K\0\0\0\x0c\0\x08\0\x04\x5f\x61\x95\x33";
 const CANCEL: &[Turn] = &[Turn::Gives(b"\0\0\0\x10\x04\xd2\x16\x2e\0\x08\0\x04\x5f\x61\x95\x33")];
 
 // A client that keeps the link for a while.
-const KEEPS: &[Turn] = &[
-    Turn::Gives(STARTUP),
-    Turn::Takes(WELCOME),
-    Turn::Takes(FIRST),
-    Turn::Takes(IDLE),
-    Turn::Gives(QUERY),
-    Turn::Takes(ROW),
-    Turn::Takes(IDLE),
-    Turn::Gives(TERMINATE),
-];
+const KEEPS: &[Turn] = asks![Turn::Gives(STARTUP); Turn::Takes(FIRST)];
 
 // One that waits meanwhile, and is cancelled or served.
 const IS_CANCELLED: &[Turn] = &[
@@ -54,16 +47,7 @@ const IS_CANCELLED: &[Turn] = &[
     Turn::Gives(TERMINATE),
 ];
 
-const IS_SERVED: &[Turn] = &[
-    Turn::Gives(STARTUP),
-    Turn::Takes(WELCOME),
-    Turn::Takes(SECOND),
-    Turn::Takes(IDLE),
-    Turn::Gives(QUERY),
-    Turn::Takes(ROW),
-    Turn::Takes(IDLE),
-    Turn::Gives(TERMINATE),
-];
+const IS_SERVED: &[Turn] = asks![Turn::Gives(STARTUP); Turn::Takes(SECOND)];
 
 // A client with any key.
 const COMES: &[Turn] = &[
@@ -75,16 +59,8 @@ const COMES: &[Turn] = &[
     Turn::Gives(TERMINATE),
 ];
 
-// A server that serves one query, and one that serves two. A byte stands behind the last answer of
-// the others, so that the link is closed.
-const ONE: &[Turn] = &[
-    Turn::Takes(STARTUP),
-    Turn::Gives(LOGIN),
-    Turn::Takes(QUERY),
-    Turn::Gives(ROW),
-    Turn::Gives(IDLE),
-];
-
+// A server that serves two queries, and one that serves one. A byte stands behind the last answer of
+// each, so that the link is closed.
 const TWO: &[Turn] = &[
     Turn::Takes(STARTUP),
     Turn::Gives(LOGIN),
@@ -262,7 +238,7 @@ fn cancel_one<R: Threads + Wait + Clock + Sync + Abort>(
         alloc,
         tracker: &tracker,
         marks: &marks,
-        server: ONE,
+        server: SERVES_ONE,
         waits: IS_CANCELLED,
         is_cancelled: true,
     };
