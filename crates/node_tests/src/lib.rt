@@ -1,5 +1,5 @@
-//! Tests of a node, of its lock and of its console by public calls alone. What owns a node is
-//! tested here, since each crate that does proves anew how a node is dropped.
+//! Tests of a node, of its settings, its lock and its console by public calls alone. What owns a
+//! node is tested here, since each crate that does proves anew how a node is dropped.
 #![tactic(auto)]
 
 #[cfg(test)]
@@ -8,3 +8,5 @@ mod console_rows;
 mod lock;
 #[cfg(test)]
 mod node;
+#[cfg(test)]
+mod settings;

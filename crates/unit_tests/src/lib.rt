@@ -29,6 +29,4 @@ mod queues;
 #[cfg(test)]
 mod routes;
 #[cfg(test)]
-mod settings;
-#[cfg(test)]
 mod stand_in;
