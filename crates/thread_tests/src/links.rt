@@ -66,6 +66,21 @@ const fn alone(first: Visits, is_quiet: bool) -> Story {
     }
 }
 
+// A link is opened and used for one query, and then this happens.
+macro_rules! opened {
+    ($($event:expr),* $(,)?) => {
+        &[
+            Event::Server(PLAIN),
+            Event::Part(35),
+            Event::Passed(Point::Acquired),
+            Event::Attached,
+            Event::Part(14),
+            Event::Passed(Point::Ready),
+            $($event,)*
+        ]
+    };
+}
+
 // The client has a link before anything is written to it, the gate is passed before the link is
 // handed in, and the client has it no longer after that. A link of the pool is looked at first.
 const QUIET: Visits = Visits {
@@ -76,13 +91,7 @@ const QUIET: Visits = Visits {
         (CallAnswer::AcquireGot, 1),
         (CallAnswer::ReleasedIdle, 2),
     ],
-    events: Some(&[
-        Event::Server(PLAIN),
-        Event::Part(35),
-        Event::Passed(Point::Acquired),
-        Event::Attached,
-        Event::Part(14),
-        Event::Passed(Point::Ready),
+    events: Some(opened![
         Event::Detached,
         Event::Looked,
         Event::Passed(Point::Acquired),
@@ -104,13 +113,7 @@ const DISTURBED: Visits = Visits {
         (CallAnswer::Closed, 1),
         (CallAnswer::ReleasedIdle, 2),
     ],
-    events: Some(&[
-        Event::Server(PLAIN),
-        Event::Part(35),
-        Event::Passed(Point::Acquired),
-        Event::Attached,
-        Event::Part(14),
-        Event::Passed(Point::Ready),
+    events: Some(opened![
         Event::Detached,
         Event::Looked,
         Event::Passed(Point::Ready),
@@ -130,13 +133,7 @@ const SAYS_MORE: Visits = Visits {
     clients: &[ASKS],
     servers: &[ANSWERS_AND_MORE],
     calls: &[(CallAnswer::AcquireOpen, 1), (CallAnswer::Closed, 1)],
-    events: Some(&[
-        Event::Server(PLAIN),
-        Event::Part(35),
-        Event::Passed(Point::Acquired),
-        Event::Attached,
-        Event::Part(14),
-        Event::Passed(Point::Ready),
+    events: Some(opened![
         Event::Closed,
         Event::Detached,
     ]),
