@@ -1,8 +1,6 @@
 //! In which order a session comes by its link, uses it and hands it in, and who gets none.
 use crate::log::Event;
-use crate::messages::{
-    IDLE, LOGIN, QUERY, ROW, SERVES_ONE, STARTUP, TERMINATE, WELCOME, asks,
-};
+use crate::messages::{IDLE, LOGIN, QUERY, ROW, SERVES_ONE, STARTUP, TERMINATE, WELCOME, asks};
 use crate::story::{NODE, TWO_SLOTS};
 use crate::talk::Turn;
 use crate::together::{NOBODY, Story, Visits, assert_played};
@@ -133,10 +131,7 @@ const SAYS_MORE: Visits = Visits {
     clients: &[ASKS],
     servers: &[ANSWERS_AND_MORE],
     calls: &[(CallAnswer::AcquireOpen, 1), (CallAnswer::Closed, 1)],
-    events: Some(opened![
-        Event::Closed,
-        Event::Detached,
-    ]),
+    events: Some(opened![Event::Closed, Event::Detached,]),
 };
 
 // A server that can't be reached: there is no link to have or to hand in.

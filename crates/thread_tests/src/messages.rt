@@ -70,6 +70,7 @@ macro_rules! asks {
         ]
     };
 }
+
 pub(crate) use asks;
 
 // A server that takes this login, and answers one query.
@@ -84,6 +85,7 @@ macro_rules! serves {
         ]
     };
 }
+
 pub(crate) use serves;
 
 // What a connection's client does, and what its server or peer does.

@@ -175,9 +175,7 @@ fn serve_other<R: Wait, G: Gate>(
 {
     let visit = stage.trackers.other(script);
     if let Some(mut client) = visit.client() {
-        stage
-            .node
-            .serve(rt, caller, gate, &visit, &mut client);
+        stage.node.serve(rt, caller, gate, &visit, &mut client);
     }
 }
 

@@ -3,9 +3,7 @@ ghost use Rattle.std.specs.Thread.{IsSync};
 
 use crate::calls::calls_of;
 use crate::gates::{Asking, Marks, sees};
-use crate::messages::{
-    IDLE, LOGIN, QUERY, ROW, SERVES_ONE, STARTUP, TERMINATE, WELCOME, asks,
-};
+use crate::messages::{IDLE, LOGIN, QUERY, ROW, SERVES_ONE, STARTUP, TERMINATE, WELCOME, asks};
 use crate::shown::{CONSOLE, SHOW_CLIENTS};
 use crate::stays::{Wire, reads};
 use crate::story::{TWO_SLOTS, calling};
