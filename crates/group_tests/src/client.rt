@@ -76,7 +76,7 @@ impl Client {
         Client::log_in_by(rt, port, STARTUP, 8)
     }
 
-    // A client that is logged in by this StartupMessage, and its key of so many bytes.
+    // A client that is logged in by this StartupMessage, and its key, which has this length.
     pub(crate) fn log_in_by<R: TestHost>(
         rt: &R,
         port: u16,
@@ -89,7 +89,7 @@ impl Client {
         Ok((client, key))
     }
 
-    // Gets a key of so many bytes.
+    // Reads the greeting of a login, and returns its key, which has this length.
     fn greeted<R: TestHost>(&mut self, rt: &R, length: usize) -> Result<Vec<u8>, Fail> {
         let head = if length == 8 { KEY } else { LONG_KEY };
         let got = self.read(rt, Until::Bytes(IDLE), None)?;
@@ -165,7 +165,7 @@ impl Client {
         Ok(())
     }
 
-    // Nothing comes for so many turns.
+    // Nothing comes for this many turns.
     pub(crate) fn expect_nothing<R: TestHost>(&mut self, rt: &R, turns: u32) -> Result<(), Fail> {
         let mut got = Vec::new(rt.alloc());
         for _turn in 0..turns {

@@ -14,7 +14,7 @@ const GSS: &[u8] = b"\0\0\0\x08\x04\xd2\x16\x30";
 
 const STARTUP: &[u8] = b"\0\0\0\x12\0\x03\0\0user\0app\0\0";
 
-// What is left unread of these bytes, where a read takes at most so many.
+// What is left unread of these bytes, where a read takes at most `most`.
 fn unread<R: Abort>(rt: &R, bytes: &[u8], most: usize) -> (usize, Asks, Next) {
     let mut packet = FirstPacket::new();
     let mut rest = bytes;

@@ -30,6 +30,8 @@ mod guests;
 #[cfg(test)]
 mod host;
 #[cfg(test)]
+mod last_words;
+#[cfg(test)]
 mod long_keys;
 #[cfg(test)]
 mod messages;

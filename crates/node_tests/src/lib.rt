@@ -1,6 +1,12 @@
-//! Tests of a node by public calls alone. They have a crate of their own, since a crate with tests
-//! is proved twice: without them and with them.
+//! Tests of a node, of its settings, its lock and its console by public calls alone. What owns a
+//! node is tested here, since each crate that does proves anew how a node is dropped.
 #![tactic(auto)]
 
 #[cfg(test)]
+mod console_rows;
+#[cfg(test)]
+mod lock;
+#[cfg(test)]
 mod node;
+#[cfg(test)]
+mod settings;

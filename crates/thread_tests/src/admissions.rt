@@ -81,7 +81,7 @@ fn nobody_is_left_inside(rt: HostRuntime) -> Result<(), Fail> {
     Ok(())
 }
 
-// A client that isn't let in comes in after so many milliseconds.
+// After how many milliseconds a client comes in that isn't let in before.
 const TIMEOUT: u64 = 20;
 
 // How often each of eight clients comes under load.

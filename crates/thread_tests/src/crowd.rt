@@ -1,7 +1,7 @@
 //! Requests for another node that come at once, of which one finds no seat.
 use crate::calls::calls_of;
 use crate::messages::LOWERED;
-use crate::story::calling;
+use crate::story::{NODE, calling};
 use crate::talk::Turn;
 use crate::together::SEED;
 use crate::tracked::{Dialer, Talk, Tracker};
@@ -16,20 +16,6 @@ use std::test::Fail;
 use std::thread;
 use std::thread::Threads;
 use std::time::Duration;
-
-// Node 2 with the peer 3.
-const NODE: &str = "[pgbouncer]
-pool_mode = transaction
-auth_type = trust
-listen_addr = 127.0.0.1
-peer_id = 2
-default_pool_size = 1
-max_client_conn = 1
-[databases]
-plain = host=127.0.0.1 port=5432 user=plain
-[peers]
-3 = host=127.0.0.1 port=6433
-";
 
 // How many requests for other nodes have a seat at most.
 const SHARE: u64 = 128;

@@ -2,11 +2,11 @@
 //! the first packet to the end. Nothing is left of the connection then, and what is written after
 //! the failure is the error of a lost link, the byte for a request that may still be acted on, or
 //! nothing.
-use crate::calls::calls_of;
+use crate::calls::{assert_spent, calls_of};
 use crate::line::{Dials, Failing, Fault, Line, Side, Stage};
 use crate::shown::{assert_nothing_held, assert_words};
 use crate::stories::{ANSWERS, ANSWERS_LAST, ASKS_LAST, STORIES, Story};
-use crate::story::{Others, calling, visit, visit_all};
+use crate::story::{NODE, Others, calling, visit, visit_all};
 use crate::together::SEED;
 use locked_node::{CallAnswer, Caller};
 use node_threads::{Calling, Link, Open};
@@ -16,69 +16,8 @@ use std::process::Abort;
 use std::sync::{Arc, Wait};
 use std::test::Fail;
 
-// Node 2, with one link and one slot.
-const NODE: &str = "[pgbouncer]
-pool_mode = transaction
-auth_type = trust
-listen_addr = 127.0.0.1
-peer_id = 2
-default_pool_size = 1
-max_client_conn = 1
-[databases]
-plain = host=127.0.0.1 port=5432 user=plain
-[peers]
-3 = host=127.0.0.1 port=6433
-";
-
 // More calls than any story has.
 const CALLS: usize = 1_000;
-
-// As many of each were made as were spent: passes, permits, leases and tickets.
-#[track_caller]
-fn assert_spent(rt: &impl Abort, caller: &Caller<Link<Line>>) {
-    assert_even(rt, caller, &[CallAnswer::Joined], &[CallAnswer::Left]);
-    assert_even(
-        rt,
-        caller,
-        &[CallAnswer::AcquireOpen],
-        &[CallAnswer::WentUp, CallAnswer::UpFailedFreed],
-    );
-    assert_even(
-        rt,
-        caller,
-        &[CallAnswer::AcquireGot, CallAnswer::WentUp],
-        &[
-            CallAnswer::ReleasedIdle,
-            CallAnswer::ReleasedQuarantined,
-            CallAnswer::ReleasedClosed,
-            CallAnswer::Closed,
-        ],
-    );
-    assert_even(
-        rt,
-        caller,
-        &[CallAnswer::Served],
-        &[CallAnswer::EndedCounted, CallAnswer::FailedCondemned],
-    );
-}
-
-#[track_caller]
-fn assert_even(
-    rt: &impl Abort,
-    caller: &Caller<Link<Line>>,
-    made: &[CallAnswer],
-    spent: &[CallAnswer],
-) {
-    assert_eq!(rt; sum(caller, made), sum(caller, spent), "{made:?} {spent:?}");
-}
-
-fn sum(caller: &Caller<Link<Line>>, answers: &[CallAnswer]) -> u128 {
-    let mut sum = 0u128;
-    for answer in answers {
-        sum = sum.wrapping_add(calls_of(caller, *answer));
-    }
-    sum
-}
 
 // A request that has an order is reported as failed where its server's call failed, and as ended
 // otherwise.

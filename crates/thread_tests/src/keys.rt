@@ -8,27 +8,14 @@
 //! slot in 16, the secret in 32 and the hops in 2; a long one has the boot, 7 * 2^32, and the
 //! serial behind it.
 use crate::log::Event;
-use crate::messages::{IDLE, LOGIN, QUERY, ROW, STARTUP, TERMINATE, WELCOME};
+use crate::messages::{IDLE, SERVES_ONE, STARTUP, TERMINATE, WELCOME, asks, serves};
+use crate::story::NODE;
 use crate::talk::Turn;
 use crate::together::{NOBODY, Story, Visits, assert_played};
 use locked_node::CallAnswer;
 use node_threads::Point;
 use startup::Packet;
 use std::test::Fail;
-
-// Node 2, with one link and one slot.
-const NODE: &str = "[pgbouncer]
-pool_mode = transaction
-auth_type = trust
-listen_addr = 127.0.0.1
-peer_id = 2
-default_pool_size = 1
-max_client_conn = 1
-[databases]
-plain = host=127.0.0.1 port=5432 user=plain
-[peers]
-3 = host=127.0.0.1 port=6433
-";
 
 // The StartupMessage of the protocol with long keys.
 const LONG_STARTUP: &[u8] = b"\0\0\0\x23\0\x03\0\x02user\0plain\0database\0plain\0\0";
@@ -40,9 +27,7 @@ const SECOND: &[u8] = b"K\0\0\0\x1c\0\x08\0\0\x5f\x61\x95\x33\0\0\0\x07\0\0\0\0\
 
 const THIRD: &[u8] = b"K\0\0\0\x0c\0\x08\0\x02\x66\x93\x0d\x2b";
 
-// A query that is answered, and the end of the session.
-const ASKS: Turn = Turn::Gives(QUERY);
-
+// The end of a session.
 const LEAVES: Turn = Turn::Gives(TERMINATE);
 
 // What a server is sent for a cancel request: its backend's key.
@@ -55,16 +40,7 @@ const LONG_KEYS: Story = Story {
     settings: NODE,
     first: Visits {
         clients: &[
-            &[
-                Turn::Gives(LONG_STARTUP),
-                Turn::Takes(WELCOME),
-                Turn::Takes(FIRST),
-                Turn::Takes(IDLE),
-                ASKS,
-                Turn::Takes(ROW),
-                Turn::Takes(IDLE),
-                LEAVES,
-            ],
+            asks![Turn::Gives(LONG_STARTUP); Turn::Takes(FIRST)],
             &[
                 Turn::Gives(LONG_STARTUP),
                 Turn::Takes(WELCOME),
@@ -80,13 +56,7 @@ const LONG_KEYS: Story = Story {
                 LEAVES,
             ],
         ],
-        servers: &[&[
-            Turn::Takes(STARTUP),
-            Turn::Gives(LOGIN),
-            Turn::Takes(QUERY),
-            Turn::Gives(ROW),
-            Turn::Gives(IDLE),
-        ]],
+        servers: &[SERVES_ONE],
         calls: &[
             (CallAnswer::Joined, 3),
             (CallAnswer::ReleasedIdle, 1),
@@ -98,14 +68,17 @@ const LONG_KEYS: Story = Story {
     others: Visits {
         clients: &[
             &[Turn::Gives(
-                b"\0\0\0\x20\x04\xd2\x16\x2e\0\x08\0\x03\x45\xd6\xc9\x53\0\0\0\x07\0\0\0\0\0\0\0\0\0\0\0\0",
+                b"\0\0\0\x20\x04\xd2\x16\x2e\0\x08\0\x03\x45\xd6\xc9\x53\
+                    \0\0\0\x07\0\0\0\0\0\0\0\0\0\0\0\0",
             )],
             &[Turn::Gives(b"\0\0\0\x10\x04\xd2\x16\x2e\0\x08\0\x03\x45\xd6\xc9\x53")],
             &[Turn::Gives(
-                b"\0\0\0\x20\x04\xd2\x16\x2e\0\x08\0\x03\x45\xd6\xc9\x53\0\0\0\x07\0\0\0\0\0\0\0\0\0\0\0\x01",
+                b"\0\0\0\x20\x04\xd2\x16\x2e\0\x08\0\x03\x45\xd6\xc9\x53\
+                    \0\0\0\x07\0\0\0\0\0\0\0\0\0\0\0\x01",
             )],
             &[Turn::Gives(
-                b"\0\0\0\x20\x04\xd2\x16\x2e\0\x08\0\x03\x45\xd6\xc9\x53\0\0\0\x06\0\0\0\0\0\0\0\0\0\0\0\0",
+                b"\0\0\0\x20\x04\xd2\x16\x2e\0\x08\0\x03\x45\xd6\xc9\x53\
+                    \0\0\0\x06\0\0\0\0\0\0\0\0\0\0\0\0",
             )],
         ],
         servers: &[&[Turn::Takes(CANCEL)]],
@@ -124,10 +97,12 @@ const FORWARDED: Story = Story {
     settings: NODE,
     first: Visits {
         clients: &[&[Turn::Gives(
-            b"\0\0\0\x20\x04\xd2\x16\x2e\0\x0c\0\x01\x02\x03\x04\x07\x11\x12\x13\x14\x15\x16\x17\x18\x19\x1a\x1b\x1c\x1d\x1e\x1f\x20",
+            b"\0\0\0\x20\x04\xd2\x16\x2e\0\x0c\0\x01\x02\x03\x04\x07\
+                \x11\x12\x13\x14\x15\x16\x17\x18\x19\x1a\x1b\x1c\x1d\x1e\x1f\x20",
         )]],
         servers: &[&[Turn::Takes(
-            b"\0\0\0\x20\x04\xd2\x16\x2e\0\x0c\0\x01\x02\x03\x04\x06\x11\x12\x13\x14\x15\x16\x17\x18\x19\x1a\x1b\x1c\x1d\x1e\x1f\x20",
+            b"\0\0\0\x20\x04\xd2\x16\x2e\0\x0c\0\x01\x02\x03\x04\x06\
+                \x11\x12\x13\x14\x15\x16\x17\x18\x19\x1a\x1b\x1c\x1d\x1e\x1f\x20",
         )]],
         calls: &[(CallAnswer::Forwarded, 1)],
         events: None,
@@ -176,112 +151,49 @@ const SENT_CANCEL: Event = Event::Sent(Packet::Short([
 ]));
 
 // A client of one database with the first secret.
-const SHOP_COMES: &[Turn] = &[
-    Turn::Gives(AT_SHOP),
-    Turn::Takes(WELCOME),
-    Turn::Takes(FIRST_SHORT),
-    Turn::Takes(IDLE),
-    ASKS,
-    Turn::Takes(ROW),
-    Turn::Takes(IDLE),
-    LEAVES,
-];
+const SHOP_COMES: &[Turn] = asks![Turn::Gives(AT_SHOP); Turn::Takes(FIRST_SHORT)];
 
-const WORK_COMES: &[Turn] = &[
-    Turn::Gives(AT_WORK),
-    Turn::Takes(WELCOME),
-    Turn::Takes(FIRST_SHORT),
-    Turn::Takes(IDLE),
-    ASKS,
-    Turn::Takes(ROW),
-    Turn::Takes(IDLE),
-    LEAVES,
-];
+const WORK_COMES: &[Turn] = asks![Turn::Gives(AT_WORK); Turn::Takes(FIRST_SHORT)];
 
 // The same with the second secret.
-const SHOP_FOLLOWS: &[Turn] = &[
-    Turn::Gives(AT_SHOP),
-    Turn::Takes(WELCOME),
-    Turn::Takes(SECOND_SHORT),
-    Turn::Takes(IDLE),
-    ASKS,
-    Turn::Takes(ROW),
-    Turn::Takes(IDLE),
-    LEAVES,
-];
+const SHOP_FOLLOWS: &[Turn] = asks![Turn::Gives(AT_SHOP); Turn::Takes(SECOND_SHORT)];
 
-const WORK_FOLLOWS: &[Turn] = &[
-    Turn::Gives(AT_WORK),
-    Turn::Takes(WELCOME),
-    Turn::Takes(SECOND_SHORT),
-    Turn::Takes(IDLE),
-    ASKS,
-    Turn::Takes(ROW),
-    Turn::Takes(IDLE),
-    LEAVES,
-];
+const WORK_FOLLOWS: &[Turn] = asks![Turn::Gives(AT_WORK); Turn::Takes(SECOND_SHORT)];
 
 // The servers of both databases.
-const STORE: &[Turn] = &[
-    Turn::Takes(TO_STORE),
-    Turn::Gives(LOGIN),
-    Turn::Takes(QUERY),
-    Turn::Gives(ROW),
-    Turn::Gives(IDLE),
-];
+const STORE: &[Turn] = serves![TO_STORE];
 
-const TASKS: &[Turn] = &[
-    Turn::Takes(TO_TASKS),
-    Turn::Gives(LOGIN),
-    Turn::Takes(QUERY),
-    Turn::Gives(ROW),
-    Turn::Gives(IDLE),
-];
+const TASKS: &[Turn] = serves![TO_TASKS];
 
 const CALLS: &[(CallAnswer, u128)] = &[(CallAnswer::WentUp, 2), (CallAnswer::ReleasedIdle, 2)];
+
+// A link of each database is opened, by a login of this length, and used for one query.
+macro_rules! opened {
+    ($($database:expr, $login:expr);*) => {
+        &[$(
+            Event::Server($database),
+            Event::Part($login),
+            Event::Passed(Point::Acquired),
+            Event::Attached,
+            Event::Part(14),
+            Event::Passed(Point::Ready),
+            Event::Detached,
+        )*]
+    };
+}
 
 const SHOP_FIRST: Visits = Visits {
     clients: &[SHOP_COMES, WORK_FOLLOWS],
     servers: &[STORE, TASKS],
     calls: CALLS,
-    events: Some(&[
-        Event::Server(SHOP),
-        Event::Part(33),
-        Event::Passed(Point::Acquired),
-        Event::Attached,
-        Event::Part(14),
-        Event::Passed(Point::Ready),
-        Event::Detached,
-        Event::Server(WORK),
-        Event::Part(35),
-        Event::Passed(Point::Acquired),
-        Event::Attached,
-        Event::Part(14),
-        Event::Passed(Point::Ready),
-        Event::Detached,
-    ]),
+    events: Some(opened![SHOP, 33; WORK, 35]),
 };
 
 const WORK_FIRST: Visits = Visits {
     clients: &[WORK_COMES, SHOP_FOLLOWS],
     servers: &[TASKS, STORE],
     calls: CALLS,
-    events: Some(&[
-        Event::Server(WORK),
-        Event::Part(35),
-        Event::Passed(Point::Acquired),
-        Event::Attached,
-        Event::Part(14),
-        Event::Passed(Point::Ready),
-        Event::Detached,
-        Event::Server(SHOP),
-        Event::Part(33),
-        Event::Passed(Point::Acquired),
-        Event::Attached,
-        Event::Part(14),
-        Event::Passed(Point::Ready),
-        Event::Detached,
-    ]),
+    events: Some(opened![WORK, 35; SHOP, 33]),
 };
 
 // A request with the first secret, which goes to the server of that client's database.

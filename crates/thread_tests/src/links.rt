@@ -1,34 +1,12 @@
 //! In which order a session comes by its link, uses it and hands it in, and who gets none.
 use crate::log::Event;
-use crate::messages::{IDLE, LOGIN, QUERY, ROW, STARTUP, TERMINATE, WELCOME};
+use crate::messages::{IDLE, LOGIN, QUERY, ROW, SERVES_ONE, STARTUP, TERMINATE, WELCOME, asks};
+use crate::story::{NODE, TWO_SLOTS};
 use crate::talk::Turn;
 use crate::together::{NOBODY, Story, Visits, assert_played};
 use locked_node::CallAnswer;
 use node_threads::Point;
 use std::test::Fail;
-
-// Nodes with one link, and with one slot or two.
-const ONE_SLOT: &str = "[pgbouncer]
-pool_mode = transaction
-auth_type = trust
-listen_addr = 127.0.0.1
-peer_id = 2
-default_pool_size = 1
-max_client_conn = 1
-[databases]
-plain = host=127.0.0.1 port=5432 user=plain
-";
-
-const TWO_SLOTS: &str = "[pgbouncer]
-pool_mode = transaction
-auth_type = trust
-listen_addr = 127.0.0.1
-peer_id = 2
-default_pool_size = 1
-max_client_conn = 2
-[databases]
-plain = host=127.0.0.1 port=5432 user=plain
-";
 
 const PLAIN: u8 = 0;
 
@@ -37,25 +15,8 @@ const COMES: Turn = Turn::Gives(STARTUP);
 // BackendKeyData, for any key.
 const KEY: Turn = Turn::Takes(b"K\0\0\0\x0c\0\x08\0\x03\x45\xd6\xc9\x53");
 
-// A client that asks once, and its server.
-const ASKS: &[Turn] = &[
-    COMES,
-    Turn::Takes(WELCOME),
-    KEY,
-    Turn::Takes(IDLE),
-    Turn::Gives(QUERY),
-    Turn::Takes(ROW),
-    Turn::Takes(IDLE),
-    Turn::Gives(TERMINATE),
-];
-
-const ANSWERS: &[Turn] = &[
-    Turn::Takes(STARTUP),
-    Turn::Gives(LOGIN),
-    Turn::Takes(QUERY),
-    Turn::Gives(ROW),
-    Turn::Gives(IDLE),
-];
+// A client that asks once.
+const ASKS: &[Turn] = asks![COMES; KEY];
 
 // A client that asks twice, and a server that answers both queries.
 const ASKS_TWICE: &[Turn] = &[
@@ -95,12 +56,27 @@ const ANSWERS_AND_MORE: &[Turn] = &[
 // Clients come, one after another. The first link of the pool is as it was left, or isn't.
 const fn alone(first: Visits, is_quiet: bool) -> Story {
     Story {
-        settings: ONE_SLOT,
+        settings: NODE,
         first,
         is_quiet,
         others: NOBODY,
         are_gone: false,
     }
+}
+
+// A link is opened and used for one query, and then this happens.
+macro_rules! opened {
+    ($($event:expr),* $(,)?) => {
+        &[
+            Event::Server(PLAIN),
+            Event::Part(35),
+            Event::Passed(Point::Acquired),
+            Event::Attached,
+            Event::Part(14),
+            Event::Passed(Point::Ready),
+            $($event,)*
+        ]
+    };
 }
 
 // The client has a link before anything is written to it, the gate is passed before the link is
@@ -113,13 +89,7 @@ const QUIET: Visits = Visits {
         (CallAnswer::AcquireGot, 1),
         (CallAnswer::ReleasedIdle, 2),
     ],
-    events: Some(&[
-        Event::Server(PLAIN),
-        Event::Part(35),
-        Event::Passed(Point::Acquired),
-        Event::Attached,
-        Event::Part(14),
-        Event::Passed(Point::Ready),
+    events: Some(opened![
         Event::Detached,
         Event::Looked,
         Event::Passed(Point::Acquired),
@@ -134,20 +104,14 @@ const QUIET: Visits = Visits {
 // another.
 const DISTURBED: Visits = Visits {
     clients: &[ASKS_TWICE],
-    servers: &[ANSWERS, ANSWERS],
+    servers: &[SERVES_ONE, SERVES_ONE],
     calls: &[
         (CallAnswer::AcquireOpen, 2),
         (CallAnswer::AcquireGot, 1),
         (CallAnswer::Closed, 1),
         (CallAnswer::ReleasedIdle, 2),
     ],
-    events: Some(&[
-        Event::Server(PLAIN),
-        Event::Part(35),
-        Event::Passed(Point::Acquired),
-        Event::Attached,
-        Event::Part(14),
-        Event::Passed(Point::Ready),
+    events: Some(opened![
         Event::Detached,
         Event::Looked,
         Event::Passed(Point::Ready),
@@ -167,16 +131,7 @@ const SAYS_MORE: Visits = Visits {
     clients: &[ASKS],
     servers: &[ANSWERS_AND_MORE],
     calls: &[(CallAnswer::AcquireOpen, 1), (CallAnswer::Closed, 1)],
-    events: Some(&[
-        Event::Server(PLAIN),
-        Event::Part(35),
-        Event::Passed(Point::Acquired),
-        Event::Attached,
-        Event::Part(14),
-        Event::Passed(Point::Ready),
-        Event::Closed,
-        Event::Detached,
-    ]),
+    events: Some(opened![Event::Closed, Event::Detached,]),
 };
 
 // A server that can't be reached: there is no link to have or to hand in.
@@ -200,7 +155,7 @@ const fn beside(settings: &'static str, others: Visits, are_gone: bool) -> Story
         settings,
         first: Visits {
             clients: &[ASKS],
-            servers: &[ANSWERS],
+            servers: &[SERVES_ONE],
             calls: &[(CallAnswer::ReleasedIdle, 1)],
             events: None,
         },
@@ -258,7 +213,7 @@ fn turns_on_links(rt: HostRuntime) -> Result<(), Fail> {
 
 #[test]
 fn clients_without_a_link(rt: HostRuntime) -> Result<(), Fail> {
-    let stories = [beside(ONE_SLOT, FULL, false), beside(TWO_SLOTS, GONE, true)];
+    let stories = [beside(NODE, FULL, false), beside(TWO_SLOTS, GONE, true)];
     for story in &stories {
         assert_played(&rt, rt.alloc(), story)?;
     }

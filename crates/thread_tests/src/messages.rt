@@ -55,6 +55,39 @@ const CANCEL: &[u8] = b"\0\0\0\x10\x04\xd2\x16\x2e\x11\x12\x13\x14\x15\x16\x17\x
 
 pub(crate) const LOWERED: &[u8] = b"\0\0\0\x10\x04\xd2\x16\x2e\0\x0c\0\0\0\0\0\x06";
 
+// A client that does this first, gets this key, asks once and leaves.
+macro_rules! asks {
+    ($($first:expr)?; $key:expr) => {
+        &[
+            $($first,)?
+            $crate::talk::Turn::Takes($crate::messages::WELCOME),
+            $key,
+            $crate::talk::Turn::Takes($crate::messages::IDLE),
+            $crate::talk::Turn::Gives($crate::messages::QUERY),
+            $crate::talk::Turn::Takes($crate::messages::ROW),
+            $crate::talk::Turn::Takes($crate::messages::IDLE),
+            $crate::talk::Turn::Gives($crate::messages::TERMINATE),
+        ]
+    };
+}
+
+pub(crate) use asks;
+
+// A server that takes this login, and answers one query.
+macro_rules! serves {
+    ($login:expr) => {
+        &[
+            $crate::talk::Turn::Takes($login),
+            $crate::talk::Turn::Gives($crate::messages::LOGIN),
+            $crate::talk::Turn::Takes($crate::messages::QUERY),
+            $crate::talk::Turn::Gives($crate::messages::ROW),
+            $crate::talk::Turn::Gives($crate::messages::IDLE),
+        ]
+    };
+}
+
+pub(crate) use serves;
+
 // What a connection's client does, and what its server or peer does.
 #[derive(Clone, Copy, Debug)]
 pub(crate) struct Script {
@@ -63,53 +96,23 @@ pub(crate) struct Script {
 }
 
 // A server that serves one query.
-const SERVES_ONE: &[Turn] = &[
-    Turn::Takes(STARTUP),
-    Turn::Gives(LOGIN),
-    Turn::Takes(QUERY),
-    Turn::Gives(ROW),
-    Turn::Gives(IDLE),
-];
+pub(crate) const SERVES_ONE: &[Turn] = serves![STARTUP];
 
 // A client at slot 1 that is served.
 pub(crate) const SERVED_AT_1: Script = Script {
-    client: &[
-        Turn::Takes(WELCOME),
-        Turn::Takes(KEY_AT_1),
-        Turn::Takes(IDLE),
-        Turn::Gives(QUERY),
-        Turn::Takes(ROW),
-        Turn::Takes(IDLE),
-        Turn::Gives(TERMINATE),
-    ],
+    client: asks![; Turn::Takes(KEY_AT_1)],
     server: SERVES_ONE,
 };
 
 // The same at slot 2.
 pub(crate) const SERVED_AT_2: Script = Script {
-    client: &[
-        Turn::Takes(WELCOME),
-        Turn::Takes(KEY_AT_2),
-        Turn::Takes(IDLE),
-        Turn::Gives(QUERY),
-        Turn::Takes(ROW),
-        Turn::Takes(IDLE),
-        Turn::Gives(TERMINATE),
-    ],
+    client: asks![; Turn::Takes(KEY_AT_2)],
     server: SERVES_ONE,
 };
 
 // A client at slot 0. Its server serves another query after the client's.
 pub(crate) const SERVED_AT_0: Script = Script {
-    client: &[
-        Turn::Takes(WELCOME),
-        Turn::Takes(KEY_AT_0),
-        Turn::Takes(IDLE),
-        Turn::Gives(QUERY),
-        Turn::Takes(ROW),
-        Turn::Takes(IDLE),
-        Turn::Gives(TERMINATE),
-    ],
+    client: asks![; Turn::Takes(KEY_AT_0)],
     server: &[
         Turn::Takes(STARTUP),
         Turn::Gives(LOGIN),
@@ -124,15 +127,7 @@ pub(crate) const SERVED_AT_0: Script = Script {
 
 // The client that is held, and is served.
 pub(crate) const HELD: Script = Script {
-    client: &[
-        Turn::Takes(WELCOME),
-        Turn::Takes(KEY_OF_HELD),
-        Turn::Takes(IDLE),
-        Turn::Gives(QUERY),
-        Turn::Takes(ROW),
-        Turn::Takes(IDLE),
-        Turn::Gives(TERMINATE),
-    ],
+    client: asks![; Turn::Takes(KEY_OF_HELD)],
     server: SERVES_ONE,
 };
 

@@ -151,18 +151,13 @@ fn serve_task<R: Wait>(rt: &R, stage: &Stage<'_>, caller: &mut Caller)
     let Some(mut client) = visit.client() else {
         return;
     };
-    let Stage {
-        alloc,
-        node,
-        hold,
-        ..
-    } = *stage;
+    let Stage { node, hold, .. } = *stage;
     match stage.scene.task {
         Task::Session => {
             let mut client = HeldClient::new(client, hold);
-            node.serve(rt, alloc, caller, hold, &visit, &mut client);
+            node.serve(rt, caller, hold, &visit, &mut client);
         }
-        Task::Cancel(key) => node.cancel(rt, alloc, caller, hold, &visit, &mut client, key),
+        Task::Cancel(key) => node.cancel(rt, caller, hold, &visit, &mut client, key),
     }
 }
 
@@ -180,9 +175,7 @@ fn serve_other<R: Wait, G: Gate>(
 {
     let visit = stage.trackers.other(script);
     if let Some(mut client) = visit.client() {
-        stage
-            .node
-            .serve(rt, stage.alloc, caller, gate, &visit, &mut client);
+        stage.node.serve(rt, caller, gate, &visit, &mut client);
     }
 }
 
@@ -212,7 +205,7 @@ fn await_held<R: Wait>(rt: &R, stage: &Stage<'_>, caller: &mut Caller)
         return;
     }
     for _look in 0..LOOKS {
-        if stage.node.has_waiting(rt, stage.alloc, caller) {
+        if stage.node.has_waiting(rt, caller) {
             stage.hold.reach();
             return;
         }

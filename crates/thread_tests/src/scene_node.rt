@@ -54,6 +54,7 @@ impl Visit<'_> {
 pub(crate) struct Node {
     pub(crate) lock: Lock,
     settings: Settings,
+    alloc: Global,
 }
 
 impl Node {
@@ -70,14 +71,18 @@ impl Node {
         let settings = Settings::plain(alloc, me, vec![in alloc; peer]?, links, 4)?;
         let core = NodeCore::new(alloc, &settings, BOOT)?;
         let (lock, caller) = Shared::new(alloc, Journal::new(alloc, core)?)?;
-        Ok((Node { lock, settings }, caller))
+        let node = Node {
+            lock,
+            settings,
+            alloc,
+        };
+        Ok((node, caller))
     }
 
     // A client's session is served to its end.
     pub(crate) fn serve<R: Wait, G: Gate, C: Read + Write>(
         &self,
         rt: &R,
-        alloc: Global,
         caller: &mut Caller,
         gate: &G,
         visit: &Visit<'_>,
@@ -87,6 +92,7 @@ impl Node {
         requires database { 0 < length caller.old.start.view.pools }
         ensures { (caller.new.lock ≡ caller.old.lock) × (caller.new.start ≡ caller.old.start) }
     {
+        let alloc = self.alloc;
         // No other session comes in by this way, so each waits in the node's queue.
         let Ok(admission) = Admission::new(alloc, &self.settings) else {
             return;
@@ -109,7 +115,6 @@ impl Node {
     pub(crate) fn cancel<R: Wait, G: Gate>(
         &self,
         rt: &R,
-        alloc: Global,
         caller: &mut Caller,
         gate: &G,
         visit: &Visit<'_>,
@@ -119,6 +124,7 @@ impl Node {
         requires own { caller.old.lock ≡ self.now.lock }
         ensures { (caller.new.lock ≡ caller.old.lock) × (caller.new.start ≡ caller.old.start) }
     {
+        let alloc = self.alloc;
         let Ok((board, mut seat)) = Board::new(alloc) else {
             return;
         };
@@ -142,16 +148,20 @@ impl Node {
     pub(crate) fn total_calls(self, caller: Caller) -> u128
         requires own { caller.lock ≡ self.lock }
     {
-        let Node { lock, settings: _ } = self;
+        let Node {
+            lock,
+            settings: _,
+            alloc: _,
+        } = self;
         lock.total_calls(caller)
     }
 
     // Whether a client waits for a link now.
-    pub(crate) fn has_waiting<R: Wait>(&self, rt: &R, alloc: Global, caller: &mut Caller) -> bool
+    pub(crate) fn has_waiting<R: Wait>(&self, rt: &R, caller: &mut Caller) -> bool
         requires own { caller.old.lock ≡ self.now.lock }
         ensures { caller.new ≡ caller.old }
     {
-        match self.lock.copy_view(rt, alloc, caller) {
+        match self.lock.copy_view(rt, self.alloc, caller) {
             Ok(view) => has_waiting(view.claims()),
             Err(_) => false,
         }

@@ -1,7 +1,7 @@
 //! The seats at a node's board: how many requests have one at a time, and that all come back.
 use crate::calls::assert_calls;
 use crate::line::{Dials, Line, Stage};
-use crate::story::{calling, visit};
+use crate::story::{NODE, calling, visit};
 use crate::talk::Turn;
 use locked_node::CallAnswer;
 use node_threads::{Calling, Open, Seat, Seats};
@@ -10,20 +10,6 @@ use std::alloc::Global;
 use std::process::Abort;
 use std::sync::{Arc, Wait};
 use std::test::Fail;
-
-// Node 2 with the peer 3.
-const NODE: &str = "[pgbouncer]
-pool_mode = transaction
-auth_type = trust
-listen_addr = 127.0.0.1
-peer_id = 2
-default_pool_size = 1
-max_client_conn = 1
-[databases]
-plain = host=127.0.0.1 port=5432 user=plain
-[peers]
-3 = host=127.0.0.1 port=6433
-";
 
 // How many seats there are for requests. The console has one of the 256.
 const SEATS: usize = 255;

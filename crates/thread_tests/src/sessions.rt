@@ -153,6 +153,32 @@ const CALLS_OF_LOST: &[(CallAnswer, u128)] = &[
     (CallAnswer::Left, 1),
 ];
 
+// A client that gets no link of these servers.
+macro_rules! lost {
+    ($servers:expr) => {
+        Story {
+            boot: 9,
+            servers: $servers,
+            clients: &[ASKS_IN_VAIN],
+            restarts: &[],
+            calls: CALLS_OF_LOST,
+        }
+    };
+}
+
+// A node with this boot, and how the first of two new starts ends. There is none for the second.
+macro_rules! restarted {
+    ($boot:expr, $first:ident, $restarts:expr) => {
+        Story {
+            boot: $boot,
+            servers: &[],
+            clients: &[],
+            restarts: &[RestartReply::$first, RestartReply::Exhausted],
+            calls: &[(CallAnswer::Restarted, $restarts)],
+        }
+    };
+}
+
 const STORIES: &[Story] = &[
     // A client's query goes to a new link, which is idle after it and serves the next client.
     Story {
@@ -178,39 +204,15 @@ const STORIES: &[Story] = &[
     },
     // A server that can't be reached, that refuses the login, that sends bytes behind it, or that
     // ends before it: the client gets the error of a lost link.
-    Story {
-        boot: 9,
-        servers: &[],
-        clients: &[ASKS_IN_VAIN],
-        restarts: &[],
-        calls: CALLS_OF_LOST,
-    },
-    Story {
-        boot: 9,
-        servers: &[&[LOGIN_SENT, Turn::Gives(b"E\0\0\0\x05\0")]],
-        clients: &[ASKS_IN_VAIN],
-        restarts: &[],
-        calls: CALLS_OF_LOST,
-    },
-    Story {
-        boot: 9,
-        servers: &[&[
-            LOGIN_SENT,
-            Turn::Gives(
-                b"R\0\0\0\x08\0\0\0\0K\0\0\0\x0c\x11\x12\x13\x14\x15\x16\x17\x18Z\0\0\0\x05IZ",
-            ),
-        ]],
-        clients: &[ASKS_IN_VAIN],
-        restarts: &[],
-        calls: CALLS_OF_LOST,
-    },
-    Story {
-        boot: 9,
-        servers: &[&[LOGIN_SENT]],
-        clients: &[ASKS_IN_VAIN],
-        restarts: &[],
-        calls: CALLS_OF_LOST,
-    },
+    lost![&[]],
+    lost![&[&[LOGIN_SENT, Turn::Gives(b"E\0\0\0\x05\0")]]],
+    lost![&[&[
+        LOGIN_SENT,
+        Turn::Gives(
+            b"R\0\0\0\x08\0\0\0\0K\0\0\0\x0c\x11\x12\x13\x14\x15\x16\x17\x18Z\0\0\0\x05IZ",
+        ),
+    ]]],
+    lost![&[&[LOGIN_SENT]]],
     // A link that breaks in a reply leaves the pool, and the session ends.
     Story {
         boot: 9,
@@ -237,27 +239,9 @@ const STORIES: &[Story] = &[
         ],
     },
     // A process has 2^32 boots.
-    Story {
-        boot: 0x1_ffff_fffe,
-        servers: &[],
-        clients: &[],
-        restarts: &[RestartReply::Restarted, RestartReply::Exhausted],
-        calls: &[(CallAnswer::Restarted, 1)],
-    },
-    Story {
-        boot: 0x1_ffff_ffff,
-        servers: &[],
-        clients: &[],
-        restarts: &[RestartReply::Exhausted, RestartReply::Exhausted],
-        calls: &[(CallAnswer::Restarted, 0)],
-    },
-    Story {
-        boot: 0xffff_ffff_ffff_ffff,
-        servers: &[],
-        clients: &[],
-        restarts: &[RestartReply::Exhausted, RestartReply::Exhausted],
-        calls: &[(CallAnswer::Restarted, 0)],
-    },
+    restarted![0x1_ffff_fffe, Restarted, 1],
+    restarted![0x1_ffff_ffff, Exhausted, 0],
+    restarted![0xffff_ffff_ffff_ffff, Exhausted, 0],
     // A database that the settings don't have, and a cancel request with a key that was never
     // given.
     Story {

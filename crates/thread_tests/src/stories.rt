@@ -2,7 +2,7 @@
 use crate::line::Fault;
 use crate::messages::{
     BEGIN, BEGUN, COMMIT, COMMITTED, IDLE, LOGIN, LOWERED, OPEN, QUERY, ROW, STARTUP, TERMINATE,
-    WELCOME,
+    WELCOME, asks,
 };
 use crate::talk::Turn;
 
@@ -113,28 +113,10 @@ const SERVER: &[Turn] = &[
 ];
 
 // A client that asks once.
-const ASKS: &[Turn] = &[
-    Turn::Gives(STARTUP),
-    Turn::Takes(WELCOME),
-    KEY,
-    Turn::Takes(IDLE),
-    Turn::Gives(QUERY),
-    Turn::Takes(ROW),
-    Turn::Takes(IDLE),
-    Turn::Gives(TERMINATE),
-];
+const ASKS: &[Turn] = asks![Turn::Gives(STARTUP); KEY];
 
 // The next one.
-const ASKS_SECOND: &[Turn] = &[
-    Turn::Gives(STARTUP),
-    Turn::Takes(WELCOME),
-    SECOND_KEY,
-    Turn::Takes(IDLE),
-    Turn::Gives(QUERY),
-    Turn::Takes(ROW),
-    Turn::Takes(IDLE),
-    Turn::Gives(TERMINATE),
-];
+const ASKS_SECOND: &[Turn] = asks![Turn::Gives(STARTUP); SECOND_KEY];
 
 // A client that asks once and gets any key, as long as those.
 pub(crate) const ASKS_LAST: &[Turn] = &[

@@ -10,6 +10,32 @@ use std::cell::{Cell, RefCell};
 use std::sync::{Arc, Wait};
 use std::test::Fail;
 
+// Node 2 with the peer 3, one link and one slot.
+pub(crate) const NODE: &str = "[pgbouncer]
+pool_mode = transaction
+auth_type = trust
+listen_addr = 127.0.0.1
+peer_id = 2
+default_pool_size = 1
+max_client_conn = 1
+[databases]
+plain = host=127.0.0.1 port=5432 user=plain
+[peers]
+3 = host=127.0.0.1 port=6433
+";
+
+// Node 2 with one link and two slots.
+pub(crate) const TWO_SLOTS: &str = "[pgbouncer]
+pool_mode = transaction
+auth_type = trust
+listen_addr = 127.0.0.1
+peer_id = 2
+default_pool_size = 1
+max_client_conn = 2
+[databases]
+plain = host=127.0.0.1 port=5432 user=plain
+";
+
 // The node with these settings, alone in its group, with this seed and boot.
 pub(crate) fn calling<S: Drop>(
     alloc: Global,

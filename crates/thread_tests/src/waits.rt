@@ -3,10 +3,10 @@ ghost use Rattle.std.specs.Thread.{IsSync};
 
 use crate::calls::calls_of;
 use crate::gates::{Asking, Marks, sees};
-use crate::messages::{IDLE, LOGIN, QUERY, ROW, STARTUP, TERMINATE, WELCOME};
+use crate::messages::{IDLE, LOGIN, QUERY, ROW, SERVES_ONE, STARTUP, TERMINATE, WELCOME, asks};
 use crate::shown::{CONSOLE, SHOW_CLIENTS};
 use crate::stays::{Wire, reads};
-use crate::story::calling;
+use crate::story::{TWO_SLOTS, calling};
 use crate::talk::Turn;
 use crate::together::SEED;
 use crate::tracked::{Dialer, Talk, Tracker};
@@ -23,18 +23,6 @@ use std::thread::Threads;
 use std::time::{Clock, Duration};
 use std::{io, thread};
 
-// Node 2, with one link and two slots.
-const NODE: &str = "[pgbouncer]
-pool_mode = transaction
-auth_type = trust
-listen_addr = 127.0.0.1
-peer_id = 2
-default_pool_size = 1
-max_client_conn = 2
-[databases]
-plain = host=127.0.0.1 port=5432 user=plain
-";
-
 // The keys of the first client and of the second, as in `keys`, the second at slot 1.
 const FIRST: &[u8] = b"K\0\0\0\x0c\0\x08\0\x03\x45\xd6\xc9\x53";
 
@@ -43,16 +31,7 @@ const SECOND: &[u8] = b"K\0\0\0\x0c\0\x08\0\x04\x5f\x61\x95\x33";
 const CANCEL: &[Turn] = &[Turn::Gives(b"\0\0\0\x10\x04\xd2\x16\x2e\0\x08\0\x04\x5f\x61\x95\x33")];
 
 // A client that keeps the link for a while.
-const KEEPS: &[Turn] = &[
-    Turn::Gives(STARTUP),
-    Turn::Takes(WELCOME),
-    Turn::Takes(FIRST),
-    Turn::Takes(IDLE),
-    Turn::Gives(QUERY),
-    Turn::Takes(ROW),
-    Turn::Takes(IDLE),
-    Turn::Gives(TERMINATE),
-];
+const KEEPS: &[Turn] = asks![Turn::Gives(STARTUP); Turn::Takes(FIRST)];
 
 // One that waits meanwhile, and is cancelled or served.
 const IS_CANCELLED: &[Turn] = &[
@@ -66,16 +45,7 @@ const IS_CANCELLED: &[Turn] = &[
     Turn::Gives(TERMINATE),
 ];
 
-const IS_SERVED: &[Turn] = &[
-    Turn::Gives(STARTUP),
-    Turn::Takes(WELCOME),
-    Turn::Takes(SECOND),
-    Turn::Takes(IDLE),
-    Turn::Gives(QUERY),
-    Turn::Takes(ROW),
-    Turn::Takes(IDLE),
-    Turn::Gives(TERMINATE),
-];
+const IS_SERVED: &[Turn] = asks![Turn::Gives(STARTUP); Turn::Takes(SECOND)];
 
 // A client with any key.
 const COMES: &[Turn] = &[
@@ -87,16 +57,8 @@ const COMES: &[Turn] = &[
     Turn::Gives(TERMINATE),
 ];
 
-// A server that serves one query, and one that serves two. A byte stands behind the last answer of
-// the others, so that the link is closed.
-const ONE: &[Turn] = &[
-    Turn::Takes(STARTUP),
-    Turn::Gives(LOGIN),
-    Turn::Takes(QUERY),
-    Turn::Gives(ROW),
-    Turn::Gives(IDLE),
-];
-
+// A server that serves two queries, and one that serves one. A byte stands behind the last answer of
+// each, so that the link is closed.
 const TWO: &[Turn] = &[
     Turn::Takes(STARTUP),
     Turn::Gives(LOGIN),
@@ -274,11 +236,11 @@ fn cancel_one<R: Threads + Wait + Clock + Sync + Abort>(
         alloc,
         tracker: &tracker,
         marks: &marks,
-        server: ONE,
+        server: SERVES_ONE,
         waits: IS_CANCELLED,
         is_cancelled: true,
     };
-    let first = calling(alloc, NODE, SEED, Boot(9))?;
+    let first = calling(alloc, TWO_SLOTS, SEED, Boot(9))?;
     let early = cancelled_of(rt, scene, first);
     assert_done(rt, &tracker);
     Ok(early)
@@ -345,7 +307,7 @@ fn others_are_let_in_after_a_queue(rt: HostRuntime) -> Result<(), Fail> {
         waits: IS_SERVED,
         is_cancelled: false,
     };
-    let first = calling(rt.alloc(), NODE, SEED, Boot(9))?;
+    let first = calling(rt.alloc(), TWO_SLOTS, SEED, Boot(9))?;
     come_later(&rt, scene, first);
     assert_done(&rt, &tracker);
     Ok(())

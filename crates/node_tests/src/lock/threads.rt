@@ -2,7 +2,7 @@
 ghost use Rattle.std.specs.Prelude.{◌≡◌, ◌<◌, length, IfSome};
 ghost use Rattle.std.specs.Thread.{IsSync};
 
-use crate::nodes::{Caller, Journal, LOWERED, Shared, key, left, node, ordered, stray};
+use crate::lock::nodes::{Caller, Journal, LOWERED, Shared, key, left, node, ordered, stray};
 use locked_node::{CallAnswer, CallKind, Tally};
 use node_core::{DatabaseNo, JoinRefusal, LeaveReply, Order, Pass, TicketRecord};
 use pg_ids::{AnyKey, Kind, Secret};

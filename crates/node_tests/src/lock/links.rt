@@ -1,9 +1,9 @@
 //! Two clients, one link: each step on links through a lock, and what is counted of it.
 ghost use Rattle.std.specs.Prelude.{◌≡◌, ◌<◌, length};
 
-use crate::nodes::{Caller, Shared, Stream, key, ordered};
-use crate::steps::{got, leave, login, one_link, open, opened, served, waits};
-use crate::sums::{assert_once, assert_short};
+use crate::lock::nodes::{Caller, Shared, Stream, key, ordered};
+use crate::lock::steps::{got, leave, login, one_link, open, opened, served, waits};
+use crate::lock::sums::{assert_once, assert_short};
 use cancel_router::RouteRefusal;
 use locked_node::{CallAnswer, CallKind};
 use node_core::{

@@ -1,5 +1,5 @@
 use Rattle.std.proofs.Common.{◌≡◌}
-use Rattle.lock_tests.proofs.turns.start_anew.Given as goal
+use Rattle.node_tests.proofs.lock.turns.start_anew.Given as goal
 
 -- the caller is of the same lock
 abbrev pub invariant-loop : goal.invariant-loop

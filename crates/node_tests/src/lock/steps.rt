@@ -1,7 +1,7 @@
 //! Steps for the tests, through a lock: what each hands out, or that it was another answer.
 ghost use Rattle.std.specs.Prelude.{◌≡◌, ◌<◌, length, IfOk};
 
-use crate::nodes::{Caller, Journal, Shared, Stream, alone, left, ordered};
+use crate::lock::nodes::{Caller, Journal, Shared, Stream, alone, left, ordered};
 use node_core::{
     AcquireReply, DatabaseNo, Lease, LeaveReply, Order, Pass, Permit, Ticket, UpReply,
 };

@@ -2,9 +2,9 @@
 //! One client takes back the link that it gave back, and the wait of the other is cancelled.
 ghost use Rattle.std.specs.Prelude.{◌≡◌, ◌<◌, length};
 
-use crate::nodes::{Caller, Shared, Stream, ordered};
-use crate::steps::{got, is_cancelled, leave, login, one_link, open, served, stayed, waits};
-use crate::sums::{assert_long, assert_short};
+use crate::lock::nodes::{Caller, Shared, Stream, ordered};
+use crate::lock::steps::{got, is_cancelled, leave, login, one_link, open, served, stayed, waits};
+use crate::lock::sums::{assert_long, assert_short};
 use cancel_router::RouteRefusal;
 use locked_node::CallAnswer;
 use node_core::{CancelRefusal, EndedReply, Lease, Order, Pass, ReleaseReply, RestartReply};

@@ -3,8 +3,8 @@
 ghost use Rattle.std.specs.Prelude.{◌≡◌, ◌<◌, length};
 ghost use Rattle.std.specs.Thread.{IsSync};
 
-use crate::nodes::{Caller, Shared, Stream, alone};
-use crate::steps::{login, open};
+use crate::lock::nodes::{Caller, Shared, Stream, alone};
+use crate::lock::steps::{login, open};
 use link_pool::Claim;
 use locked_node::{CallAnswer, CallKind};
 use node_core::{AcquireReply, DatabaseNo, Lease, Pass, UpReply, View};

@@ -1,5 +1,5 @@
 use Rattle.std.proofs.Common.{◌≡◌}
-use Rattle.lock_tests.proofs.threads.work.Given as goal
+use Rattle.node_tests.proofs.lock.threads.work.Given as goal
 
 -- it is the caller of that lock still
 abbrev pub invariant-loop-i : goal.invariant-loop-i

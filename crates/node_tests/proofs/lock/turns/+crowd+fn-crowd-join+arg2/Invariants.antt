@@ -1,5 +1,5 @@
 use Rattle.std.proofs.Common.{ℕ, ◌+◌}
-use Rattle.lock_tests.proofs.turns.+crowd+fn-crowd-join+arg2.Given as goal
+use Rattle.node_tests.proofs.lock.turns.+crowd+fn-crowd-join+arg2.Given as goal
 
 -- each thread has fewer others behind it
 abbrev pub decreases-crowd : goal.decreases-crowd

@@ -1,6 +1,6 @@
 //! Answers, byte by byte and row by row.
-use crate::answers::busy::busy_node;
-use crate::answers::lines::{kinds, lines_of};
+use crate::console_rows::busy::busy_node;
+use crate::console_rows::lines::{kinds, lines_of};
 use console::rows;
 use ini_config::{Settings, read_settings};
 use node_core::{NodeCore, View};

@@ -1,8 +1,8 @@
 //! The calls of one caller: replies, counts, and sums of numbers.
 ghost use Rattle.std.specs.Prelude.{◌≡◌, ◌<◌, length};
 
-use crate::nodes::{Caller, Journal, Shared, key, left, node, ordered, stray};
-use crate::sums::{assert_long, assert_short};
+use crate::lock::nodes::{Caller, Journal, Shared, key, left, node, ordered, stray};
+use crate::lock::sums::{assert_long, assert_short};
 use locked_node::{CallAnswer, CallKind, Cancel};
 use node_core::{DatabaseNo, Exchange, JoinRefusal, LeaveReply, Pass};
 use pg_ids::{AnyKey, Kind, Secret};

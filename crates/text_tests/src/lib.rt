@@ -1,6 +1,0 @@
-//! Tests of settings files and groups by public calls alone. They have a crate of their own, since
-//! a crate with tests is proved twice: without them and with them.
-#![tactic(auto)]
-
-#[cfg(test)]
-mod settings;
