@@ -16,7 +16,7 @@ fn is_blank(byte: u8) -> bool
 }
 
 /// The text without spaces and tabs at both ends.
-pub(crate) fn trimmed(text: &str) -> &str
+pub fn trimmed(text: &str) -> &str
     ensures { result.now ≡ trimmed text.now }
 {
     trim_back(trim_front(text))

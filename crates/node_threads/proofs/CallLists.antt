@@ -4,18 +4,8 @@ use Rattle.std.proofs.lemmas.List.{drop-drop, nil_from_length, take-append-le}
 use Rattle.std.specs.List.{AllByRecursion}
 use Rattle.std.specs.declared.io.Error.{Error}
 use Rattle.peer_forward.specs.Calls.{Call, WriteCall, ReadCall, Effect, Makes, taken}
+use Rattle.peer_forward.proofs.CallLemmas.{Makes-append}
 use Rattle.node_threads.specs.StreamCalls.{given, IsWrite, IsFailedWrite, IsRead, IsFailedRead, Wrote, WroteSome, Read, ReadToEnd}
-
--- calls made after others
-pub Makes-append : {T : Type 0} (wrote gave : Effect T) (a b c : T) (before after : List Call)
-    → Makes wrote gave a before b → Makes wrote gave b after c
-    → Makes wrote gave a (before ++ after) c
-Makes-append wrote gave a b c [] after first more =
-    subst (λ (s : _). Makes wrote gave s after c) first more
-Makes-append wrote gave a b c (WriteCall bytes result ∷ before) after first more =
-    (first.0, first.1, Makes-append wrote gave first.0 b c before after first.2 more)
-Makes-append wrote gave a b c (ReadCall buffer result ∷ before) after first more =
-    (first.0, first.1, Makes-append wrote gave first.0 b c before after first.2 more)
 
 pub taken-append : (xs ys : List Call) → taken (xs ++ ys) ≡ taken xs ++ taken ys
 taken-append [] ys = refl

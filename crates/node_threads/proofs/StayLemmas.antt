@@ -12,7 +12,7 @@ use Rattle.node_threads.specs.Replying.{ReplyEnd, Ready, Replies, WritesReply}
 use Rattle.node_threads.specs.Progress.{asking, in_transaction, Finishes, EndsHere, GoesOn, LeavesBehind}
 use Rattle.node_threads.specs.Finding.{AsksNext}
 use Rattle.node_threads.specs.Stay.{Round, IsRound, Ending, Unsent, Replied, Deserted, Ends, Runs, Stay}
-use Rattle.node_threads.proofs.CallLists.{Makes-append}
+use Rattle.peer_forward.proofs.CallLemmas.{Makes-append}
 use Rattle.node_threads.proofs.Totals.{stay_of}
 
 -- a reply of which nothing was read or written before

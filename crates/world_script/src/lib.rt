@@ -11,7 +11,6 @@ mod peers;
 mod reply_text;
 mod script;
 mod statement;
-mod trim;
 mod word;
 
 pub use fault::ScriptError;

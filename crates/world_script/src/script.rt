@@ -9,8 +9,7 @@ ghost use Rattle.world_script.specs.Reads.{ReadsOnly, Refuses, RefusesOnly, in_l
 use crate::draft::Draft;
 use crate::fault::{LineFault, ScriptError};
 use crate::peers::settings_of;
-use crate::trim::trimmed;
-use ini_config::Settings;
+use ini_config::{Settings, trimmed};
 use std::alloc::{AllocError, Global};
 use world::Event;
 
