@@ -1,5 +1,6 @@
 pub mod Told
 pub mod Balancing
+pub mod CarryingLemmas
 pub mod CallLists
 pub mod HandingLemmas
 pub mod EndLemmas
