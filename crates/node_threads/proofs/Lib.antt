@@ -12,3 +12,4 @@ pub mod Totals
 pub mod StayLemmas
 pub mod LoginLemmas
 pub mod OpeningLemmas
+pub mod LeaseLemmas

@@ -1,6 +1,5 @@
 -- What a client that has asked for a link has in hand, and what its link is connected to (own).
-use Rattle.std.specs.Prelude.{ℕ, ◌≡◌, List, Option, Some, None, Result, Ok, slice_get}
-use Rattle.std.specs.declared.io.Error.{Error}
+use Rattle.std.specs.Prelude.{ℕ, ◌≡◌, List, Option, Some, None, Ok, slice_get}
 use Rattle.ini_config.specs.Node.{DatabaseSettings}
 use Rattle.peer_forward.specs.Calls.{Effect}
 use Rattle.node_threads.specs.Balance.{Hand, nothing, a_lease}

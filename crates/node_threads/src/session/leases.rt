@@ -1,6 +1,9 @@
 //! A link for a client's request: an idle one, or a new one that is opened.
 ghost use Rattle.std.specs.Prelude.{◌≡◌, ◌+◌, ◌≤◌, ℕ, List, length, IsTrue, IfOk};
 ghost use Rattle.startup.specs.StartupMessage.{HasNoZero};
+ghost use Rattle.link_pool.specs.declared.replies.UpReply.TheVariants as up;
+ghost use Rattle.node_core.specs.declared.exchange.Exchange.TheVariants as step;
+ghost use Rattle.locked_node.specs.Lock.{CallerStep};
 ghost use Rattle.node_threads.specs.Balance.{Moves, nothing, a_lease, a_permit};
 ghost use Rattle.node_threads.specs.Leasing.{hand_of, hand_of_answer, OfLease, OfAnswer, IsLoggedIn};
 
@@ -133,7 +136,8 @@ fn open<R: Wait, O: Opener, G: Gate>(
     ensures logged_in { OfLease (λ lease. (key : List ℕ) × IsLoggedIn
         ⟦<O::Stream as WriteCalls>⟧.wrote ⟦<O::Stream as ReadCalls>⟧.gave
         (O.connects service.entry.opener.now) service.entry.settings.now.databases
-        lease.details.at.database key lease.stream.stream) result }
+        lease.details.at.database key lease.stream.stream
+        × CallerStep caller.old (step.Up permit key (up.Up lease.details)) caller.new) result }
 {
     match connect(service, permit.details().at.database) {
         Ok(opened) => put_up(service, caller, permit, opened),
@@ -185,6 +189,9 @@ fn put_up<R: Wait, O: Opener, G: Gate>(
     ensures moves { Moves a_permit caller.old (hand_of result) caller.new }
     ensures at { OfLease (λ lease. lease.details.at ≡ permit.at) result }
     ensures link { OfLease (λ lease. lease.stream ≡ opened.link) result }
+    // The node was told the key that the server gave.
+    ensures key { OfLease (λ lease. CallerStep caller.old
+        (step.Up permit opened.key (up.Up lease.details)) caller.new) result }
 {
     let shared = service.shared;
     match shared.up(service.rt, caller, permit, opened.link, opened.key) {

@@ -1,4 +1,3 @@
-use Rattle.std.proofs.Common.{refl}
 use Rattle.node_threads.proofs.CarryingLemmas.{carried-over}
 use Rattle.node_threads.proofs.cancel.orders.forward.Goals as goal
 

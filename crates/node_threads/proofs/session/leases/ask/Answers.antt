@@ -1,6 +1,6 @@
 use Rattle.node_threads.specs.Balance.{nothing, a_permit, a_lease}
 use Rattle.node_threads.specs.Leasing.{hand_of, hand_of_answer}
-use Rattle.node_threads.proofs.Balancing.{moves_on, moves_nothing, acquire_moves, not_given_moves}
+use Rattle.node_threads.proofs.Balancing.{moves_on, acquire_moves, not_given_moves}
 use Rattle.node_threads.proofs.session.leases.ask.Goals as goal
 
 pub returns-in-Got : goal.returns-in-Got
