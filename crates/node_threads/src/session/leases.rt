@@ -97,8 +97,8 @@ fn ask<R: Wait, O: Opener, G: Gate>(
     }
 }
 
-// Takes a link of this database that nobody used. One that isn't as it was left is closed: its
-// server ended it, or sent what nobody asked for.
+// Takes a link that nobody used. One that isn't as it was left is closed: its server ended it, or
+// sent what nobody asked for. So is one of another database.
 fn take<R: Wait, O: Opener, G: Gate>(
     service: Service<'_, R, Link<O::Stream>, O, G>,
     caller: &mut Caller<Link<O::Stream>>,
