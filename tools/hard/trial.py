@@ -14,6 +14,8 @@ from hard.wire import Client, Late, Lost, Refused, wait_until
 
 SCENARIOS = {}
 LIBC = ctypes.CDLL(None, use_errno=True)
+# As ./pgpeer sets it.
+ENVIRONMENT = {**os.environ, "MALLOC_TRIM_THRESHOLD_": "131072"}
 Scenario = collections.namedtuple("Scenario", "name run limit slow words")
 
 
@@ -181,7 +183,7 @@ class Pooler:
         self.starts += 1
         with open(f"{self.base}.out", "w") as out, open(f"{self.base}.err", "a") as err:
             self.process = subprocess.Popen(
-                self.command(), stdin=subprocess.DEVNULL, stdout=out, cwd="/",
+                self.command(), stdin=subprocess.DEVNULL, stdout=out, cwd="/", env=ENVIRONMENT,
                 stderr=err if self.stderr is None else self.stderr, preexec_fn=self.before_exec)
         if wait_until(self.listens, 10) is None:
             raise OSError(f"{self.trial.options.program} doesn't listen: {self.errors()}")
