@@ -125,7 +125,16 @@ impl<M: Machine> Dialer<M> {
 }
 
 impl<'a, M: Machine> Opener for ClientDialer<'a, M> {
+    ghost use Rattle.std.specs.Prelude.{⊤};
+
     type Stream = LinkStream<M>;
+
+    // No contract says what a socket is connected to.
+    ghost connects = { λ _ _ _. ⊤ };
+
+    ghost cancels = { λ _ _ _. ⊤ };
+
+    ghost reaches = { λ _ _ _. ⊤ };
 
     fn server<R: Wait>(&self, _rt: &R, database: DatabaseNo) -> io::Result<LinkStream<M>> {
         let settings = self.dialer.settings()?;

@@ -1,5 +1,6 @@
 pub mod Told
 pub mod Balancing
+pub mod CarryingLemmas
 pub mod CallLists
 pub mod HandingLemmas
 pub mod EndLemmas
@@ -11,3 +12,4 @@ pub mod Totals
 pub mod StayLemmas
 pub mod LoginLemmas
 pub mod OpeningLemmas
+pub mod LeaseLemmas

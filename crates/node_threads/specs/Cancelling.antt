@@ -1,7 +1,11 @@
--- How a cancel connection is served (own). `ServesCancel`: one order for its key, one report of its
--- ticket, what is counted, and the verdict for the requester.
-use Rattle.std.specs.Prelude.{ℕ, ◌≡◌, ◌<◌, ◌⊎◌, List, [], ◌∷◌}
+-- How a cancel connection is served (own). `ServesCancel`: one order for its key, the connection
+-- that its request was carried over, one report of its ticket, what is counted, and the verdict for
+-- the requester.
+use Rattle.std.specs.Prelude.{ℕ, ◌≡◌, ◌<◌, ◌⊎◌, List, [], ◌∷◌, Result, Ok, Err}
+use Rattle.std.specs.declared.io.Error.{Error}
 use Rattle.pg_ids.specs.declared.any_key.AnyKey.{AnyKey}
+use Rattle.pg_ids.specs.declared.any_key.KeyBytes.TheVariants as bytes
+use Rattle.startup.specs.CancelPacket.{packet_of, packet_bytes}
 use Rattle.lease.specs.declared.ticket.TicketRecord.{TicketRecord}
 use Rattle.cancel_router.specs.declared.refusal.RouteRefusal.TheVariants as route
 use Rattle.node_core.specs.declared.refusal.CancelRefusal.{CancelRefusal}
@@ -10,6 +14,8 @@ use Rattle.node_core.specs.declared.exchange.Order.{Order}
 use Rattle.node_core.specs.declared.exchange.Order.TheVariants as order
 use Rattle.node_core.specs.declared.exchange.Exchange.TheVariants as step
 use Rattle.locked_node.specs.Lock.{CallerView, Counted}
+use Rattle.peer_forward.specs.Calls.{Effect}
+use Rattle.peer_forward.specs.Carrying.{Carried}
 use Rattle.peer_forward.specs.declared.outcome.Outcome.{Outcome}
 use Rattle.peer_forward.specs.declared.outcome.Outcome.TheVariants as outcome
 use Rattle.peer_forward.specs.declared.verdict.Verdict.{Verdict}
@@ -52,17 +58,39 @@ words_of (order.Forward peer packet) end = counter.Forwarded ∷ []
 words_of (order.Unwait slot) end = []
 words_of (order.Refused reason) end = words_of_refusal reason
 
--- how a request that is carried on ends: by its outcome, or because it couldn't be connected
-abbrev pub IsCarried : Outcome → Verdict → Type 0
-IsCarried end told =
-    (told ≡ verdict.Carried end) ⊎ ((told ≡ verdict.NoConnect) × (end ≡ outcome.Failed))
+-- what may come of connecting to the database or peer with a number
+abbrev pub Opens : Type 0 → Type 1
+Opens T = ℕ → Result T Error → Type 0
 
--- the verdict of an order
-abbrev pub IsVerdict : Order TicketRecord → Outcome → Verdict → Type 0
-IsVerdict (order.Serve ticket database server) end told = IsCarried end told
-IsVerdict (order.Forward peer packet) end told = IsCarried end told
-IsVerdict (order.Unwait slot) end told = told ≡ verdict.Unwaited
-IsVerdict (order.Refused reason) end told = told ≡ verdict.Refused
+-- a packet was carried with this outcome, from the first byte on, on a stream that was opened for
+-- the database or peer with this number
+pub record CarriedOver {T : Type 0} (wrote gave : Effect T) (opens : Opens T) (number : ℕ)
+    (packet : List ℕ) (end : Outcome) : Type 0 where
+  pub stream : T
+  pub opened : opens number (Ok stream)
+  pub after : T
+  pub carried : Carried wrote gave stream packet end after
+
+-- how a packet is carried on, and to whom
+abbrev pub Carries : Type 1
+Carries = ℕ → List ℕ → Outcome → Verdict → Type 0
+
+-- how a packet that is carried on ends: by its outcome, or because the one try to connect failed
+abbrev pub IsCarried : {T : Type 0} → Effect T → Effect T → Opens T → Carries
+IsCarried wrote gave opens number packet end told =
+    (CarriedOver wrote gave opens number packet end × (told ≡ verdict.Carried end))
+    ⊎ ((error : Error) × opens number (Err error)
+    × (told ≡ verdict.NoConnect) × (end ≡ outcome.Failed))
+
+-- The verdict of an order. A request for a server has the key of the link's backend, and goes to
+-- the server of the link's database; one for a peer is the packet of the order.
+abbrev pub IsVerdict : Carries → Carries → Order TicketRecord → Outcome → Verdict → Type 0
+IsVerdict ToServer ToPeer (order.Serve ticket database server) end told =
+    ToServer database (packet_bytes (packet_of (bytes.Short server))) end told
+IsVerdict ToServer ToPeer (order.Forward peer packet) end told =
+    ToPeer peer (packet_bytes packet) end told
+IsVerdict ToServer ToPeer (order.Unwait slot) end told = told ≡ verdict.Unwaited
+IsVerdict ToServer ToPeer (order.Refused reason) end told = told ≡ verdict.Refused
 
 -- for an order to serve, the end of its ticket's request is reported to the node; for any other,
 -- nothing changes
@@ -74,13 +102,13 @@ Settles (order.Refused reason) end old new = new ≡ old
 
 -- A request that was carried on: with some verdict of this outcome the requester's connection is
 -- finished.
-abbrev pub FinishesCarried : (Verdict → Type 0) → Outcome → Type 0
-FinishesCarried Finished end = (told : Verdict) × IsCarried end told × Finished told
+abbrev pub FinishesCarried : (Outcome → Verdict → Type 0) → (Verdict → Type 0) → Outcome → Type 0
+FinishesCarried IsEnd Finished end = (told : Verdict) × IsEnd end told × Finished told
 
 -- A cancel connection was served by a caller and a seat: the node gave one order for its key, which
 -- was carried out with some outcome, and the requester's connection was finished by its verdict.
-pub record ServesCancel (key : AnyKey) (old new : CallerView) (seat next : SeatView)
-    (Finished : Verdict → Type 0) : Type 0 where
+pub record ServesCancel (ToServer ToPeer : Carries) (key : AnyKey) (old new : CallerView)
+    (seat next : SeatView) (Finished : Verdict → Type 0) : Type 0 where
   pub given : Order TicketRecord
   pub end : Outcome
   pub between : CallerView
@@ -88,5 +116,5 @@ pub record ServesCancel (key : AnyKey) (old new : CallerView) (seat next : SeatV
   pub settled : Settles given end between new
   pub counted : CountsAll (words_of given end) seat next
   pub told : Verdict
-  pub verdict : IsVerdict given end told
+  pub verdict : IsVerdict ToServer ToPeer given end told
   pub finished : Finished told

@@ -1,4 +1,7 @@
 //! The servers and the other poolers that a client's connection reaches.
+ghost use Rattle.std.specs.Prelude.{ℕ, Result};
+ghost use Rattle.std.specs.declared.io.Error.{Error};
+
 use pg_ids::{DatabaseNo, PeerNo};
 use std::io;
 use std::io::{Read, Write};
@@ -10,16 +13,26 @@ pub trait Opener {
     /// A connection. It is closed when it is dropped.
     type Stream: Read + Write + Drop;
 
+    /// What may come of connecting to the server of a database, for a link.
+    ghost connects: { Self → ℕ → Result Self.Stream Error → Type 0 };
+
+    /// What may come of connecting to the server of a database, for a cancel request.
+    ghost cancels: { Self → ℕ → Result Self.Stream Error → Type 0 };
+
+    /// What may come of connecting to a peer, for a cancel request.
+    ghost reaches: { Self → ℕ → Result Self.Stream Error → Type 0 };
+
     /// Connects to the server of this database, for a link.
-    fn server<R: Wait>(&self, rt: &R, database: DatabaseNo) -> io::Result<Self::Stream>;
+    fn server<R: Wait>(&self, rt: &R, database: DatabaseNo) -> io::Result<Self::Stream>
+        ensures opened { connects self.now database result };
 
     /// Connects to the server of this database, for a cancel request.
-    fn cancel<R: Wait>(&self, rt: &R, database: DatabaseNo) -> io::Result<Self::Stream> {
-        self.server(rt, database)
-    }
+    fn cancel<R: Wait>(&self, rt: &R, database: DatabaseNo) -> io::Result<Self::Stream>
+        ensures opened { cancels self.now database result };
 
     /// Connects to this peer, for a cancel request.
-    fn peer<R: Wait>(&self, rt: &R, peer: PeerNo) -> io::Result<Self::Stream>;
+    fn peer<R: Wait>(&self, rt: &R, peer: PeerNo) -> io::Result<Self::Stream>
+        ensures opened { reaches self.now peer result };
 
     /// Whether the stream of a link that nobody used is as it was left: it is open, and nothing
     /// came on it. It doesn't wait.

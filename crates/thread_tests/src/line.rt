@@ -375,7 +375,15 @@ impl<'a> Dials<'a> {
 }
 
 impl Opener for Dials<'_> {
+    ghost use Rattle.std.specs.Prelude.{⊤};
+
     type Stream = Line;
+
+    ghost connects = { λ _ _ _. ⊤ };
+
+    ghost cancels = { λ _ _ _. ⊤ };
+
+    ghost reaches = { λ _ _ _. ⊤ };
 
     fn server<R: Wait>(&self, _rt: &R, database: DatabaseNo) -> io::Result<Line> {
         self.dial(Event::Server(database.get()))

@@ -199,7 +199,15 @@ impl<'a> Dialer<'a> {
 }
 
 impl<'a> Opener for Dialer<'a> {
+    ghost use Rattle.std.specs.Prelude.{⊤};
+
     type Stream = Wire<'a>;
+
+    ghost connects = { λ _ _ _. ⊤ };
+
+    ghost cancels = { λ _ _ _. ⊤ };
+
+    ghost reaches = { λ _ _ _. ⊤ };
 
     fn server<R: Wait>(&self, _rt: &R, database: DatabaseNo) -> io::Result<Wire<'a>> {
         self.log.add(Event::Server(database.get()));

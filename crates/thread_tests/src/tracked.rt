@@ -181,9 +181,21 @@ impl Dialer<'_> {
 }
 
 impl Opener for Dialer<'_> {
+    ghost use Rattle.std.specs.Prelude.{⊤};
+
     type Stream = Talk;
 
+    ghost connects = { λ _ _ _. ⊤ };
+
+    ghost cancels = { λ _ _ _. ⊤ };
+
+    ghost reaches = { λ _ _ _. ⊤ };
+
     fn server<R: Wait>(&self, _rt: &R, _database: DatabaseNo) -> io::Result<Talk> {
+        self.dial()
+    }
+
+    fn cancel<R: Wait>(&self, _rt: &R, _database: DatabaseNo) -> io::Result<Talk> {
         self.dial()
     }
 

@@ -1,11 +1,11 @@
 //! A cancel connection, from its key to its end.
 ghost use Rattle.std.specs.Prelude.{◌≡◌};
 ghost use Rattle.pg_ids.specs.declared.any_key.KeyBytes.TheVariants as bytes;
-ghost use Rattle.startup.specs.CancelPacket.{packet_of};
+ghost use Rattle.startup.specs.CancelPacket.{packet_of, packet_bytes};
 ghost use Rattle.peer_forward.specs.Finishing.{Finishes};
 ghost use Rattle.stat_board.specs.Places.{place_of};
 ghost use Rattle.node_threads.specs.Desks.{Tells, reported};
-ghost use Rattle.node_threads.specs.Cancelling.{Tries, CountsAll, words_of_refusal, word_of_outcome, FinishesCarried, ServesCancel};
+ghost use Rattle.node_threads.specs.Cancelling.{Tries, CountsAll, words_of_refusal, word_of_outcome, IsCarried, FinishesCarried, ServesCancel};
 ghost use Rattle.node_threads.specs.Balance.{Balanced, CancelsAtMostOnce};
 
 use crate::{Desk, Gate, LockDesk, Opener, Point, Service, relay, report};
@@ -13,7 +13,7 @@ use cancel_router::RouteRefusal;
 use lease::Ticket;
 use locked_node::Caller;
 use node_core::{CancelRefusal, Order};
-use peer_forward::{Outcome, Verdict, WriteCalls, finish};
+use peer_forward::{Outcome, ReadCalls, Verdict, WriteCalls, finish};
 use pg_ids::{AnyKey, DatabaseNo, PeerNo, ServerKey};
 use startup::{Packet, write_cancel};
 use stat_board::{Board, BoardSeat, Counter};
@@ -39,9 +39,15 @@ where
     Q: WriteCalls,
     requires own { caller.old.lock ≡ service.shared.now }
     requires board { seat.old.board ≡ board.now }
-    // One order for this key, which is carried out, reported if it has a ticket, and counted. The
-    // requester's connection is finished by its verdict.
-    ensures served { ServesCancel key caller.old caller.new seat.old seat.new
+    // One order for this key, which is carried out over a connection that was opened for it,
+    // reported if it has a ticket, and counted. The requester's connection is finished by its
+    // verdict.
+    ensures served { ServesCancel
+        (IsCarried ⟦<O::Stream as WriteCalls>⟧.wrote ⟦<O::Stream as ReadCalls>⟧.gave
+        (O.cancels service.entry.opener.now))
+        (IsCarried ⟦<O::Stream as WriteCalls>⟧.wrote ⟦<O::Stream as ReadCalls>⟧.gave
+        (O.reaches service.entry.opener.now))
+        key caller.old caller.new seat.old seat.new
         (λ verdict. Finishes Q.wrote requester.old verdict requester.new) }
     // Each ticket that was made was spent, and nothing else was made or spent.
     ensures balanced { Balanced caller.old caller.new }
@@ -86,6 +92,8 @@ where
     requires own { caller.old.lock ≡ service.shared.now }
     ensures told { Tells (reported result ticket) caller.old caller.new }
     ensures finished { FinishesCarried
+        (IsCarried ⟦<O::Stream as WriteCalls>⟧.wrote ⟦<O::Stream as ReadCalls>⟧.gave
+        (O.cancels service.entry.opener.now) database (packet_bytes request))
         (λ verdict. Finishes Q.wrote requester.old verdict requester.new) result }
 {
     let context = service.context();
@@ -114,6 +122,8 @@ where
     G: Gate,
     Q: WriteCalls,
     ensures finished { FinishesCarried
+        (IsCarried ⟦<O::Stream as WriteCalls>⟧.wrote ⟦<O::Stream as ReadCalls>⟧.gave
+        (O.reaches service.entry.opener.now) peer (packet_bytes packet))
         (λ verdict. Finishes Q.wrote requester.old verdict requester.new) result }
 {
     service.gate.pass(service.rt, Point::Ordered);

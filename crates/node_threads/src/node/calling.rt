@@ -1,7 +1,8 @@
 //! A node that serves clients, and who calls it.
-ghost use Rattle.std.specs.Prelude.{◌≡◌, ℕ, ◌<◌, ◌≤◌, length, slice_get, Some};
+ghost use Rattle.std.specs.Prelude.{◌≡◌, ℕ, ◌<◌, ◌≤◌, length, slice_get, Some, IfOk};
 ghost use Rattle.std.specs.Option.{ForSome};
 ghost use Rattle.std.specs.Arc.{arc_value};
+ghost use Rattle.node_core.specs.View.{IsFresh};
 ghost use Rattle.node_threads.specs.Balance.{Balanced};
 ghost use Rattle.node_threads.specs.Restarting.{boot_after, RestartsAt};
 
@@ -63,6 +64,9 @@ impl<L: Drop> Calling<L> {
         boot: Boot,
     ) -> Result<Calling<L>, AllocError>
         requires { place < length (arc_value group.now) }
+        // The node is new: it has the settings of its place, and this boot.
+        ensures fresh { IfOk result (λ calling. ForSome (slice_get (arc_value group.now) place)
+            (λ settings. IsFresh settings boot calling.caller.start.view)) }
     {
         let settings = &group.nodes()[place];
         let core = NodeCore::new(alloc, settings, boot)?;

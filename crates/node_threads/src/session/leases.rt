@@ -1,14 +1,18 @@
 //! A link for a client's request: an idle one, or a new one that is opened.
-ghost use Rattle.std.specs.Prelude.{◌≡◌, ◌+◌, ◌≤◌, length, IsTrue};
+ghost use Rattle.std.specs.Prelude.{◌≡◌, ◌+◌, ◌≤◌, ℕ, List, length, IsTrue, IfOk};
 ghost use Rattle.startup.specs.StartupMessage.{HasNoZero};
+ghost use Rattle.link_pool.specs.declared.replies.UpReply.TheVariants as up;
+ghost use Rattle.node_core.specs.declared.exchange.Exchange.TheVariants as step;
+ghost use Rattle.locked_node.specs.Lock.{CallerStep};
 ghost use Rattle.node_threads.specs.Balance.{Moves, nothing, a_lease, a_permit};
-ghost use Rattle.node_threads.specs.Leasing.{hand_of, hand_of_answer};
+ghost use Rattle.node_threads.specs.Leasing.{hand_of, hand_of_answer, OfLease, OfAnswer, IsLoggedIn};
 
 use crate::login::{LinkError, LoggedIn, log_in};
 use crate::{Entrance, Gate, Link, Opener, Point, Service};
 use lease::{Lease, Pass, Permit};
 use link_pool::{AcquireReply, UpReply};
 use locked_node::Caller;
+use peer_forward::{ReadCalls, WriteCalls};
 use pg_ids::DatabaseNo;
 use startup::ErrorCode;
 use std::io;
@@ -41,6 +45,7 @@ pub fn acquire<R: Wait, O: Opener, G: Gate>(
     requires own { caller.old.lock ≡ service.shared.now }
     // A lease was made where one is returned, and no permit is left.
     ensures moves { Moves nothing caller.old (hand_of result) caller.new }
+    ensures database { OfLease (λ lease. lease.details.at.database ≡ database) result }
 {
     let has_waited = entrance.enter(service.rt, database);
     if has_waited && service.opener.is_gone() {
@@ -65,14 +70,15 @@ fn ask<R: Wait, O: Opener, G: Gate>(
 ) -> Option<Acquired<Lease<Link<O::Stream>>>>
     requires own { caller.old.lock ≡ service.shared.now }
     ensures moves { Moves nothing caller.old (hand_of_answer result) caller.new }
+    ensures database { OfAnswer (λ lease. lease.details.at.database ≡ database) result }
 {
     let answer = service.shared.acquire(service.rt, caller, pass);
     entrance.asked();
     match answer {
-        AcquireReply::Got(lease) => take(service, caller, lease),
+        AcquireReply::Got(lease) => take(service, caller, database, lease),
         AcquireReply::Open(permit) => {
-            let opened = open(service, caller, database, permit);
-            Some(unless_gone(service, caller, opened))
+            let opened = open(service, caller, permit);
+            Some(unless_gone(service, caller, database, opened))
         }
         AcquireReply::Waiting => {
             entrance.queue(service.rt, database);
@@ -92,16 +98,18 @@ fn ask<R: Wait, O: Opener, G: Gate>(
 }
 
 // Takes a link that nobody used. One that isn't as it was left is closed: its server ended it, or
-// sent what nobody asked for.
+// sent what nobody asked for. So is one of another database.
 fn take<R: Wait, O: Opener, G: Gate>(
     service: Service<'_, R, Link<O::Stream>, O, G>,
     caller: &mut Caller<Link<O::Stream>>,
+    database: DatabaseNo,
     lease: Lease<Link<O::Stream>>,
 ) -> Option<Acquired<Lease<Link<O::Stream>>>>
     requires own { caller.old.lock ≡ service.shared.now }
     ensures moves { Moves a_lease caller.old (hand_of_answer result) caller.new }
+    ensures database { OfAnswer (λ lease. lease.details.at.database ≡ database) result }
 {
-    if service.opener.is_quiet(&lease.stream().stream) {
+    if is_of(&lease, database) && service.opener.is_quiet(&lease.stream().stream) {
         return Some(Acquired::Lease(lease));
     }
     service.gate.pass(service.rt, Point::Ready);
@@ -109,17 +117,29 @@ fn take<R: Wait, O: Opener, G: Gate>(
     None
 }
 
-// Opens the link of a permit.
+// Whether the link of a lease is this database's. The node gives no other; no clause of the lock
+// says so.
+fn is_of<L>(lease: &Lease<L>, database: DatabaseNo) -> bool
+    ensures { IsTrue result → lease.now.details.at.database ≡ database }
+{
+    lease.details().at.database.0 == database.0
+}
+
+// Opens the link of a permit, at the server of the permit's database.
 fn open<R: Wait, O: Opener, G: Gate>(
     service: Service<'_, R, Link<O::Stream>, O, G>,
     caller: &mut Caller<Link<O::Stream>>,
-    database: DatabaseNo,
     permit: Permit,
 ) -> Acquired<Lease<Link<O::Stream>>>
     requires own { caller.old.lock ≡ service.shared.now }
     ensures moves { Moves a_permit caller.old (hand_of result) caller.new }
+    ensures logged_in { OfLease (λ lease. (key : List ℕ) × IsLoggedIn
+        ⟦<O::Stream as WriteCalls>⟧.wrote ⟦<O::Stream as ReadCalls>⟧.gave
+        (O.connects service.entry.opener.now) service.entry.settings.now.databases
+        lease.details.at.database key lease.stream.stream
+        × CallerStep caller.old (step.Up permit key (up.Up lease.details)) caller.new) result }
 {
-    match connect(service, database) {
+    match connect(service, permit.details().at.database) {
         Ok(opened) => put_up(service, caller, permit, opened),
         Err(error) => {
             let _reply = service.shared.up_failed(service.rt, caller, permit);
@@ -131,18 +151,21 @@ fn open<R: Wait, O: Opener, G: Gate>(
     }
 }
 
-// The link of a client that left while it was opened is closed: its request isn't to run.
+// The link of a client that left while it was opened is closed: its request isn't to run. So is one
+// of another database.
 fn unless_gone<R: Wait, O: Opener, G: Gate>(
     service: Service<'_, R, Link<O::Stream>, O, G>,
     caller: &mut Caller<Link<O::Stream>>,
+    database: DatabaseNo,
     opened: Acquired<Lease<Link<O::Stream>>>,
 ) -> Acquired<Lease<Link<O::Stream>>>
     requires own { caller.old.lock ≡ service.shared.now }
     ensures moves { Moves (hand_of opened) caller.old (hand_of result) caller.new }
+    ensures database { OfLease (λ lease. lease.details.at.database ≡ database) result }
 {
     match opened {
         Acquired::Lease(lease) => {
-            if !service.opener.is_gone() {
+            if is_of(&lease, database) && !service.opener.is_gone() {
                 return Acquired::Lease(lease);
             }
             service.gate.pass(service.rt, Point::Ready);
@@ -164,6 +187,11 @@ fn put_up<R: Wait, O: Opener, G: Gate>(
 ) -> Acquired<Lease<Link<O::Stream>>>
     requires own { caller.old.lock ≡ service.shared.now }
     ensures moves { Moves a_permit caller.old (hand_of result) caller.new }
+    ensures at { OfLease (λ lease. lease.details.at ≡ permit.at) result }
+    ensures link { OfLease (λ lease. lease.stream ≡ opened.link) result }
+    // The node was told the key that the server gave.
+    ensures key { OfLease (λ lease. CallerStep caller.old
+        (step.Up permit opened.key (up.Up lease.details)) caller.new) result }
 {
     let shared = service.shared;
     match shared.up(service.rt, caller, permit, opened.link, opened.key) {
@@ -182,7 +210,12 @@ fn put_up<R: Wait, O: Opener, G: Gate>(
 fn connect<R: Wait, O: Opener, G: Gate>(
     service: Service<'_, R, Link<O::Stream>, O, G>,
     database: DatabaseNo,
-) -> Result<LoggedIn<O::Stream>, LinkError> {
+) -> Result<LoggedIn<O::Stream>, LinkError>
+    ensures logged_in { IfOk result (λ logged. IsLoggedIn
+        ⟦<O::Stream as WriteCalls>⟧.wrote ⟦<O::Stream as ReadCalls>⟧.gave
+        (O.connects service.entry.opener.now) service.entry.settings.now.databases
+        database logged.key logged.link.stream) }
+{
     let Some(entry) = service.settings.database(database) else {
         return Err(LinkError::Lost);
     };

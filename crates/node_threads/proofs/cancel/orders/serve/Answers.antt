@@ -1,5 +1,9 @@
-use Rattle.std.proofs.Common.{refl, inl}
+use Rattle.node_threads.proofs.CarryingLemmas.{carried-over}
 use Rattle.node_threads.proofs.cancel.orders.serve.Goals as goal
 
 pub returns-clause-finished : goal.returns-clause-finished
-returns-clause-finished g c = (_, inl refl, c.report.ensures.finished)
+returns-clause-finished g c = (
+  _,
+  carried-over _ _ _ _ _ _ _ _ c.in-Ok.ensures.opened c.report.ensures.carried,
+  c.report.ensures.finished,
+)

@@ -1,12 +1,13 @@
 use Rattle.node_threads.specs.Balance.{nothing, a_permit, a_lease}
 use Rattle.node_threads.specs.Leasing.{hand_of, hand_of_answer}
-use Rattle.node_threads.proofs.Balancing.{moves_on, moves_nothing, acquire_moves, not_given_moves}
+use Rattle.node_threads.proofs.Balancing.{moves_on, acquire_moves, not_given_moves}
 use Rattle.node_threads.proofs.session.leases.ask.Goals as goal
 
 pub returns-in-Got : goal.returns-in-Got
 returns-in-Got g c = record {
   moves = moves_on nothing a_lease (hand_of_answer c.take.result) _ _ _
       (acquire_moves c.args.pass.now _ _ _ _ _ c.in-Got.ensures.counted) c.take.ensures.moves;
+  database = c.take.ensures.database;
 }
 
 pub returns-in-Open : goal.returns-in-Open
@@ -16,10 +17,12 @@ returns-in-Open g c = record {
       (acquire_moves c.args.pass.now _ _ _ _ _ c.in-Open.ensures.counted)
       c.open-opened.ensures.moves)
       c.unless_gone.ensures.moves;
+  database = c.unless_gone.ensures.database;
 }
 
 pub returns-in-Holding : goal.returns-in-Holding
 returns-in-Holding g c = record {
   moves = not_given_moves c.args.pass.now c.acquire-answer.result _ _ _ _ c.in-Holding.is
       c.acquire-answer.ensures.counted;
+  database = tt;
 }

@@ -1,0 +1,25 @@
+use Rattle.std.proofs.Common.{◌∙◌, ap, sym}
+use Rattle.lease.specs.declared.permit.PermitRecord.{PermitRecord}
+use Rattle.node_threads.proofs.Balancing.{up_failed_moves}
+use Rattle.node_threads.proofs.LeaseLemmas.{of_lease, same_link}
+use Rattle.node_threads.proofs.session.leases.open.Goals as goal
+
+pub returns-in-Ok-clause-logged_in : goal.returns-in-Ok-clause-logged_in
+returns-in-Ok-clause-logged_in g c =
+    let is_permit = ap (λ (p : PermitRecord). p.at) c.details.ensures in
+    of_lease _ _ _ _
+    (λ lease at link key. (
+      c.in-Ok.opened.key,
+      same_link _ _ _ _ c.in-Ok.opened.key lease.details.at c.details.result.at lease.stream
+          c.in-Ok.opened.link (at ∙ sym is_permit) link c.in-Ok.ensures.logged_in,
+      key,
+    ))
+    c.put_up.result c.put_up.ensures.at c.put_up.ensures.link c.put_up.ensures.key
+
+pub returns-in-Lost-clause-moves : goal.returns-in-Lost-clause-moves
+returns-in-Lost-clause-moves g c =
+    up_failed_moves c.args.permit _ _ _ _ _ c.up_failed-reply.ensures.counted
+
+pub returns-in-Memory-clause-moves : goal.returns-in-Memory-clause-moves
+returns-in-Memory-clause-moves g c =
+    up_failed_moves c.args.permit _ _ _ _ _ c.up_failed-reply.ensures.counted
