@@ -94,6 +94,30 @@ impl<'a, M: Machine> ClientStream<'a, M> {
         }
     }
 
+    // Reads at the stage of the connection.
+    #[inline]
+    fn read_stage(&mut self, buffer: &mut [u8]) -> io::Result<usize>
+        ensures bound { ReadsAtMost result buffer.new }
+    {
+        if matches!(self.stage, Stage::Session) {
+            self.read_session(buffer)
+        } else {
+            self.read_before(buffer)
+        }
+    }
+
+    // Reads before the session.
+    #[inline(never)]
+    fn read_before(&mut self, buffer: &mut [u8]) -> io::Result<usize>
+        ensures bound { ReadsAtMost result buffer.new }
+    {
+        match self.stage {
+            Stage::First(packet, deadline) => self.read_first(packet, deadline, buffer),
+            Stage::Cancel => Ok(0),
+            Stage::Session => self.read_session(buffer),
+        }
+    }
+
     // Reads the first packets.
     fn read_first(
         &mut self,
@@ -231,13 +255,12 @@ fn read_up_to(connection: &Connection, buffer: &mut [u8], most: usize) -> io::Re
 impl<'a, M: Machine> Read for ClientStream<'a, M> {
     fn read(&mut self, buffer: &mut [u8]) -> io::Result<usize> {
         self.last = LastCall::Read;
-        let count = match self.stage {
-            Stage::First(packet, deadline) => self.read_first(packet, deadline, buffer)?,
-            Stage::Cancel => 0,
-            Stage::Session => self.read_session(buffer)?,
-        };
-        self.is_sending = count == buffer.len();
-        Ok(count)
+        let room = buffer.len();
+        let result = self.read_stage(buffer);
+        if let Ok(count) = &result {
+            self.is_sending = *count == room;
+        }
+        result
     }
 }
 
