@@ -196,8 +196,9 @@ impl<'a, M: Machine> ClientStream<'a, M> {
         for _ in 0..u64::MAX {
             let mut socket = self.connection.socket();
             match socket.read(buffer) {
+                Ok(count) => return Ok(count),
                 Err(error) if is_pause(&error) => self.look_at_link()?,
-                done => return done,
+                Err(error) => return Err(error),
             }
         }
         Err(io::Error::from(ErrorKind::TimedOut))
@@ -267,12 +268,16 @@ impl<'a, M: Machine> Read for ClientStream<'a, M> {
 impl<'a, M: Machine> Write for ClientStream<'a, M> {
     fn write(&mut self, bytes: &[u8]) -> io::Result<usize> {
         let mut socket = self.connection.socket();
-        let written = socket.write(bytes);
-        self.last = match &written {
-            Ok(_) => LastCall::Wrote,
-            Err(_) => LastCall::Failed,
-        };
-        written
+        match socket.write(bytes) {
+            Ok(count) => {
+                self.last = LastCall::Wrote;
+                Ok(count)
+            }
+            Err(error) => {
+                self.last = LastCall::Failed;
+                Err(error)
+            }
+        }
     }
 
     fn flush(&mut self) -> io::Result<()> {

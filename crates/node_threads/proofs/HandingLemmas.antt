@@ -1,7 +1,7 @@
 -- What is handed out of a reply, piece by piece.
-use Rattle.std.proofs.Common.{◌≡◌, ◌⊎◌, inl, inr, ℕ, ◌+◌, ◌-◌, ◌<◌, Bool, true, false, ◌&&◌, if◌then◌else◌, ◌==◌, codes, List, [], ◌∷◌, ◌++◌, length, Option, Some, None, refl, sym, ap, ◌∙◌, subst, arith, take, drop, append_assoc, append-nil, length-append, take-append-drop}
+use Rattle.std.proofs.Common.{◌≡◌, ◌⊎◌, inl, inr, ℕ, ◌+◌, ◌-◌, ◌<◌, ◌≤◌, Bool, true, false, ◌&&◌, if◌then◌else◌, ◌==◌, codes, List, [], ◌∷◌, ◌++◌, length, Option, Some, None, refl, sym, ap, ◌∙◌, subst, arith, take, drop, append_assoc, append-nil, length-append, take-append-drop}
 use Rattle.std.proofs.lemmas.Bool.{eqb-true}
-use Rattle.std.proofs.lemmas.List.{nil_from_length, length-take-le}
+use Rattle.std.proofs.lemmas.List.{nil_from_length, length-take-le, take_at, drop_at}
 use Rattle.std.proofs.lemmas.List.Concat.{flat_map-append}
 use Rattle.pg_frames.specs.declared.frame.Frame.{Frame}
 use Rattle.pg_frames.specs.declared.piece.Piece.{Piece}
@@ -316,17 +316,6 @@ hands_tail stream written AtReady old new out left_was left_is bytes_are passed_
 hands_tail stream written (Status status) old new out left_was left_is bytes_are passed_is =
     tail_at_status stream written status old new out left_is bytes_are passed_is
 
--- bytes behind a head
-take_behind : (head more : List ℕ) (count : ℕ)
-    → take (length head + count) (head ++ more) ≡ head ++ take count more
-take_behind [] more count = refl
-take_behind (x ∷ head) more count = ap (λ xs. x ∷ xs) (take_behind head more count)
-
-drop_behind : (head more : List ℕ) (count : ℕ)
-    → drop (length head + count) (head ++ more) ≡ drop count more
-drop_behind [] more count = refl
-drop_behind (x ∷ head) more count = drop_behind head more count
-
 -- a whole frame that is passed on
 pub hands_whole : (stream written : List ℕ) (place : Place) (old new : Passage) (head : Header)
     → HandedOut stream written place old → old.left ≡ None → BeginsWith old.bytes head
@@ -340,7 +329,7 @@ hands_whole stream written place old new head out closed begins whole means pass
     let more = drop 5 old.bytes in
     let body = take size more in
     let rest = drop size more in
-    let count : 1 + head.length ≡ length front + size = omega (arith, begins.head.low) in
+    let count : 1 + head.length ≡ 5 + size = omega (arith, begins.head.low) in
     let enough : size ≤ length more =
     omega (arith, whole, begins.head.low, ap length begins.whole, length-append front more) in
     let long : length body ≡ size = length-take-le size more enough in
@@ -348,22 +337,31 @@ hands_whole stream written place old new head out closed begins whole means pass
     (subst (λ (l : Option ℕ). IsShown place l out.shown) closed out.is_shown) in
     let between = subst (λ (p : Place). HandedOut stream written p old) here.0 out in
     let begun : Passage = record {
-      passed = old.passed ++ front; left = Some size; bytes = more;
+      passed = old.passed ++ front;
+      left = Some size;
+      bytes = more;
     } in
     let filled : Passage = record {
-      passed = begun.passed ++ body; left = Some 0; bytes = rest;
+      passed = begun.passed ++ body;
+      left = Some 0;
+      bytes = rest;
     } in
     let inside : HandedOut stream written Inside begun = head_between stream written old begun
     head.kind head.length PassOn (More Inside) between begins.head begins.whole refl refl means
     refl in
     let full : HandedOut stream written Inside filled = part_inside stream written begun filled body 0
     inside (ap Some (omega (arith, long))) (sym (take-append-drop size more)) refl refl in
+    let all : old.bytes ≡ (front ++ body) ++ rest =
+    begins.whole ∙ ap (λ xs. front ++ xs) (sym (take-append-drop size more))
+    ∙ sym (append_assoc front body rest) in
+    let fits : 1 + head.length ≡ length (front ++ body) =
+    omega (arith, count, long, length-append front body) in
     let front_is : take (1 + head.length) old.bytes ≡ front ++ body =
-    ap (λ n. take n old.bytes) count ∙ ap (λ xs. take (length front + size) xs) begins.whole
-    ∙ take_behind front more size in
+    ap (λ xs. take (1 + head.length) xs) all
+    ∙ take_at (front ++ body) rest (1 + head.length) (sym fits) in
     let rest_is : drop (1 + head.length) old.bytes ≡ rest =
-    ap (λ n. drop n old.bytes) count ∙ ap (λ xs. drop (length front + size) xs) begins.whole
-    ∙ drop_behind front more size in
+    ap (λ xs. drop (1 + head.length) xs) all
+    ∙ drop_at (front ++ body) rest (1 + head.length) (sym fits) in
     let passed : new.passed ≡ filled.passed =
     passed_is ∙ ap (λ xs. old.passed ++ xs) front_is ∙ sym (append_assoc old.passed front body) in
     let done = tail_inside stream written filled new full refl left_is (bytes_are ∙ rest_is) passed in

@@ -20,7 +20,7 @@ loop-piece-preserved c =
     let is = is_asking _ _ c.requires c.loop-piece.invariant.1 in (
       λ stream written start. hands_piece stream written c.loop-piece.place c.pass_frames.new.flow new
           c.in-Some.piece _ _ _ is (c.pass_frames.ensures.handed stream written c.loop-piece.place
-    (c.loop-piece.invariant.0 stream written start)) hands
+          (c.loop-piece.invariant.0 stream written start)) hands
           c.in-More.ensures,
       piece_session _ _ _ _ _ is c.in-More.ensures ∙ c.loop-piece.invariant.1,
     )
