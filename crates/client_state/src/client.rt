@@ -12,6 +12,9 @@ use startup::{ErrorCode, Severity};
 use std::alloc::Global;
 use std::marker::Model;
 
+// How many bytes of memory a session keeps at most for its next request.
+const KEPT: usize = 1_024;
+
 /// A client's session, from its login on. In contracts it is its database, whether it holds a
 /// lease, how many requests are outstanding, and the texts that it has gathered for its next
 /// request.
@@ -99,15 +102,15 @@ impl Client {
 
     /// What to do with the client's next frame. A request counts as outstanding from then on. Where
     /// memory was refused, the session ends without an error.
-    pub fn on_client(&mut self, frame: Frame) -> Act
+    pub fn on_client(&mut self, frame: &Frame) -> Act
         requires { self.old.outstanding ≡ 0 }
-        ensures { ActsOnClient self.old frame result self.new }
+        ensures { ActsOnClient self.old frame.now result self.new }
     {
-        match ClientMessage::of(self.gathered.len(), &frame) {
+        match ClientMessage::of(self.gathered.len(), frame) {
             ClientMessage::Terminate => self.end(Reply::nothing()),
             ClientMessage::Refused(code) => self.end_with(code),
-            ClientMessage::Gathered => self.gather(&frame),
-            ClientMessage::Request => self.request(&frame),
+            ClientMessage::Gathered => self.gather(frame),
+            ClientMessage::Request => self.request(frame),
         }
     }
 
@@ -171,6 +174,17 @@ impl Client {
     {
         self.stage = Stage::NoLease;
         self.gathered.clear();
+    }
+
+    /// Keeps the memory of a request that was handed out for the next one, unless it is large.
+    pub fn recycle(&mut self, request: Request)
+        ensures { self.new ≡ self.old }
+    {
+        let mut text = request.into_vec();
+        if self.gathered.is_empty() && text.capacity() <= KEPT {
+            text.clear();
+            self.gathered = text;
+        }
     }
 
     // Keeps the frame for the request to which it belongs.

@@ -1,5 +1,7 @@
 //! What a link's message means to a session, by its head and by its status.
-ghost use Rattle.std.specs.Prelude.{◌≡◌};
+ghost use Rattle.std.specs.Prelude.{◌≡◌, ◌↔◌, IsTrue};
+ghost use Rattle.client_state.specs.LinkMessage.{link_message};
+ghost use Rattle.client_state.specs.declared.link_message.LinkMessage.{LinkMessage as MessageOf};
 
 use startup::ErrorCode;
 
@@ -29,6 +31,7 @@ impl LinkMessage {
     ghost use Rattle.client_state.specs.LinkMessage.{link_message};
 
     /// What a message of this type and this length field means. The length field counts itself.
+    #[inline(always)]
     #[tactic(auto, unfolding(crate::specs::LinkMessage::link_message))]
     pub fn of(kind: u8, length: usize) -> LinkMessage
         ensures { result ≡ link_message kind length }
@@ -40,6 +43,17 @@ impl LinkMessage {
             b'G' | b'H' | b'W' => LinkMessage::Refused(ErrorCode::FeatureNotSupported),
             _ => LinkMessage::Refused(ErrorCode::ConnectionFailure),
         }
+    }
+}
+
+/// Whether a session passes a message of this type and this length field on to its client.
+#[inline]
+pub fn is_passed_on(kind: u8, length: usize) -> bool
+    ensures { IsTrue result ↔ (link_message kind length ≡ MessageOf.PassOn) }
+{
+    match LinkMessage::of(kind, length) {
+        LinkMessage::PassOn => true,
+        LinkMessage::Ready | LinkMessage::Refused(_) => false,
     }
 }
 

@@ -26,6 +26,14 @@ impl Request {
         Request { text }
     }
 
+    // The memory of its text.
+    pub(crate) fn into_vec(self) -> Vec<u8>
+        ensures { result.items ≡ self }
+    {
+        let Request { text } = self;
+        text
+    }
+
     /// Its text, to be written to the link.
     pub fn as_slice(&self) -> &[u8]
         ensures { result.now ≡ self.now }

@@ -94,6 +94,30 @@ impl<'a, M: Machine> ClientStream<'a, M> {
         }
     }
 
+    // Reads at the stage of the connection.
+    #[inline]
+    fn read_stage(&mut self, buffer: &mut [u8]) -> io::Result<usize>
+        ensures bound { ReadsAtMost result buffer.new }
+    {
+        if matches!(self.stage, Stage::Session) {
+            self.read_session(buffer)
+        } else {
+            self.read_before(buffer)
+        }
+    }
+
+    // Reads before the session.
+    #[inline(never)]
+    fn read_before(&mut self, buffer: &mut [u8]) -> io::Result<usize>
+        ensures bound { ReadsAtMost result buffer.new }
+    {
+        match self.stage {
+            Stage::First(packet, deadline) => self.read_first(packet, deadline, buffer),
+            Stage::Cancel => Ok(0),
+            Stage::Session => self.read_session(buffer),
+        }
+    }
+
     // Reads the first packets.
     fn read_first(
         &mut self,
@@ -172,8 +196,9 @@ impl<'a, M: Machine> ClientStream<'a, M> {
         for _ in 0..u64::MAX {
             let mut socket = self.connection.socket();
             match socket.read(buffer) {
+                Ok(count) => return Ok(count),
                 Err(error) if is_pause(&error) => self.look_at_link()?,
-                done => return done,
+                Err(error) => return Err(error),
             }
         }
         Err(io::Error::from(ErrorKind::TimedOut))
@@ -231,25 +256,28 @@ fn read_up_to(connection: &Connection, buffer: &mut [u8], most: usize) -> io::Re
 impl<'a, M: Machine> Read for ClientStream<'a, M> {
     fn read(&mut self, buffer: &mut [u8]) -> io::Result<usize> {
         self.last = LastCall::Read;
-        let count = match self.stage {
-            Stage::First(packet, deadline) => self.read_first(packet, deadline, buffer)?,
-            Stage::Cancel => 0,
-            Stage::Session => self.read_session(buffer)?,
-        };
-        self.is_sending = count == buffer.len();
-        Ok(count)
+        let room = buffer.len();
+        let result = self.read_stage(buffer);
+        if let Ok(count) = &result {
+            self.is_sending = *count == room;
+        }
+        result
     }
 }
 
 impl<'a, M: Machine> Write for ClientStream<'a, M> {
     fn write(&mut self, bytes: &[u8]) -> io::Result<usize> {
         let mut socket = self.connection.socket();
-        let written = socket.write(bytes);
-        self.last = match &written {
-            Ok(_) => LastCall::Wrote,
-            Err(_) => LastCall::Failed,
-        };
-        written
+        match socket.write(bytes) {
+            Ok(count) => {
+                self.last = LastCall::Wrote;
+                Ok(count)
+            }
+            Err(error) => {
+                self.last = LastCall::Failed;
+                Err(error)
+            }
+        }
     }
 
     fn flush(&mut self) -> io::Result<()> {

@@ -78,6 +78,7 @@ impl<M: Machine> LinkStream<M> {
 
 impl<M: Machine> Inside<M> {
     // Fails if the deadline is over.
+    #[inline(never)]
     fn keep_deadline(&self) -> io::Result<()> {
         if let Some(deadline) = self.deadline {
             deadline.left(&self.machine)?;
@@ -106,6 +107,7 @@ impl<M: Machine> Inside<M> {
 
     // Reads, or writes of what is kept, whichever can be done first. The end of the input is a
     // failure here, since not all was written.
+    #[inline(never)]
     fn read_or_write(&mut self, buffer: &mut [u8]) -> io::Result<usize>
         ensures bound { ReadsAtMost result buffer.new }
     {
@@ -145,8 +147,9 @@ impl<M: Machine> Inside<M> {
     {
         if self.unwritten.is_empty() {
             match self.socket.write(bytes) {
+                Ok(count) => return Ok(count),
                 Err(error) if is_pause(&error) => self.socket.set_nonblocking(true)?,
-                done => return done,
+                Err(error) => return Err(error),
             }
         }
         self.unwritten.extend_from_slice(bytes)?;
@@ -157,10 +160,13 @@ impl<M: Machine> Inside<M> {
 impl<M: Machine> Read for LinkStream<M> {
     fn read(&mut self, buffer: &mut [u8]) -> io::Result<usize> {
         for _ in 0..u64::MAX {
-            self.inside.keep_deadline()?;
+            if self.inside.deadline.is_some() {
+                self.inside.keep_deadline()?;
+            }
             match self.inside.read_once(buffer) {
+                Ok(count) => return Ok(count),
                 Err(error) if is_pause(&error) => self.inside.look_at_client()?,
-                done => return done,
+                Err(error) => return Err(error),
             }
         }
         Err(io::Error::from(ErrorKind::TimedOut))

@@ -20,59 +20,16 @@ use Rattle.node_threads.specs.Finding.{gathering, Comes, Finds, Quits, IsRefusal
 use Rattle.node_threads.proofs.CallLists.{Makes-append, Read-append, Read-nothing, ReadToEnd-append}
 use Rattle.node_threads.proofs.ReadingLemmas.{fault_here}
 
--- the fault that was returned is the one that stands
-told_fault : (error : FrameError) (fault : Option FrameError) → error ≢ Memory
-    → Tells (Err error) fault → fault ≡ Some error
-told_fault BadLength fault not tells = tells
-told_fault TooLong fault not tells = tells
-told_fault BadType fault not tells = tells
-told_fault Memory fault not tells = absurd (not refl)
-
--- a fault that was found without a byte more
-pub fault_found : (kept left piece : List ℕ) (error : FrameError)
-    (answer : Result (Unit {0}) FrameError) → piece ≡ [] → answer ≡ Err error → error ≢ Memory
-    → BeginsNoFrame kept → IsJudged (kept ++ piece) answer
-    → ((fault : FrameError) → HasFault kept (Some fault) → (answer ≡ Err fault) × (left ≡ kept))
-    → (fault_at kept ≡ Some error) × (left ≡ kept)
-fault_found kept left piece error answer nothing is not none judged ever =
-    let tells = subst (λ a. Tells a judged.0) is judged.2 in
-    let fault_is = told_fault error judged.0 not tells in
-    let has : HasFault kept (Some error) =
-    subst (λ xs. HasFault xs (Some error)) (ap (λ xs. kept ++ xs) nothing ∙ append-nil kept)
-    (subst (λ f. HasFault (kept ++ piece) f) fault_is judged.1) in
-    (fault_here kept (Some error) none has, (ever error has).1)
-
--- what could not be taken ends the session
-refused : (kept left piece : List ℕ) (error : FrameError) (answer : Result (Unit {0}) FrameError)
-    (reply : List ℕ) → error ≢ Memory → piece ≡ [] → answer ≡ Err error → BeginsNoFrame kept
-    → IsJudged (kept ++ piece) answer
-    → ((fault : FrameError) → HasFault kept (Some fault) → (answer ≡ Err fault) × (left ≡ kept))
-    → IsError ProtocolViolation reply → Quits kept [] reply left
-refused kept left piece error answer reply not nothing is none judged ever wrong =
-    let found = fault_found kept left piece error answer nothing is not none judged ever in
-    inl (error, refl, found.0, found.1, wrong)
-
-pub quits_refused : (kept left piece : List ℕ) (error : FrameError)
-    (answer : Result (Unit {0}) FrameError) (reply : List ℕ) → piece ≡ [] → answer ≡ Err error
-    → BeginsNoFrame kept → IsJudged (kept ++ piece) answer
-    → ((fault : FrameError) → HasFault kept (Some fault) → (answer ≡ Err fault) × (left ≡ kept))
-    → IsRefusal error reply → Quits kept [] reply left
-quits_refused kept left piece BadLength answer reply nothing is none judged ever wrong =
-    refused kept left piece BadLength answer reply (λ e. cc) nothing is none judged ever wrong
-quits_refused kept left piece TooLong answer reply nothing is none judged ever wrong =
-    refused kept left piece TooLong answer reply (λ e. cc) nothing is none judged ever wrong
-quits_refused kept left piece BadType answer reply nothing is none judged ever wrong =
-    refused kept left piece BadType answer reply (λ e. cc) nothing is none judged ever wrong
-quits_refused kept left piece Memory answer reply nothing is none judged ever wrong =
-    inr (inr ([], Read-nothing, wrong))
-
--- no fault was found
-pub none_found : (kept piece : List ℕ) (answer : Result (Unit {0}) FrameError) → piece ≡ []
-    → answer ≡ Ok tt → IsJudged (kept ++ piece) answer → HasFault kept None
-none_found kept piece answer nothing is judged =
-    let tells = subst (λ a. Tells a judged.0) is judged.2 in
-    subst (λ xs. HasFault xs None) (ap (λ xs. kept ++ xs) nothing ∙ append-nil kept)
-    (subst (λ f. HasFault (kept ++ piece) f) tells judged.1)
+-- a fault that stands ends the session
+pub quits_faulty : (kept : List ℕ) (error : FrameError) (reply : List ℕ) → BeginsNoFrame kept
+    → HasFault kept (Some error) → IsRefusal error reply → Quits kept [] reply kept
+quits_faulty kept BadLength reply none has wrong =
+    inl (BadLength, refl, fault_here kept (Some BadLength) none has, refl, wrong)
+quits_faulty kept TooLong reply none has wrong =
+    inl (TooLong, refl, fault_here kept (Some TooLong) none has, refl, wrong)
+quits_faulty kept BadType reply none has wrong =
+    inl (BadType, refl, fault_here kept (Some BadType) none has, refl, wrong)
+quits_faulty kept Memory reply none has wrong = inr (inr ([], Read-nothing, wrong))
 
 -- gathered messages, and more
 gathered-append : (before : List ℕ) (xs ys : List Frame) → AreGathered before xs

@@ -1,13 +1,14 @@
 -- What is handed out of a reply, piece by piece.
-use Rattle.std.proofs.Common.{◌≡◌, ◌⊎◌, inl, inr, ℕ, ◌+◌, ◌-◌, ◌<◌, Bool, true, false, ◌&&◌, if◌then◌else◌, ◌==◌, codes, List, [], ◌∷◌, ◌++◌, length, Option, Some, None, refl, sym, ap, ◌∙◌, subst, arith, append_assoc, append-nil, length-append}
+use Rattle.std.proofs.Common.{◌≡◌, ◌⊎◌, inl, inr, ℕ, ◌+◌, ◌-◌, ◌<◌, ◌≤◌, Bool, true, false, ◌&&◌, if◌then◌else◌, ◌==◌, codes, List, [], ◌∷◌, ◌++◌, length, Option, Some, None, refl, sym, ap, ◌∙◌, subst, arith, take, drop, append_assoc, append-nil, length-append, take-append-drop}
 use Rattle.std.proofs.lemmas.Bool.{eqb-true}
-use Rattle.std.proofs.lemmas.List.{nil_from_length}
+use Rattle.std.proofs.lemmas.List.{nil_from_length, length-take-le, take_at, drop_at}
 use Rattle.std.proofs.lemmas.List.Concat.{flat_map-append}
 use Rattle.pg_frames.specs.declared.frame.Frame.{Frame}
 use Rattle.pg_frames.specs.declared.piece.Piece.{Piece}
 use Rattle.pg_frames.specs.declared.piece.Piece.TheVariants.{Head, Part, Tail}
 use Rattle.pg_frames.specs.FrameText.{text, texts}
-use Rattle.pg_frames.specs.Passage.{Passage, IsHead, head_text, Hands}
+use Rattle.pg_frames.specs.Passage.{Passage, IsHead, head_text, BeginsWith, Hands}
+use Rattle.pg_frames.specs.declared.header.Header.{Header}
 use Rattle.startup.specs.declared.error_code.ErrorCode.TheVariants.{FeatureNotSupported, ConnectionFailure}
 use Rattle.client_state.specs.Acts.{ready_text, fatal, act_on_head, session_at, over}
 use Rattle.client_state.specs.Session.{Session}
@@ -18,6 +19,7 @@ use Rattle.client_state.specs.declared.link_message.LinkMessage.TheVariants.{Pas
 use Rattle.node_threads.specs.declared.session.place.Place.{Place}
 use Rattle.node_threads.specs.declared.session.place.Place.TheVariants.{Between, Inside, AtReady, Status}
 use Rattle.node_threads.specs.declared.session.place.Handed.{Handed}
+use Rattle.node_threads.specs.declared.session.place.Handed.TheVariants.{More}
 use Rattle.node_threads.specs.Replying.{IsPassedOn}
 use Rattle.node_threads.specs.Progress.{asking, IsShown, HandedOut, HandedLast, HandedUnfit, HandsOut, KeepsSession, HeadMeans, PieceMeans, after_part, after_tail}
 use Rattle.node_threads.proofs.CallLists.{each-append}
@@ -313,6 +315,57 @@ hands_tail stream written AtReady old new out left_was left_is bytes_are passed_
     let count = some_some 1 0 (sym out.is_shown.0 ∙ left_was) in absurd (omega (arith, count))
 hands_tail stream written (Status status) old new out left_was left_is bytes_are passed_is =
     tail_at_status stream written status old new out left_is bytes_are passed_is
+
+-- a whole frame that is passed on
+pub hands_whole : (stream written : List ℕ) (place : Place) (old new : Passage) (head : Header)
+    → HandedOut stream written place old → old.left ≡ None → BeginsWith old.bytes head
+    → 1 + head.length ≤ length old.bytes → link_message head.kind head.length ≡ PassOn
+    → new.passed ≡ old.passed ++ take (1 + head.length) old.bytes → new.left ≡ None
+    → new.bytes ≡ drop (1 + head.length) old.bytes → HandedOut stream written place new
+hands_whole stream written place old new head out closed begins whole means passed_is left_is
+    bytes_are =
+    let size = head.length - 4 in
+    let front = head_text head.kind head.length in
+    let more = drop 5 old.bytes in
+    let body = take size more in
+    let rest = drop size more in
+    let count : 1 + head.length ≡ 5 + size = omega (arith, begins.head.low) in
+    let enough : size ≤ length more =
+    omega (arith, whole, begins.head.low, ap length begins.whole, length-append front more) in
+    let long : length body ≡ size = length-take-le size more enough in
+    let here = none_open place out.shown
+    (subst (λ (l : Option ℕ). IsShown place l out.shown) closed out.is_shown) in
+    let between = subst (λ (p : Place). HandedOut stream written p old) here.0 out in
+    let begun : Passage = record {
+      passed = old.passed ++ front;
+      left = Some size;
+      bytes = more;
+    } in
+    let filled : Passage = record {
+      passed = begun.passed ++ body;
+      left = Some 0;
+      bytes = rest;
+    } in
+    let inside : HandedOut stream written Inside begun = head_between stream written old begun
+    head.kind head.length PassOn (More Inside) between begins.head begins.whole refl refl means
+    refl in
+    let full : HandedOut stream written Inside filled = part_inside stream written begun filled body 0
+    inside (ap Some (omega (arith, long))) (sym (take-append-drop size more)) refl refl in
+    let all : old.bytes ≡ (front ++ body) ++ rest =
+    begins.whole ∙ ap (λ xs. front ++ xs) (sym (take-append-drop size more))
+    ∙ sym (append_assoc front body rest) in
+    let fits : 1 + head.length ≡ length (front ++ body) =
+    omega (arith, count, long, length-append front body) in
+    let front_is : take (1 + head.length) old.bytes ≡ front ++ body =
+    ap (λ xs. take (1 + head.length) xs) all
+    ∙ take_at (front ++ body) rest (1 + head.length) (sym fits) in
+    let rest_is : drop (1 + head.length) old.bytes ≡ rest =
+    ap (λ xs. drop (1 + head.length) xs) all
+    ∙ drop_at (front ++ body) rest (1 + head.length) (sym fits) in
+    let passed : new.passed ≡ filled.passed =
+    passed_is ∙ ap (λ xs. old.passed ++ xs) front_is ∙ sym (append_assoc old.passed front body) in
+    let done = tail_inside stream written filled new full refl left_is (bytes_are ∙ rest_is) passed in
+    subst (λ (p : Place). HandedOut stream written p new) (sym here.0) done
 
 -- the piece that was handed out
 pub hands_piece : (stream written : List ℕ) (place : Place) (old new : Passage) (piece : Piece)

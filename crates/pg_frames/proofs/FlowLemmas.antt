@@ -13,7 +13,8 @@ use Rattle.pg_frames.specs.declared.parts.OwnedPiece.{OwnedPiece}
 use Rattle.pg_frames.specs.declared.parts.OwnedPiece.TheVariants.{Head, Part, Tail}
 use Rattle.pg_frames.specs.FrameText.{text, texts, IsFrame, BeginsNoFrame, Cuts, fault_at, HasFault}
 use Rattle.std.specs.Result.{result_err}
-use Rattle.pg_frames.specs.Passage.{Passage, after, fed, start, answer_of, IsHead, head_text, BeginsNoHead, HasNoNext, Hands}
+use Rattle.pg_frames.specs.Passage.{Passage, after, fed, start, answer_of, IsHead, head_text, BeginsNoHead, BeginsWith, HasNoNext, Hands}
+use Rattle.pg_frames.specs.declared.header.Header.{Header}
 use Rattle.pg_frames.specs.Parts.{owned_of, ArePartsOf, AreWhole, AreOfRest, HandsOut, IsOpen, SoFar, Drained}
 use Rattle.pg_frames.proofs.TextLemmas.{IsBytes, fault_at_header, is_no_type, is_short, is_low, is_high, is_good, front_is, fault_at_type, fault_at_low, fault_at_high, no_frame-part, no_frame-short, text_is, head_front}
 use Rattle.pg_frames.proofs.CutLemmas.{texts-append, each-append, cuts_after, cuts_none, cuts_once, fault_once, fault_at-more, cuts-fault, fault_at_nothing, some_fault}
@@ -47,6 +48,15 @@ frame_head f is = record { type_byte = is.type_byte; low = omega arith; high = i
 pub no_frame-no_head : (bytes : List ℕ) → BeginsNoHead bytes → BeginsNoFrame bytes
 no_frame-no_head bytes none f more is e =
     none f.kind (4 + length f.body) (f.body ++ more) (frame_head f is) (e ∙ text_is f more)
+
+-- nor where its body isn't whole
+pub no_frame-begun : (bytes : List ℕ) (header : Header) → BeginsWith bytes header
+    → length bytes < 1 + header.length → BeginsNoFrame bytes
+no_frame-begun bytes header begins few =
+    let number : big_number 4 (drop 1 bytes) ≡ header.length =
+    ap (λ xs. big_number 4 (drop 1 xs)) begins.whole
+    ∙ head_number header.kind header.length (drop 5 bytes) begins.head in
+    no_frame-part bytes (omega (arith, few, number))
 
 -- where no head and no fault stands, few bytes do
 pub few_left : (bytes : List ℕ) → IsBytes bytes → BeginsNoHead bytes → fault_at bytes ≡ None

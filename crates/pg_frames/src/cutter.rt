@@ -9,11 +9,14 @@ use crate::scan::{fault_after, whole_len};
 use crate::{Body, Frame, FrameError};
 use byteorder::{BigEndian, ByteOrder};
 use bytes::BytesMut;
-use std::alloc::Global;
+use std::alloc::{AllocError, Global};
 use std::marker::Model;
 
 // How many bytes of memory a cutter keeps at most once all was handed out.
 const KEPT: usize = 16_384;
+
+// How many bytes of memory it keeps at most for the next frame's body.
+const KEPT_BODY: usize = 1_024;
 
 /// What was fed of a stream and isn't handed out yet. In contracts it is these bytes.
 #[derive(Drop)]
@@ -22,6 +25,8 @@ pub struct Cutter {
     bytes: BytesMut,
     // How many of the bytes are whole frames, so that no byte is judged twice.
     ready: usize,
+    // Memory for the next frame's body.
+    spare: Vec<u8>,
 }
 
 impl Model for Cutter {
@@ -44,6 +49,7 @@ impl Cutter {
             alloc,
             bytes: BytesMut::new(alloc),
             ready: 0,
+            spare: Vec::new(alloc),
         }
     }
 
@@ -63,23 +69,34 @@ impl Cutter {
         if let Some(fault) = self.fault() {
             return Err(fault);
         }
-        if self.bytes.extend_from_slice(piece).is_err() {
+        if self.append(piece).is_err() {
             return Err(FrameError::Memory);
         }
-        let (_, rest) = self.bytes.as_slice().split_at(self.ready);
-        self.ready += whole_len(rest);
         match self.fault() {
             Some(fault) => Err(fault),
             None => Ok(()),
         }
     }
 
-    // The fault at the front of the rest.
-    fn fault(&self) -> Option<FrameError>
+    /// The fault at the front of the rest of what was fed.
+    #[inline]
+    pub fn fault(&self) -> Option<FrameError>
         ensures stands { HasFault self.now result }
         ensures bytes { (i : ℕ) → slice_index self.now i < 256 }
     {
         fault_after(self.bytes.as_slice(), self.ready)
+    }
+
+    /// Takes the next piece of a stream without a fault so far. It isn't judged yet.
+    pub fn append(&mut self, piece: &[u8]) -> Result<(), AllocError>
+        requires sound { HasFault self.old None }
+        ensures ok { OnOk result (self.new ≡ self.old ++ piece.now) }
+        ensures memory { OnErr result (self.new ≡ self.old) }
+    {
+        self.bytes.extend_from_slice(piece)?;
+        let (_, rest) = self.bytes.as_slice().split_at(self.ready);
+        self.ready += whole_len(rest);
+        Ok(())
     }
 
     /// Hands out the next frame, if it is whole. The only error is `Memory`. Once all was handed
@@ -94,12 +111,23 @@ impl Cutter {
         if self.ready == 0 {
             return Ok(None);
         }
-        let frame = first_frame(self.alloc, self.bytes.as_slice())?;
+        let spare = std::mem::replace(&mut self.spare, Vec::new(self.alloc));
+        let frame = first_frame(spare, self.bytes.as_slice())?;
         let len = HEADER_LEN + frame.body.len();
         self.bytes.advance(len);
         self.ready -= len;
         give_back(&mut self.bytes, self.alloc);
         Ok(Some(frame))
+    }
+
+    /// Keeps the memory of a frame that was handed out for the next one, unless it is large.
+    pub fn recycle(&mut self, frame: Frame)
+        ensures { self.new ≡ self.old }
+    {
+        let bytes = frame.body.into_vec();
+        if bytes.capacity() <= KEPT_BODY {
+            self.spare = bytes;
+        }
     }
 
     /// The bytes that were fed and aren't handed out.
@@ -131,8 +159,8 @@ fn give_back(bytes: &mut BytesMut, alloc: Global)
     }
 }
 
-// The frame at the front, whose text is whole.
-fn first_frame(alloc: Global, bytes: &[u8]) -> Result<Frame, FrameError>
+// The frame at the front, whose text is whole. Its body takes this memory.
+fn first_frame(spare: Vec<u8>, bytes: &[u8]) -> Result<Frame, FrameError>
     requires header { 5 ≤ length bytes.now }
     requires low { 4 ≤ big_number 4 (drop 1 bytes.now) }
     requires whole { 1 + big_number 4 (drop 1 bytes.now) ≤ length bytes.now }
@@ -142,9 +170,14 @@ fn first_frame(alloc: Global, bytes: &[u8]) -> Result<Frame, FrameError>
     ensures only_memory { IsOkUnless result FrameError.Memory }
 {
     let end = 1 + BigEndian::read_u32(&bytes[1..]) as usize;
-    let Ok(body) = Body::from_slice(alloc, &bytes[HEADER_LEN..end]) else {
+    let mut body = spare;
+    body.clear();
+    if body.extend_from_slice(&bytes[HEADER_LEN..end]).is_err() {
         return Err(FrameError::Memory);
-    };
+    }
     let kind = bytes[0];
-    Ok(Frame { kind, body })
+    Ok(Frame {
+        kind,
+        body: Body::from(body),
+    })
 }

@@ -1,10 +1,10 @@
 //! A stream of frames that comes in any pieces, and is passed on in pieces.
-ghost use Rattle.std.specs.Prelude.{◌≡◌, ◌↔◌, ◌+◌, ◌<◌, ◌≤◌, [], ℕ, None, Some, IsTrue, length, slice_index, IfOk, IsOkUnless, MatchOption};
+ghost use Rattle.std.specs.Prelude.{◌≡◌, ◌↔◌, ◌+◌, ◌<◌, ◌≤◌, ◌++◌, [], ℕ, None, Some, IsTrue, length, take, drop, slice_index, IfOk, IfSome, IsOkUnless, MatchOption};
 ghost use Rattle.std.specs.Borrow.{sem};
 ghost use Rattle.std.specs.Io.BufRead.{Rests};
 ghost use Rattle.pg_frames.specs.contracts.flow.Flow.{the_row};
 ghost use Rattle.pg_frames.specs.declared.error.FrameError.{FrameError};
-ghost use Rattle.pg_frames.specs.FrameText.{HasFault};
+ghost use Rattle.pg_frames.specs.FrameText.{BeginsNoFrame, HasFault};
 ghost use Rattle.pg_frames.specs.Passage.{start, fed, forgotten, after, answer_of, BeginsNoHead, BeginsWith, HasNoNext, Hands};
 
 use crate::buffer::{Buffer, CAPACITY};
@@ -84,6 +84,16 @@ impl Flow {
         }
     }
 
+    /// Takes the next piece of a stream without a fault so far, for which there has to be room. It
+    /// isn't judged yet.
+    pub fn append(&mut self, piece: &[u8])
+        requires room { length self.old.passed + (length self.old.bytes + length piece.now) ≤ 16384 }
+        requires sound { HasFault (after self.old) None }
+        ensures { self.new ≡ fed self.old piece.now }
+    {
+        self.buffer.append(piece);
+    }
+
     /// The fault at the front of the rest of what was fed.
     pub fn fault(&self) -> Option<FrameError>
         ensures { HasFault (after self.now) result }
@@ -117,6 +127,30 @@ impl Flow {
         self.buffer.advance(count);
         self.left = Some(left - count);
         Some(Piece::Part(self.buffer.taken(count)))
+    }
+
+    /// The head of the next frame, if no part of it was handed out and all of it is there.
+    pub fn whole_frame(&self) -> Option<Header>
+        ensures none { result ≡ None → self.now.left ≡ None → BeginsNoFrame self.now.bytes }
+        ensures some { IfSome result (λ head. (self.now.left ≡ None)
+            × BeginsWith self.now.bytes head × (1 + head.length ≤ length self.now.bytes)) }
+    {
+        if self.left.is_some() {
+            return None;
+        }
+        whole_in(self.buffer.as_slice())
+    }
+
+    /// Hands out the whole frame with this head at once.
+    pub fn pass_frame(&mut self, head: Header)
+        requires between { self.old.left ≡ None }
+        requires whole { 1 + head.length ≤ length self.old.bytes }
+        ensures passed { self.new.passed
+            ≡ self.old.passed ++ take (1 + head.length) self.old.bytes }
+        ensures left { self.new.left ≡ None }
+        ensures bytes { self.new.bytes ≡ drop (1 + head.length) self.old.bytes }
+    {
+        self.buffer.advance(1 + head.length);
     }
 
     /// The bytes that were fed and aren't handed out.
@@ -157,6 +191,18 @@ fn room_beside(kept: &[u8], unread: &[u8]) -> usize
     ensures bytes { (i : ℕ) → slice_index unread.now i < 256 }
 {
     CAPACITY - (kept.len() + unread.len())
+}
+
+// The head at the front of the bytes, if its whole frame is there.
+fn whole_in(bytes: &[u8]) -> Option<Header>
+    ensures none { result ≡ None → BeginsNoFrame bytes.now }
+    ensures some { IfSome result
+        (λ head. BeginsWith bytes.now head × (1 + head.length ≤ length bytes.now)) }
+{
+    match head_in(bytes) {
+        Some(head) if head.length < bytes.len() => Some(head),
+        _ => None,
+    }
 }
 
 // The head at the front of the bytes.

@@ -16,7 +16,7 @@ pub const HEADER_LEN: usize = 1 + FIELD_LEN;
 pub const MAX_LENGTH: usize = 1 << 20;
 
 /// The type byte and the length field of a frame of the format.
-#[derive(Clone, Copy)]
+#[derive(Clone, Copy, Debug)]
 pub struct Header {
     /// The type byte.
     pub kind: u8,

@@ -20,6 +20,7 @@ pub use cutter::Cutter;
 pub use error::FrameError;
 pub use flow::Flow;
 pub use frame::Frame;
+pub use header::Header;
 pub use parts::{OwnedPiece, Parts, cut_in_parts};
 pub use piece::Piece;
 pub use put::put_frame;

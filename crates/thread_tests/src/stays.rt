@@ -135,7 +135,7 @@ pub(crate) fn begin(rt: &(impl Abort + AllocGlobal)) -> Result<(Client, Request)
 {
     let mut client = Client::new(rt.alloc(), DatabaseNo(3));
     let body = Body::from_slice(rt.alloc(), b"begin\0")?;
-    match client.on_client(Frame { kind: b'Q', body }) {
+    match client.on_client(&Frame { kind: b'Q', body }) {
         Act::Need(request) => Ok((client, request)),
         _ => Err(AllocError),
     }

@@ -62,7 +62,7 @@ fn assert_done(rt: &impl Abort, act: &Act, expected: Done<'_>) {
 // The client sends this frame, and this is what is done.
 fn assert_client(rt: &impl Abort, client: &mut Client, frame: Frame, expected: Done<'_>) {
     assert!(rt; client.may_read());
-    assert_done(rt, &client.on_client(frame), expected);
+    assert_done(rt, &client.on_client(&frame), expected);
 }
 
 fn assert_ready(rt: &impl Abort, client: &mut Client, status: u8, expected: Done<'_>) {

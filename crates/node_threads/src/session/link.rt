@@ -38,6 +38,6 @@ pub(crate) fn read_up_to<const MOST: usize, L: WriteCalls + ReadCalls>(link: &mu
     if count == 0 {
         return false;
     }
-    let _ = link.flow.feed(&buffer[..count]);
+    link.flow.append(&buffer[..count]);
     true
 }

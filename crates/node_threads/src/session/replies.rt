@@ -1,23 +1,26 @@
 //! The reply to a request is read from the link and passed on to the client.
-ghost use Rattle.std.specs.Prelude.{◌≡◌, ◌≤◌, ◌-◌, ◌++◌, ◌∷◌, [], ℕ, List, true, false, length, take, IsTrue, None, Some, IfSome};
+ghost use Rattle.std.specs.Prelude.{◌≡◌, ◌≤◌, ◌+◌, ◌-◌, ◌++◌, ◌∷◌, [], ℕ, List, true, false, length, take, IsTrue, None, Some, IfSome};
 ghost use Rattle.peer_forward.specs.Calls.{Call, Makes};
 ghost use Rattle.pg_frames.specs.FrameText.{HasFault};
-ghost use Rattle.pg_frames.specs.Passage.{start, fed, forgotten, after, HasNoNext};
+ghost use Rattle.pg_frames.specs.Passage.{start, fed, forgotten, after, HasNoNext, BeginsWith};
 ghost use Rattle.startup.specs.declared.error_code.ErrorCode.TheVariants.{ConnectionFailure};
 ghost use Rattle.client_state.specs.Acts.{ready_text, head_act, after_head};
+ghost use Rattle.client_state.specs.LinkMessage.{link_message};
+ghost use Rattle.client_state.specs.declared.link_message.LinkMessage.TheVariants.{PassOn};
 ghost use Rattle.node_threads.specs.StreamCalls.{SomeCalls, Wrote, WroteSome, Read, IsFailedRead};
 ghost use Rattle.node_threads.specs.Asking.{IsError};
 ghost use Rattle.node_threads.specs.Replying.{EndsStay, Replies};
 ghost use Rattle.node_threads.specs.Progress.{asking, in_transaction, HandedOut, HandedLast, HandsOut, IsDry, KeepsSession, EndsHere, GoesOn, LeavesBehind, HeadMeans, PieceMeans, after_part, after_tail, Refuses, FinishesIdle, FinishesOpen};
 ghost use Rattle.node_threads.specs.declared.session.outcome.Stayed.{Stayed};
+ghost use Rattle.node_threads.specs.declared.session.place.Place.{Place as PlaceOf};
 
 use crate::session::link::read_up_to;
 use crate::session::place::{Handed, Place};
 use crate::stream::write_whole;
 use crate::{Link, Stayed};
-use client_state::{Act, Client, HeadAct, Reply};
+use client_state::{Act, Client, HeadAct, Reply, is_passed_on};
 use peer_forward::{ReadCalls, WriteCalls};
-use pg_frames::{Flow, Piece};
+use pg_frames::{Flow, Header, Piece};
 use std::sync::Wait;
 
 // How many bytes are read at once, at a reply's beginning and behind it.
@@ -74,6 +77,7 @@ fn hand_out(session: &mut Client, flow: &mut Flow, place: Place) -> Handed
 {
     let mut place = place;
     loop {
+        pass_frames(flow);
         let Some(piece) = flow.next() else {
             return Handed::More(place);
         };
@@ -82,6 +86,30 @@ fn hand_out(session: &mut Client, flow: &mut Flow, place: Place) -> Handed
             Handed::Ready(status) => return Handed::Ready(status),
             Handed::Refused(error) => return Handed::Refused(error),
         }
+    }
+}
+
+// Hands out the whole frames at the front that are passed on, where no frame was begun.
+fn pass_frames(flow: &mut Flow)
+    ensures handed { (stream written : List ℕ) (place : PlaceOf)
+        → HandedOut stream written place flow.old → HandedOut stream written place flow.new }
+    ensures fewer { length flow.new.bytes ≤ length flow.old.bytes }
+    ensures left { flow.new.left ≡ flow.old.left }
+{
+    while let Some(head) = next_passed(flow) {
+        flow.pass_frame(head);
+    }
+}
+
+// The head of the whole frame at the front, if it is passed on.
+fn next_passed(flow: &Flow) -> Option<Header>
+    ensures { IfSome result (λ head. (flow.now.left ≡ None) × BeginsWith flow.now.bytes head
+        × (1 + head.length ≤ length flow.now.bytes)
+        × (link_message head.kind head.length ≡ PassOn)) }
+{
+    match flow.whole_frame() {
+        Some(head) if is_passed_on(head.kind, head.length) => Some(head),
+        _ => None,
     }
 }
 

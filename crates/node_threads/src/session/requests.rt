@@ -93,7 +93,9 @@ fn cut_request(session: &mut Client, cutter: &mut Cutter) -> Found
         let Some(frame) = found else {
             return Found::More;
         };
-        match session.on_client(frame) {
+        let act = session.on_client(&frame);
+        cutter.recycle(frame);
+        match act {
             Act::ToLink(request) | Act::Need(request) => return Found::Request(request),
             Act::Close(reply) | Act::End(reply) => return Found::End(reply),
             Act::ToClient(_) => {}
@@ -119,7 +121,7 @@ fn read_on<const MOST: usize, C: WriteCalls + ReadCalls>(
     ensures ends { IfSome result (λ reply. SomeCalls C.wrote C.gave client.old client.new
         (λ calls. Quits cutter.old calls reply cutter.new)) }
 {
-    if let Err(error) = cutter.feed(&[]) {
+    if let Some(error) = cutter.fault() {
         return Some(refusal(session, error));
     }
     let mut buffer = [0; MOST];
@@ -127,9 +129,9 @@ fn read_on<const MOST: usize, C: WriteCalls + ReadCalls>(
     if count == 0 {
         return Some(Reply::nothing());
     }
-    match cutter.feed(&buffer[..count]) {
-        Err(FrameError::Memory) => Some(Reply::nothing()),
-        _ => None,
+    match cutter.append(&buffer[..count]) {
+        Ok(()) => None,
+        Err(_) => Some(Reply::nothing()),
     }
 }
 

@@ -41,6 +41,7 @@ pub fn stay<R: Wait, C: WriteCalls + ReadCalls, L: WriteCalls + ReadCalls>(
         if !write_whole(&mut link.stream, request.as_slice()) {
             return Stayed::End(lost(session));
         }
+        session.recycle(request);
         if let Some(stayed) = pass_reply(rt, session, client, link) {
             return stayed;
         }

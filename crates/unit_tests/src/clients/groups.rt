@@ -88,7 +88,7 @@ fn assert_behind(
 // A Sync asks for what was gathered, of this size, and for itself.
 fn assert_whole(rt: &impl Abort, client: &mut Client, sync: Frame, size: usize) {
     assert!(rt; client.may_read());
-    let act = client.on_client(sync);
+    let act = client.on_client(&sync);
     let needed = match done_by(&act) {
         Need(text) => text.len(),
         _ => 0,

@@ -15,11 +15,12 @@ pub loop-piece-preserved : goal.loop-piece-preserved
 loop-piece-preserved c =
     let new = c.next.follows.lender-at-none in
     let hands =
-    subst (λ (found : Option Piece). Hands c.loop-piece.flow found new) c.in-Some.is
+    subst (λ (found : Option Piece). Hands c.pass_frames.new.flow found new) c.in-Some.is
     c.next.follows.holds-at-none in
     let is = is_asking _ _ c.requires c.loop-piece.invariant.1 in (
-      λ stream written start. hands_piece stream written c.loop-piece.place c.loop-piece.flow new
-          c.in-Some.piece _ _ _ is (c.loop-piece.invariant.0 stream written start) hands
+      λ stream written start. hands_piece stream written c.loop-piece.place c.pass_frames.new.flow new
+          c.in-Some.piece _ _ _ is (c.pass_frames.ensures.handed stream written c.loop-piece.place
+          (c.loop-piece.invariant.0 stream written start)) hands
           c.in-More.ensures,
       piece_session _ _ _ _ _ is c.in-More.ensures ∙ c.loop-piece.invariant.1,
     )
@@ -28,18 +29,20 @@ pub returns-in-Ready-clause-handed : goal.returns-in-Ready-clause-handed
 returns-in-Ready-clause-handed c stream written start =
     let new = c.next.follows.lender-at-none in
     let hands =
-    subst (λ (found : Option Piece). Hands c.loop-piece.flow found new) c.in-Some.is
+    subst (λ (found : Option Piece). Hands c.pass_frames.new.flow found new) c.in-Some.is
     c.next.follows.holds-at-none in
     let is = is_asking _ _ c.requires c.loop-piece.invariant.1 in
-    hands_piece stream written c.loop-piece.place c.loop-piece.flow new c.in-Some.piece _ _ _ is
-    (c.loop-piece.invariant.0 stream written start) hands c.in-Ready.ensures
+    hands_piece stream written c.loop-piece.place c.pass_frames.new.flow new c.in-Some.piece _ _ _ is
+    (c.pass_frames.ensures.handed stream written c.loop-piece.place
+    (c.loop-piece.invariant.0 stream written start)) hands c.in-Ready.ensures
 
 pub returns-in-Refused-clause-handed : goal.returns-in-Refused-clause-handed
 returns-in-Refused-clause-handed c stream written start =
     let new = c.next.follows.lender-at-none in
     let hands =
-    subst (λ (found : Option Piece). Hands c.loop-piece.flow found new) c.in-Some.is
+    subst (λ (found : Option Piece). Hands c.pass_frames.new.flow found new) c.in-Some.is
     c.next.follows.holds-at-none in
     let is = is_asking _ _ c.requires c.loop-piece.invariant.1 in
-    hands_piece stream written c.loop-piece.place c.loop-piece.flow new c.in-Some.piece _ _ _ is
-    (c.loop-piece.invariant.0 stream written start) hands c.in-Refused.ensures
+    hands_piece stream written c.loop-piece.place c.pass_frames.new.flow new c.in-Some.piece _ _ _ is
+    (c.pass_frames.ensures.handed stream written c.loop-piece.place
+    (c.loop-piece.invariant.0 stream written start)) hands c.in-Refused.ensures

@@ -1,4 +1,4 @@
-use Rattle.std.proofs.Common.{refl}
+use Rattle.std.proofs.Common.{◌∙◌, refl}
 use Rattle.node_threads.proofs.StayLemmas.{staying_start, staying_unsent, staying_replied, staying_deserted, staying_on, asks_again, wrote_same, wrote_some_same}
 use Rattle.node_threads.proofs.session.stays.stay.Goals as goal
 
@@ -36,8 +36,8 @@ loop-preserved g c =
     c.next_request.new.cutter c.pass_reply.new.link.flow (c.pass_reply.ensures.drained none)
     c.loop.invariant.0 sent (c.pass_reply.ensures.goes_on none) c.in-Ok.ensures.asks in (
       on.0,
-      asks_again c.args.session.now c.loop.session c.pass_reply.new.session
-          c.next_request.new.session c.requires.session c.loop.invariant.1
+      asks_again c.args.session.now c.recycle.new.self c.pass_reply.new.session
+          c.next_request.new.session c.requires.session (c.recycle.ensures ∙ c.loop.invariant.1)
           (c.pass_reply.ensures.open none) c.in-Ok.ensures.session,
       on.1,
       on.2,

@@ -1,8 +1,7 @@
-use Rattle.std.proofs.Common.{◌≡◌, ◌∙◌, ◌++◌, ◌+◌, ℕ, List, Some, drop, sym, refl, subst, arith}
+use Rattle.std.proofs.Common.{◌≡◌, ◌∙◌, Some, sym, refl, arith}
 use Rattle.pg_frames.specs.FrameText.{HasFault}
-use Rattle.pg_frames.specs.Ready.{IsReady}
 use Rattle.pg_frames.specs.declared.error.FrameError.TheVariants.{Memory}
-use Rattle.pg_frames.proofs.CutLemmas.{judged_ever, judged_memory, fault_once, no_memory, IsReady-more}
+use Rattle.pg_frames.proofs.CutLemmas.{judged_ever, judged_memory, fault_once, no_memory}
 use Rattle.pg_frames.proofs.cutter.Cutter.feed.Goals as goal
 
 pub returns-in-Some-clause-judged : goal.returns-in-Some-clause-judged
@@ -26,20 +25,9 @@ returns-then-is_err-clause-ever c fault has =
     fault_once _ _ _ has c.fault.ensures.stands in absurd
     (c.in_default.not-Some fault (sym apart))
 
-pub invariant_of-self-2 : goal.invariant_of-self-2
-invariant_of-self-2 c =
-    let ready = c.self.inside.ready in
-    let old = c.self.inside.bytes.items in
-    let taken : c.extend_from_slice.new.self.items ≡ old ++ c.args.piece.now = grind arith in
-    let rest : c.split_at.result.1.now ≡ drop ready (old ++ c.args.piece.now) = cc in
-    let next : IsReady (drop ready (old ++ c.args.piece.now)) c.whole_len.result =
-    subst (λ (xs : List ℕ). IsReady xs c.whole_len.result) rest c.whole_len.ensures in
-    subst (λ (xs : List ℕ). IsReady xs (ready + c.whole_len.result)) (sym taken)
-    (IsReady-more old c.args.piece.now ready c.whole_len.result c.self.invariant next)
-
 pub returns-in-Some-fault-clause-memory : goal.returns-in-Some-fault-clause-memory
 returns-in-Some-fault-clause-memory c is =
-    let has : HasFault c.extend_from_slice.new.self.items (Some c.in-Some-fault.fault) =
+    let has : HasFault c.append.new.self (Some c.in-Some-fault.fault) =
     c.in-Some-fault.ensures.stands in
     let fault_is : Some c.in-Some-fault.fault ≡ Some Memory = cc in
     absurd (no_memory has.rest (has.stands ∙ fault_is))

@@ -30,7 +30,10 @@ overflow_sub-self c =
     omega (arith, next.fits)
 
 pub invariant_of-self : goal.invariant_of-self
-invariant_of-self c =
+invariant_of-self c = c.self.invariant
+
+pub invariant_of-self-2 : goal.invariant_of-self-2
+invariant_of-self-2 c =
     let says = c.in_ok-frame.ensures in
     let next = next_read c.self.invariant (omega arith) c.as_slice.ensures says.kind says.body in
     rw (c.give_back.ensures.items, c.advance.ensures.items, c.len-len.ensures) next.left
