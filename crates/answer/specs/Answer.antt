@@ -1,13 +1,13 @@
 -- The answer to each list of arguments, by what the files contain (own): what is written on both
 -- outputs, and the exit status (`IsAnswer`).
-use Rattle.std.specs.Prelude.{ℕ, ◌≡◌, ◌⊎◌, ◌<◌, true, List, ◌++◌, Option, Some, None, length, max, ⊤}
+use Rattle.std.specs.Prelude.{ℕ, ◌≡◌, ◌⊎◌, ◌<◌, true, List, ◌++◌, Option, Some, None, Err, length, max, ⊤}
 use Rattle.std.specs.Io.KnownBytes.{Appends, Keeps}
 use Rattle.pg_ids.specs.AnyKey.{IsAnyKey, any_key_bytes}
 use Rattle.pg_ids.specs.declared.any_key.AnyKey.{AnyKey}
 use Rattle.startup.specs.Kinds.{none_seen}
 use Rattle.startup.specs.CancelPacket.{cancel_packet, packet_bytes}
 use Rattle.startup.specs.Numbers.{number_of_refusal}
-use Rattle.startup.specs.FirstPacket.{Outcome, Startup, Cancel, Ssl, Gss, More, Refused, IsOutcome}
+use Rattle.startup.specs.FirstPacket.{Outcome, Startup, Cancel, Ssl, Gss, More, Refused, Answers, IsOutcome}
 use Rattle.startup.specs.declared.startup_error.StartupError.{StartupError}
 use Rattle.ini_config.specs.Plain.{plain_settings}
 use Rattle.ini_config.specs.Node.{NodeSettings}
@@ -66,10 +66,10 @@ pub record HasMore (packet : List ℕ) : Type 0 where
   pub some : 0 < length more
   pub packet_is : packet ≡ packet_bytes (cancel_packet key) ++ more
 
--- the packet is refused by this number
+-- the packet is refused by this number, or it begins a session for which there is no memory
 pub record IsRefused (packet : List ℕ) (number : ℕ) : Type 0 where
   pub error : StartupError
-  pub outcome : IsOutcome none_seen packet true (Refused error)
+  pub answer : Answers none_seen packet true (Err error)
   pub number_is : number ≡ number_of_refusal error
 
 -- the packet is whole, and asks for something else

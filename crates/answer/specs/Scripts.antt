@@ -5,6 +5,7 @@ use Rattle.ini_config.specs.declared.fault.GroupError.{GroupError}
 use Rattle.ini_config.specs.declared.fault.GroupError.TheVariants as group
 use Rattle.ini_config.specs.Group.{IsGroup}
 use Rattle.ini_config.specs.Node.{NodeSettings}
+use Rattle.world.specs.SafeCancellation.{IsSafe}
 use Rattle.world.specs.World.{World}
 use Rattle.world.specs.WorldRun.{WorldRun}
 use Rattle.world.specs.declared.event.Event.{Event}
@@ -22,11 +23,13 @@ pub record SaysScript (known : Option (List ℕ)) (nodes : List NodeSettings) (e
   pub held : Holds known text
   pub script : IsScript text nodes events
 
--- the text is the outcome of a run of these events in this group
+-- the text is the outcome of a run of these events in this group, whose world is safe: each
+-- interrupt of it struck a query of the client that the key was given to
 pub record RunsTo (nodes : List NodeSettings) (events : List Event) (text : List ℕ) : Type 0 where
   pub took : List Took
   pub world : World
   pub run : WorldRun nodes events took world
+  pub safe : IsSafe world
   pub text_is : text ≡ outcome took world.interrupts
 
 -- the file says a script whose nodes are a group, and the text is the outcome of its run

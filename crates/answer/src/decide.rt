@@ -14,7 +14,7 @@ use command_line::{DecideRequest, longer_packet};
 use lease::TicketRecord;
 use node_core::Order;
 use pg_ids::{AnyKey, ServerKey};
-use startup::{First, Opening, Packet, StartupError, write_cancel};
+use startup::{First, Opening, Packet, write_cancel};
 use std::alloc::{AllocError, Global};
 use std::sync::Wait;
 
@@ -42,7 +42,6 @@ fn cancel_key(alloc: Global, packet: &[u8]) -> Result<AnyKey, Fault>
 {
     let first = match Opening::new(alloc).read(packet, true) {
         Ok(first) => first,
-        Err(StartupError::Memory) => return Err(Fault::Memory),
         Err(refusal) => return Err(Fault::Packet(refusal.number())),
     };
     match &first {

@@ -38,18 +38,50 @@ const TWO_ALONE: &str =
 const ZERO: &str =
     "[pgbouncer]\npool_mode = transaction\nauth_type = trust\nlisten_addr = 127.0.0.1\n";
 
+// The small file with one line changed.
+const PADDED_NUMBER: &str =
+    "[pgbouncer]\npool_mode = transaction\nauth_type = trust\nlisten_addr = 127.0.0.1\n\
+     listen_port = 7001\npeer_id = 01\n[databases]\n\
+     shop = host=127.0.0.1 port=7100 user=app pool_size=2\n[peers]\n\
+     2 = host=127.0.0.1 port=7002\n";
+
+const WITHOUT_MODE: &str =
+    "[pgbouncer]\nauth_type = trust\nlisten_addr = 127.0.0.1\nlisten_port = 7001\npeer_id = 1\n\
+     [databases]\nshop = host=127.0.0.1 port=7100 user=app pool_size=2\n[peers]\n\
+     2 = host=127.0.0.1 port=7002\n";
+
+const PORT_ZERO: &str =
+    "[pgbouncer]\npool_mode = transaction\nauth_type = trust\nlisten_addr = 127.0.0.1\n\
+     listen_port = 7001\npeer_id = 1\n[databases]\nshop = port=0 user=a\n[peers]\n\
+     2 = host=127.0.0.1 port=7002\n";
+
+const TWO_HOSTS: &str =
+    "[pgbouncer]\npool_mode = transaction\nauth_type = trust\nlisten_addr = 127.0.0.1\n\
+     listen_port = 7001\npeer_id = 1\n[databases]\nshop = host=a port=1 host=b user=c\n[peers]\n\
+     2 = host=127.0.0.1 port=7002\n";
+
+const ONE_NAME_MORE: &str =
+    "[pgbouncer]\npool_mode = transaction\nauth_type = trust\nlisten_addr = 127.0.0.1\n\
+     listen_port = 7001\npeer_id = 1\n[databases]\nshop = host=a port=1 user=b extra=1\n[peers]\n\
+     2 = host=127.0.0.1 port=7002\n";
+
 const LARGE_NUMBER: &str =
     "[pgbouncer]\npool_mode = transaction\nauth_type = trust\nlisten_addr = 127.0.0.1\n\
      listen_port = 7001\npeer_id = 16384\n";
 
 // The files of all tests.
-pub(crate) fn all_files() -> [TextFile; 8] {
+pub(crate) fn all_files() -> [TextFile; 13] {
     [
         whole_file("small", SMALL.as_bytes()),
         whole_file("two", TWO.as_bytes()),
         whole_file("two_alone", TWO_ALONE.as_bytes()),
         whole_file("zero", ZERO.as_bytes()),
         whole_file("large", LARGE_NUMBER.as_bytes()),
+        whole_file("padded", PADDED_NUMBER.as_bytes()),
+        whole_file("modeless", WITHOUT_MODE.as_bytes()),
+        whole_file("port_zero", PORT_ZERO.as_bytes()),
+        whole_file("two_hosts", TWO_HOSTS.as_bytes()),
+        whole_file("one_more", ONE_NAME_MORE.as_bytes()),
         whole_file("empty", b""),
         whole_file("latin", b"[pgbouncer]\n# caf\xe9\n"),
         TextFile {

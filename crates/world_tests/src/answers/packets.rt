@@ -2,6 +2,25 @@
 use super::{expect_answer, expect_line};
 use std::test::Fail;
 
+// First packets of a hostile client at node 2, and their numbers.
+const HOSTILE: [(&str, &str); 8] = [
+    ("00000007", "packet 1\n"),
+    ("00002711", "packet 2\n"),
+    ("0000000904d2162f", "packet 2\n"),
+    ("0000001004d2162e", "packet 8\n"),
+    ("000000090003000000", "packet 5\n"),
+    ("0000000800030000", "packet 4\n"),
+    ("0000000900030001", "packet 3\n"),
+    ("0000000f04d2162e", "packet 6\n"),
+];
+
+#[test]
+fn hostile_packets(rt: HostRuntime) {
+    for (packet, line) in HOSTILE {
+        expect_answer(&rt, &["decide", "--me", "2", packet], 1, "", line);
+    }
+}
+
 // The packet, and what is written to standard error.
 const PACKETS: [(&str, &str); 16] = [
     ("", "packet 8\n"),

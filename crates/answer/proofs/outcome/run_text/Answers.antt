@@ -11,6 +11,7 @@ returns c =
       took = c.in_ok-world.took.items;
       world = world;
       run = c.in_ok-world.ensures.run;
+      safe = c.in_ok-world.ensures.safe;
       text_is = is ∙ ap (λ took. outcome took world.interrupts) c.deref.ensures.value;
     })
     (λ fault is. is)
