@@ -17,7 +17,8 @@ use Rattle.node_threads.specs.StreamCalls.{SomeCalls, Read, ReadToEnd}
 use Rattle.node_threads.specs.Asking.{IsError, AreGathered, Asks, request_of, Says, Faulty, Silent, NoMemory}
 use Rattle.node_threads.specs.Progress.{asking}
 use Rattle.node_threads.specs.Finding.{gathering, Comes, Finds, Quits, IsRefusal, AsksNext}
-use Rattle.node_threads.proofs.CallLists.{Makes-append, Read-append, Read-nothing, ReadToEnd-append}
+use Rattle.peer_forward.proofs.CallLemmas.{Makes-append}
+use Rattle.node_threads.proofs.CallLists.{Read-append, Read-nothing, ReadToEnd-append}
 use Rattle.node_threads.proofs.ReadingLemmas.{fault_here}
 
 -- a fault that stands ends the session

@@ -26,7 +26,8 @@ use Rattle.node_threads.specs.declared.login.first_packets.Opened.{Opened}
 use Rattle.node_threads.specs.declared.login.first_packets.Opened.TheVariants.{Session, Cancel, Over}
 use Rattle.node_threads.specs.StreamCalls.{given, IsDone, IsWrite, IsFailedWrite, IsRead, Wrote, WroteSome, Read, SomeCalls}
 use Rattle.node_threads.specs.Opening.{Negotiation, Ssl, Gss, packet_of, Asks, Negotiated, WritesError, IsRefusedFor, EndsBy, Ends, Opens, Begins, IsSession}
-use Rattle.node_threads.proofs.CallLists.{Makes-append, taken-append, given-append, each-append}
+use Rattle.peer_forward.proofs.CallLemmas.{Makes-append}
+use Rattle.node_threads.proofs.CallLists.{taken-append, given-append, each-append}
 
 -- a call that failed took nothing
 failed_took_nothing : (call : Call) → IsFailedWrite call → taken (call ∷ []) ≡ []

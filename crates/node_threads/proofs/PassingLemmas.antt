@@ -9,7 +9,8 @@ use Rattle.node_threads.specs.declared.session.outcome.Stayed.{Stayed}
 use Rattle.node_threads.specs.StreamCalls.{SomeCalls, Wrote, Read}
 use Rattle.node_threads.specs.Replying.{ReplyEnd, Ready, Unclear, Unfit, Faulty, Lost, Cut, Untold, ReadsReply, WritesReply}
 use Rattle.node_threads.specs.Progress.{HandedOut, HandedLast, HandedUnfit, Finishes, EndsHere, GoesOn}
-use Rattle.node_threads.proofs.CallLists.{Makes-append, Read-append, Read-nothing, ReadToEnd-append, Wrote-append, Wrote-nothing, WroteSome-append}
+use Rattle.peer_forward.proofs.CallLemmas.{Makes-append}
+use Rattle.node_threads.proofs.CallLists.{Read-append, Read-nothing, ReadToEnd-append, Wrote-append, Wrote-nothing, WroteSome-append}
 use Rattle.node_threads.proofs.EndLemmas.{enough}
 
 -- reads of a reply before others
