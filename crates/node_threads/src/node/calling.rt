@@ -30,6 +30,49 @@ pub struct Node<L: Drop> {
 }
 
 impl<L: Drop> Node<L> {
+    // The lock of a node with these settings, and its first caller.
+    fn lock(
+        alloc: Global,
+        settings: &Settings,
+        boot: Boot,
+    ) -> Result<(Shared<Link<L>>, Caller<Link<L>>), AllocError>
+        ensures own { IfOk result (λ made. made.1.lock ≡ made.0) }
+        ensures fresh { IfOk result (λ made. IsFresh settings.now boot made.1.start.view) }
+    {
+        let core = NodeCore::new(alloc, settings, boot)?;
+        Shared::new(alloc, Journal::new(alloc, core)?)
+    }
+
+    // A node at a place of the group, behind this lock. Its secrets are drawn from the seed.
+    fn new(
+        alloc: Global,
+        group: &Arc<Group, Global>,
+        place: usize,
+        seed: [u8; 32],
+        boot: Boot,
+        shared: Shared<Link<L>>,
+    ) -> Result<Node<L>, AllocError>
+        requires { place < length (arc_value group.now) }
+        ensures shared { IfOk result (λ node. node.shared ≡ shared) }
+        ensures group { IfOk result (λ node. arc_value node.group ≡ arc_value group.now) }
+        ensures place { IfOk result (λ node. node.place ≡ place) }
+    {
+        let settings = &group.nodes()[place];
+        let secrets = Secrets::new(seed, settings.peer_id());
+        let seats = Seats::new(alloc)?;
+        let admission = Admission::new(alloc, settings)?;
+        let group = Arc::try_clone(group)?;
+        Ok(Node {
+            shared,
+            seats,
+            admission,
+            group,
+            place,
+            secrets: Mutex::new(secrets),
+            boot: Mutex::new(boot),
+        })
+    }
+
     /// Its settings.
     pub fn settings(&self) -> &Settings
         ensures { slice_get (arc_value self.now.group) self.now.place ≡ Some result.now }
@@ -69,21 +112,8 @@ impl<L: Drop> Calling<L> {
             (λ settings. IsFresh settings boot calling.caller.start.view)) }
     {
         let settings = &group.nodes()[place];
-        let core = NodeCore::new(alloc, settings, boot)?;
-        let (shared, caller) = Shared::new(alloc, Journal::new(alloc, core)?)?;
-        let secrets = Secrets::new(seed, settings.peer_id());
-        let seats = Seats::new(alloc)?;
-        let admission = Admission::new(alloc, settings)?;
-        let group = Arc::try_clone(group)?;
-        let node = Node {
-            shared,
-            seats,
-            admission,
-            group,
-            place,
-            secrets: Mutex::new(secrets),
-            boot: Mutex::new(boot),
-        };
+        let (shared, caller) = Node::lock(alloc, settings, boot)?;
+        let node = Node::new(alloc, group, place, seed, boot, shared)?;
         let node = Arc::new(alloc, node)?;
         Ok(Calling { node, caller })
     }
