@@ -8,3 +8,4 @@ mod steps;
 mod sums;
 mod threads;
 mod turns;
+mod wakes;
