@@ -36,8 +36,6 @@ mod openings;
 #[cfg(test)]
 mod owner;
 #[cfg(test)]
-mod refused;
-#[cfg(test)]
 mod reports;
 #[cfg(test)]
 mod restarts;
