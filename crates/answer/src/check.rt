@@ -10,8 +10,8 @@ use ini_config::{Group, GroupError, IniCode, IniError, Settings, read_settings};
 use std::alloc::Global;
 use std::io::ErrorKind;
 
-/// The line that names how many nodes these files make a group of. The files are judged in order,
-/// then the group, and the first fault alone is returned.
+/// The line that names how many nodes these files make a group of, or the first fault: of a file, in
+/// the order of the arguments, or else of the group.
 pub fn check_line<O: Opener>(alloc: Global, opener: &O, files: &[&str]) -> Result<String, Fault>
     ensures group { IfOk result (λ line. IsGroupLine (O.text opener.now)
         (map (λ file. file.now) files.now) (string_bytes line)) }
@@ -23,8 +23,8 @@ pub fn check_line<O: Opener>(alloc: Global, opener: &O, files: &[&str]) -> Resul
     group_line(alloc, count)
 }
 
-/// The group whose nodes are what these files say, one for each file, in order. The files are
-/// judged in order, then the group, and the first fault alone is returned.
+/// The group whose nodes are what these files say, one for each file, in order; or the first fault:
+/// of a file, or else of the group.
 pub fn group_of<O: Opener>(alloc: Global, opener: &O, files: &[&str]) -> Result<Group, Fault>
     ensures said { IfOk result (λ group. SayInOrder (O.text opener.now)
         (map (λ file. file.now) files.now) group) }

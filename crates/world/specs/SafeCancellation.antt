@@ -10,8 +10,8 @@ pub record IsForOwner (issues : List Issue) (arrivals : List Arrival)
   pub there : slice_get arrivals arrival ≡ Some came
   pub owner : IsOwner issues (any_identity_of came.key) label
 
--- each interruption struck a server process that ran a query of the very client to whom the
--- request's key was given
+-- each interruption struck a server process while it ran a query of the request's owner: the client
+-- that its key was given to
 abbrev pub OnlyOwnerStruck : World → Type 0
 OnlyOwnerStruck w = (place : ℕ) (struck : Interrupt) → slice_get w.interrupts place ≡ Some struck
     → IsForOwner w.issues w.arrivals struck.arrival struck.label

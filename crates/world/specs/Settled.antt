@@ -27,8 +27,8 @@ pub record LedTo (forwards : List Forward) (arrival onward : ℕ) : Type 0 where
   pub from : forward.origin ≡ arrival
   pub to : forward.accepted ≡ Some onward
 
--- the arrival is settled: it was refused or ended a wait; or its cancel connection was ended by the
--- server; or it was forwarded, and the arrival on that very forward connection is settled
+-- An arrival is settled if it was refused or ended a wait; if the server ended its cancel
+-- connection; or if it was forwarded, and what arrived on its forward connection is settled.
 pub data Settled (arrivals : List Arrival) (connections : List Connection)
     (forwards : List Forward) : ℕ → Type 0 where
   Nowhere : (arrival : ℕ) (came : Arrival) → slice_get arrivals arrival ≡ Some came

@@ -23,7 +23,7 @@ use std::marker::Model;
 /// A group of nodes with their clients and servers, after some events.
 ///
 /// This is true of every value of this type, whatever the events were: each interruption struck a
-/// server process that ran a query of the very client to whom the request's key was given; no key
+/// server process while it ran a query of the client that the request's key was given to; no key
 /// was taken for two clients; and each cancel connection to a server is for a request with hops
 /// left and a key that was given to the client who had that server process.
 #[derive(Drop)]
