@@ -150,12 +150,14 @@ def big_query(t):
         came = refuse_query(pooler, size)
         good = came.startswith("ok") or size > LIMIT - 4 and came.startswith("FATAL 08P01")
         t.check(good, f"a query of {size} bytes", came[:80], "its row" if size <= LIMIT - 4 else "FATAL 08P01")
+    text = "select '" + "x" * 2_000_000 + "';\n"
+    psql = [f"{t.options.postgres}/psql", "-X", "-h", "127.0.0.1", "-p", str(pooler.port), "-U", "ann", "-d", "shop"]
+    said = subprocess.run(psql, input=text, capture_output=True, text=True, timeout=20).stderr
+    t.check("protocol violation" in said, "psql, 2,000,000 bytes", " ".join(said.split())[:100], "protocol violation")
     python = find_psycopg2()
-    if python is None:
-        return t.note("psycopg2 isn't there: skipped")
-    said = subprocess.run([python, "-c", PSYCOPG2, str(pooler.port)], capture_output=True, text=True, timeout=20).stdout
-    good = "protocol violation" in said or "no error" in said
-    t.check(good, "psycopg2, 2,000,000 bytes", said.strip()[:100], "protocol violation")
+    if python is not None:  # over libpq 15 it tells that the connection was closed, and not why
+        said = subprocess.run([python, "-c", PSYCOPG2, str(pooler.port)], capture_output=True, text=True, timeout=20)
+        t.note(f"psycopg2, 2,000,000 bytes: {said.stdout.strip()[:60]}")
 
 
 @scenario("big-row", limit=30)
