@@ -108,7 +108,7 @@ class Rounds:
         self.early += end == CLEAN and any(came < at < done for came, done in self.server.handled)
 
 
-@scenario("kill-misdirects", limit=90)
+@scenario("kill-misdirects", limit=400)
 def kill_misdirects(t):
     """a group behind a group, whose forwarding node is killed at any moment: nobody but the asker is struck"""
     rounds = Rounds(t)
