@@ -1,5 +1,5 @@
 -- Arguments are read one after the other.
-use Rattle.std.proofs.Common.{◌≡◌, ℕ, zero, suc, ◌+◌, ◌<◌, ◌≤◌, Bool, true, false, not, ◌&&◌, ◌||◌, eqb, List, [], ◌∷◌, ◌++◌, codes, length, get_or, map, drop, Option, Some, None, Bor, inr, refl, sym, ap, ◌∙◌, append_assoc, append-nil, arith, drop-cons}
+use Rattle.std.proofs.Common.{◌≡◌, ℕ, zero, suc, ◌+◌, ◌<◌, ◌≤◌, Bool, true, false, not, ◌&&◌, ◌||◌, eqb, List, [], ◌∷◌, ◌++◌, codes, length, get_or, map, filter, if◌then◌else◌, drop, Option, Some, None, Bor, inr, refl, sym, ap, ◌∙◌, append_assoc, append-nil, arith, drop-cons}
 use Rattle.std.proofs.Math.Seq.{take-length}
 use Rattle.std.proofs.lemmas.List.{drop_all}
 use Rattle.std.proofs.lemmas.List.Folds.{list_any_none, list_any_at}
@@ -13,9 +13,11 @@ use Rattle.command_line.specs.Finds.{Takes, Finds}
 use Rattle.std.specs.Str.{bytes_eq}
 use Rattle.std.specs.List.{position_or_len, list_any, before_first, after_first}
 use Rattle.std.proofs.lemmas.Bool.Decides.{nat_tests}
-use Rattle.command_line.specs.declared.arguments.OptionName.{OptionName}
-use Rattle.command_line.specs.declared.arguments.OptionName.TheVariants.{Me, Peers, Live}
-use Rattle.command_line.specs.Arguments.{Text, Given, Plain, End, Alone, Whole, Unknown, shape_of, given_behind, given_by_all, with_value, plain_alone, value_alone, joined, LeadsOn, is_plain, is_end, asks_help, cut_at, cut_in}
+use Rattle.command_line.specs.declared.command_name.CommandName.{CommandName}
+use Rattle.command_line.specs.Options.{same_option}
+use Rattle.command_line.specs.declared.arguments.GivenOption.{GivenOption}
+use Rattle.command_line.specs.declared.option_name.OptionName.{OptionName}
+use Rattle.command_line.specs.Arguments.{Text, Given, Plain, End, Flag, Alone, Whole, Unknown, shape_of, given_behind, given_by_all, with_value, plain_alone, value_alone, joined, LeadsOn, option_in, values_of, is_plain, is_end, asks_help, cut_at, cut_in}
 use Rattle.command_line.specs.Numbers.{◌>>=◌, each, all_differ}
 
 -- the texts from a place on begin with the one at that place
@@ -41,11 +43,12 @@ same_maps f g same None = refl
 same_maps f g same (Some x) = ap Some (same x)
 
 -- what was given grows by one thing
-pub grows : (whole said : Option Given) (old new : Given) (others : List Text)
-    → whole ≡ option_map (joined old) said → LeadsOn old new said others
-    → whole ≡ option_map (joined new) (given_by_all others)
-grows whole said old new others is leads = is ∙ ap (option_map (joined old)) leads.gives
-    ∙ twice (given_by_all others)
+pub grows : (command : CommandName) (whole said : Option Given) (old new : Given)
+    (others : List Text) → whole ≡ option_map (joined old) said
+    → LeadsOn command old new said others
+    → whole ≡ option_map (joined new) (given_by_all command others)
+grows command whole said old new others is leads = is
+    ∙ ap (option_map (joined old)) leads.gives ∙ twice (given_by_all command others)
   where
     twice : (o : Option Given) → option_map (joined old) (option_map (joined leads.one) o)
         ≡ option_map (joined new) o
@@ -53,73 +56,85 @@ grows whole said old new others is leads = is ∙ ap (option_map (joined old)) l
     twice (Some g) = ap Some (sym (joined_assoc old leads.one g)
         ∙ ap (λ all. joined all g) (sym leads.grown))
 
-pub takes_plain : (argument : Text) (later : List Text) (old new : Given)
-    → shape_of argument ≡ Plain → new ≡ joined old (plain_alone (argument ∷ []))
-    → LeadsOn old new (given_by_all (argument ∷ later)) later
+pub takes_plain : (command : CommandName) (argument : Text) (later : List Text) (old new : Given)
+    → shape_of command argument ≡ Plain → new ≡ joined old (plain_alone (argument ∷ []))
+    → LeadsOn command old new (given_by_all command (argument ∷ later)) later
 unfolding given_behind
-takes_plain argument later old new shape grown =
+takes_plain command argument later old new shape grown =
     record { one = plain_alone (argument ∷ []); grown = grown; gives = rw shape refl }
 
-pub takes_end : (argument : Text) (later : List Text) (old new : Given) → shape_of argument ≡ End
-    → new ≡ joined old (plain_alone later) → LeadsOn old new (given_by_all (argument ∷ later)) []
+pub takes_end : (command : CommandName) (argument : Text) (later : List Text) (old new : Given)
+    → shape_of command argument ≡ End → new ≡ joined old (plain_alone later)
+    → LeadsOn command old new (given_by_all command (argument ∷ later)) []
 unfolding given_behind
-takes_end argument later old new shape grown =
+takes_end command argument later old new shape grown =
     record { one = plain_alone later; grown = grown; gives = rw (shape, append-nil later) refl }
 
-with_value_joined : (name : OptionName) (value : Text) (given : Given)
-    → with_value name value given ≡ joined (value_alone name value) given
-with_value_joined Me value given = refl
-with_value_joined Peers value given = refl
-with_value_joined Live value given = refl
+pub takes_flag : (command : CommandName) (argument : Text) (name : OptionName) (later : List Text)
+    (old new : Given) → shape_of command argument ≡ Flag name
+    → new ≡ joined old (value_alone name [])
+    → LeadsOn command old new (given_by_all command (argument ∷ later)) later
+unfolding given_behind
+takes_flag command argument name later old new shape grown =
+    record { one = value_alone name []; grown = grown; gives = rw shape refl }
 
-pub takes_whole : (argument : Text) (name : OptionName) (value : Text) (later : List Text)
-    (old new : Given) → shape_of argument ≡ Whole name value
+pub takes_whole : (command : CommandName) (argument : Text) (name : OptionName) (value : Text)
+    (later : List Text) (old new : Given) → shape_of command argument ≡ Whole name value
     → new ≡ joined old (value_alone name value)
-    → LeadsOn old new (given_by_all (argument ∷ later)) later
+    → LeadsOn command old new (given_by_all command (argument ∷ later)) later
 unfolding given_behind
-takes_whole argument name value later old new shape grown =
-    record {
-      one = value_alone name value;
-      grown = grown;
-      gives = rw shape (same_maps (with_value name value) (joined (value_alone name value))
-          (with_value_joined name value) (given_by_all later));
-    }
+takes_whole command argument name value later old new shape grown =
+    record { one = value_alone name value; grown = grown; gives = rw shape refl }
 
-pub takes_value : (name : OptionName) (value : Text) (later : List Text) (old new : Given)
-    → is_plain value ≡ true → new ≡ joined old (value_alone name value)
-    → LeadsOn old new (given_behind (Some name) (value ∷ later)) later
+pub takes_value : (command : CommandName) (name : OptionName) (value : Text) (later : List Text)
+    (old new : Given) → is_plain value ≡ true → new ≡ joined old (value_alone name value)
+    → LeadsOn command old new (given_behind command (Some name) (value ∷ later)) later
 unfolding given_behind
-takes_value name value later old new plain grown =
-    record {
-      one = value_alone name value;
-      grown = grown;
-      gives = rw plain (same_maps (with_value name value) (joined (value_alone name value))
-          (with_value_joined name value) (given_by_all later));
-    }
+takes_value command name value later old new plain grown =
+    record { one = value_alone name value; grown = grown; gives = rw plain refl }
 
-pub awaits : (argument : Text) (name : OptionName) (later : List Text)
-    → shape_of argument ≡ Alone name → given_by_all (argument ∷ later)
-    ≡ given_behind (Some name) later
+pub awaits : (command : CommandName) (argument : Text) (name : OptionName) (later : List Text)
+    → shape_of command argument ≡ Alone name → given_by_all command (argument ∷ later)
+    ≡ given_behind command (Some name) later
 unfolding given_behind
-awaits argument name later shape = rw shape refl
+awaits command argument name later shape = rw shape refl
 
-pub takes_unknown : (argument : Text) (later : List Text) → shape_of argument ≡ Unknown
-    → given_by_all (argument ∷ later) ≡ None
+pub takes_unknown : (command : CommandName) (argument : Text) (later : List Text)
+    → shape_of command argument ≡ Unknown → given_by_all command (argument ∷ later) ≡ None
 unfolding given_behind
-takes_unknown argument later shape = rw shape refl
+takes_unknown command argument later shape = rw shape refl
 
-pub takes_no_value : (name : OptionName) (value : Text) (later : List Text) → is_plain value ≡ false
-    → given_behind (Some name) (value ∷ later) ≡ None
+pub takes_no_value : (command : CommandName) (name : OptionName) (value : Text) (later : List Text)
+    → is_plain value ≡ false → given_behind command (Some name) (value ∷ later) ≡ None
 unfolding given_behind
-takes_no_value name value later plain = rw plain refl
+takes_no_value command name value later plain = rw plain refl
 
-pub awaits_nothing : (name : OptionName) → given_behind (Some name) [] ≡ None
+pub awaits_nothing : (command : CommandName) (name : OptionName)
+    → given_behind command (Some name) [] ≡ None
 unfolding given_behind
-awaits_nothing name = refl
+awaits_nothing command name = refl
 
-pub gives_nothing : given_by_all [] ≡ Some (plain_alone [])
+pub gives_nothing : (command : CommandName) → given_by_all command [] ≡ Some (plain_alone [])
 unfolding given_behind
-gives_nothing = refl
+gives_nothing command = refl
+
+-- ---- the values of an option
+
+-- one option more, whose value is among those that are read where the option is the one
+one_value : (option : GivenOption) (kept : List GivenOption) (seen : List (OptionName × Text))
+    (keeps : Bool) → map (λ o. o.value.now) kept ≡ map (λ o. o.1) seen
+    → map (λ o. o.value.now) (if keeps then option ∷ kept else kept)
+    ≡ map (λ o. o.1) (if keeps then option_in option ∷ seen else seen)
+one_value option kept seen true rest = ap (λ texts. option.value.now ∷ texts) rest
+one_value option kept seen false rest = rest
+
+-- the values that are read of the options are those of the options
+pub values_read : (name : OptionName) (options : List GivenOption)
+    → map (λ o. o.value.now) (filter (λ o. same_option name o.name) options)
+    ≡ values_of name (record { options = map option_in options; plain = [] })
+values_read name [] = refl
+values_read name (option ∷ options) =
+    one_value option _ _ (same_option name option.name) (values_read name options)
 
 -- ---- cuts
 
@@ -260,80 +275,90 @@ pub first_text : (words : List (Bor (List ℕ))) → 0 < length words
     → map (λ w. w.now) words ≡ (get_or words 0 no_text).now ∷ map (λ w. w.now) (drop 1 words)
 first_text words some = texts_from words 0 no_text some
 
-module _ (words : List (Bor (List ℕ))) (some : 0 < length words) (old new : Given) where
+module _ (command : CommandName) (words : List (Bor (List ℕ))) (some : 0 < length words)
+    (old new : Given) where
   leads : (others : List Text)
-      → LeadsOn old new (given_by_all ((get_or words 0 no_text).now
+      → LeadsOn command old new (given_by_all command ((get_or words 0 no_text).now
       ∷ map (λ w. w.now) (drop 1 words))) others
-      → LeadsOn old new (given_by_all (map (λ w. w.now) words)) others
+      → LeadsOn command old new (given_by_all command (map (λ w. w.now) words)) others
   leads others h = rw (first_text words some) h
 
-  pub first_plain : shape_of (get_or words 0 no_text).now ≡ Plain
+  pub first_plain : shape_of command (get_or words 0 no_text).now ≡ Plain
       → new ≡ joined old (plain_alone ((get_or words 0 no_text).now ∷ []))
-      → LeadsOn old new (given_by_all (map (λ w. w.now) words)) (map (λ w. w.now) (drop 1 words))
+      → LeadsOn command old new (given_by_all command (map (λ w. w.now) words)) (map (λ w. w.now) (drop 1 words))
   first_plain shape grown =
       leads (map (λ w. w.now) (drop 1 words))
-      (takes_plain (get_or words 0 no_text).now (map (λ w. w.now) (drop 1 words)) old new shape
+      (takes_plain command (get_or words 0 no_text).now (map (λ w. w.now) (drop 1 words)) old new shape
       grown)
 
   pub first_end : (later : List (Bor (List ℕ))) → later ≡ drop 1 words
-      → shape_of (get_or words 0 no_text).now ≡ End
+      → shape_of command (get_or words 0 no_text).now ≡ End
       → new ≡ joined old (plain_alone (map (λ w. w.now) later))
-      → LeadsOn old new (given_by_all (map (λ w. w.now) words))
+      → LeadsOn command old new (given_by_all command (map (λ w. w.now) words))
       (map (λ w. w.now) (drop (length words) words))
   first_end later are shape grown =
       let none : length words ≤ length words = omega arith in
       rw (drop_all (length words) words none)
-      (leads [] (takes_end (get_or words 0 no_text).now (map (λ w. w.now) (drop 1 words)) old
+      (leads [] (takes_end command (get_or words 0 no_text).now (map (λ w. w.now) (drop 1 words)) old
       new shape (rw are at grown)))
 
+  pub first_flag : (name : OptionName) → shape_of command (get_or words 0 no_text).now ≡ Flag name
+      → new ≡ joined old (value_alone name [])
+      → LeadsOn command old new (given_by_all command (map (λ w. w.now) words))
+      (map (λ w. w.now) (drop 1 words))
+  first_flag name shape grown =
+      leads (map (λ w. w.now) (drop 1 words))
+      (takes_flag command (get_or words 0 no_text).now name (map (λ w. w.now) (drop 1 words)) old
+      new shape grown)
+
   pub first_whole : (name : OptionName) (value : Text)
-      → shape_of (get_or words 0 no_text).now ≡ Whole name value
+      → shape_of command (get_or words 0 no_text).now ≡ Whole name value
       → new ≡ joined old (value_alone name value)
-      → LeadsOn old new (given_by_all (map (λ w. w.now) words)) (map (λ w. w.now) (drop 1 words))
+      → LeadsOn command old new (given_by_all command (map (λ w. w.now) words)) (map (λ w. w.now) (drop 1 words))
   first_whole name value shape grown =
       leads (map (λ w. w.now) (drop 1 words))
-      (takes_whole (get_or words 0 no_text).now name value (map (λ w. w.now) (drop 1 words)) old new
+      (takes_whole command (get_or words 0 no_text).now name value (map (λ w. w.now) (drop 1 words)) old new
       shape grown)
 
   pub first_two : (later : List (Bor (List ℕ))) → later ≡ drop 1 words
-      → (name : OptionName) (value : Text) → shape_of (get_or words 0 no_text).now ≡ Alone name
+      → (name : OptionName) (value : Text) → shape_of command (get_or words 0 no_text).now ≡ Alone name
       → is_plain value ≡ true → map (λ w. w.now) later ≡ value ∷ map (λ w. w.now) (drop 1 later)
       → new ≡ joined old (value_alone name value)
-      → LeadsOn old new (given_by_all (map (λ w. w.now) words)) (map (λ w. w.now) (drop 2 words))
+      → LeadsOn command old new (given_by_all command (map (λ w. w.now) words)) (map (λ w. w.now) (drop 2 words))
   first_two later are name value shape plain begins grown =
       let two : drop 1 later ≡ drop 2 words = ap (drop 1) are ∙ drop_twice words in
-      let said : given_by_all (map (λ w. w.now) words) ≡ given_behind (Some name)
+      let said : given_by_all command (map (λ w. w.now) words) ≡ given_behind command (Some name)
       (value ∷ map (λ w. w.now) (drop 2 words)) =
-      ap given_by_all (first_text words some)
-      ∙ awaits (get_or words 0 no_text).now name (map (λ w. w.now) (drop 1 words)) shape
-      ∙ ap (given_behind (Some name)) (ap (map (λ (w : Bor (List ℕ)). w.now)) (sym are) ∙ begins
+      ap (given_by_all command) (first_text words some)
+      ∙ awaits command (get_or words 0 no_text).now name (map (λ w. w.now) (drop 1 words)) shape
+      ∙ ap (given_behind command (Some name)) (ap (map (λ (w : Bor (List ℕ)). w.now)) (sym are) ∙ begins
       ∙ ap (λ l. value ∷ map (λ (w : Bor (List ℕ)). w.now) l) two) in
-      rw said (takes_value name value (map (λ w. w.now) (drop 2 words)) old new plain grown)
+      rw said (takes_value command name value (map (λ w. w.now) (drop 2 words)) old new plain grown)
 
   pub first_alone : (later : List (Bor (List ℕ))) → later ≡ drop 1 words → (name : OptionName)
-      → shape_of (get_or words 0 no_text).now ≡ Alone name
-      → given_behind (Some name) (map (λ w. w.now) later) ≡ None
-      → given_by_all (map (λ w. w.now) words) ≡ None
+      → shape_of command (get_or words 0 no_text).now ≡ Alone name
+      → given_behind command (Some name) (map (λ w. w.now) later) ≡ None
+      → given_by_all command (map (λ w. w.now) words) ≡ None
   first_alone later are name shape none =
-      ap given_by_all (first_text words some)
-      ∙ awaits (get_or words 0 no_text).now name (map (λ w. w.now) (drop 1 words)) shape
-      ∙ ap (λ l. given_behind (Some name) (map (λ (w : Bor (List ℕ)). w.now) l)) (sym are) ∙ none
+      ap (given_by_all command) (first_text words some)
+      ∙ awaits command (get_or words 0 no_text).now name (map (λ w. w.now) (drop 1 words)) shape
+      ∙ ap (λ l. given_behind command (Some name) (map (λ (w : Bor (List ℕ)). w.now) l)) (sym are) ∙ none
 
-  pub first_unknown : shape_of (get_or words 0 no_text).now ≡ Unknown
-      → given_by_all (map (λ w. w.now) words) ≡ None
+  pub first_unknown : shape_of command (get_or words 0 no_text).now ≡ Unknown
+      → given_by_all command (map (λ w. w.now) words) ≡ None
   first_unknown shape = rw (first_text words some)
-      (takes_unknown (get_or words 0 no_text).now (map (λ w. w.now) (drop 1 words)) shape)
+      (takes_unknown command (get_or words 0 no_text).now (map (λ w. w.now) (drop 1 words)) shape)
 
-pub awaits_none : (name : OptionName) (words : List (Bor (List ℕ))) → length words ≡ 0
-    → given_behind (Some name) (map (λ w. w.now) words) ≡ None
-awaits_none name [] none = awaits_nothing name
-awaits_none name (w ∷ words) none = absurd (omega arith)
+pub awaits_none : (command : CommandName) (name : OptionName) (words : List (Bor (List ℕ)))
+    → length words ≡ 0 → given_behind command (Some name) (map (λ w. w.now) words) ≡ None
+awaits_none command name [] none = awaits_nothing command name
+awaits_none command name (w ∷ words) none = absurd (omega arith)
 
 -- arguments that give nothing are refused
-pub refused_takes : (old new : Given) (words : List (Bor (List ℕ))) (r : Result ℕ Wrong) → IsErr r
-    → given_by_all (map (λ w. w.now) words) ≡ None → Takes old new words r
-refused_takes old new words (Ok count) err none = cc
-refused_takes old new words (Err wrong) err none = inr none
+pub refused_takes : (command : CommandName) (old new : Given) (words : List (Bor (List ℕ))) (r : Result ℕ Wrong) → IsErr r
+    → given_by_all command (map (λ w. w.now) words) ≡ None → Takes command old new words r
+refused_takes command old new words (Ok count) err none = cc
+refused_takes command old new words (Err wrong) err none = inr none
 
 pub refused_finds : {X Y : Type 0} (view : X → Y) (r : Result X Wrong) (said : Option Y) → IsErr r
     → said ≡ None → Finds view r said

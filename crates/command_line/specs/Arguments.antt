@@ -1,14 +1,15 @@
 -- Options with their values, and the other arguments (own).
-use Rattle.std.specs.Prelude.{ℕ, ◌≡◌, ◌==◌, Bool, false, not, ◌&&◌, ◌||◌, nat_le, if◌then◌else◌, List, [], ◌∷◌, ◌++◌, length, map, slice_index, Option, Some, None, codes}
+use Rattle.std.specs.Prelude.{ℕ, ◌≡◌, ◌==◌, Bool, false, not, ◌&&◌, ◌||◌, nat_le, if◌then◌else◌, List, [], ◌∷◌, ◌++◌, length, map, filter, slice_index, Option, Some, None, codes}
 use Rattle.std.specs.Borrow.{Bor}
 use Rattle.std.specs.List.{list_any, before_first, after_first}
-use Rattle.std.specs.Map.{lookup}
 use Rattle.std.specs.Option.{option_map}
 use Rattle.std.specs.Str.{bytes_eq}
-use Rattle.command_line.specs.declared.arguments.OptionName.{OptionName}
-use Rattle.command_line.specs.declared.arguments.OptionName.TheVariants.{Me, Peers, Live}
+use Rattle.command_line.specs.Options.{option_named, has_value, same_option}
+use Rattle.command_line.specs.declared.command_name.CommandName.{CommandName}
+use Rattle.command_line.specs.declared.option_name.OptionName.{OptionName}
 use Rattle.command_line.specs.declared.arguments.Shape.{Shape as ShapeRead}
 use Rattle.command_line.specs.declared.arguments.Shape.TheVariants as read
+use Rattle.command_line.specs.declared.arguments.GivenOption.{GivenOption}
 use Rattle.command_line.specs.declared.arguments.Given.{Given as GivenRead}
 
 -- an argument's bytes
@@ -31,50 +32,41 @@ cut_at mark text = (
       then Some (after_first (λ byte. byte == mark) text) else None,
 )
 
--- the options, by their names
-abbrev pub options : List (Text × OptionName)
-options = (codes "--me", Me) ∷ (codes "--peers", Peers) ∷ (codes "--live", Live) ∷ []
-
--- the option of this name
-unfoldable pub option_named : Text → Option OptionName
-option_named name = lookup (bytes_eq name) options
-
--- What one argument is: a plain one, the end of the options, an option whose value is the next
--- argument, an option with its value behind `=`, or nothing that there is
+-- What one argument is: a plain one, the end of the options, an option that has no value, an option
+-- whose value is the next argument, an option with its value behind `=`, or nothing that there is
 pub data Shape : Type 0 where
   Plain : Shape
   End : Shape
+  Flag : OptionName → Shape
   Alone : OptionName → Shape
   Whole : OptionName → Text → Shape
   Unknown : Shape
 
--- an option of this name, with its value behind `=` (61), where there is one
+-- an option of this name, with what stands behind `=` (61), if anything does
 abbrev pub option_shape : Option OptionName → Option Text → Shape
 option_shape None value = Unknown
-option_shape (Some name) None = Alone name
-option_shape (Some name) (Some value) = Whole name value
+option_shape (Some name) None = if has_value name then Alone name else Flag name
+option_shape (Some name) (Some value) = if has_value name then Whole name value else Unknown
 
-unfoldable pub shape_of : Text → Shape
-shape_of argument =
+-- what an argument of a command is
+unfoldable pub shape_of : CommandName → Text → Shape
+shape_of command argument =
     if is_plain argument then Plain
     else (if is_end argument then End
-    else option_shape (option_named (cut_at 61 argument).0) (cut_at 61 argument).1)
+    else option_shape (option_named command (cut_at 61 argument).0) (cut_at 61 argument).1)
 
--- the values of each option, and the plain arguments, each in their order
+-- the options with their values, empty where an option has none, and the plain arguments, each in
+-- their order
 pub record Given : Type 0 where
-  pub me : List Text
-  pub peers : List Text
-  pub live : List Text
+  pub options : List (OptionName × Text)
   pub plain : List Text
 
 abbrev pub plain_alone : List Text → Given
-plain_alone arguments = record { me = []; peers = []; live = []; plain = arguments }
+plain_alone arguments = record { options = []; plain = arguments }
 
--- one value more, before the others
+-- one option more, before the others
 abbrev pub with_value : OptionName → Text → Given → Given
-with_value Me value given = record given { me = value ∷ given.me }
-with_value Peers value given = record given { peers = value ∷ given.peers }
-with_value Live value given = record given { live = value ∷ given.live }
+with_value name value given = record given { options = (name, value) ∷ given.options }
 
 abbrev pub with_plain : Text → Given → Given
 with_plain argument given = record given { plain = argument ∷ given.plain }
@@ -84,24 +76,32 @@ abbrev pub given_by : Shape → Text → List Text → Option Given → (OptionN
     → Option Given
 given_by Plain argument rest after awaiting = option_map (with_plain argument) after
 given_by End argument rest after awaiting = Some (plain_alone rest)
+given_by (Flag name) argument rest after awaiting = option_map (with_value name []) after
 given_by (Alone name) argument rest after awaiting = awaiting name
 given_by (Whole name value) argument rest after awaiting = option_map (with_value name value) after
 given_by Unknown argument rest after awaiting = None
 
--- what arguments give, where an option may wait for its value; none where they have no such form
-unfoldable pub given_behind : Option OptionName → List Text → Option Given
-given_behind None [] = Some (plain_alone [])
-given_behind (Some name) [] = None
-given_behind None (argument ∷ rest) =
-    given_by (shape_of argument) argument rest (given_behind None rest)
-    (λ name. given_behind (Some name) rest)
-given_behind (Some name) (value ∷ rest) =
-    if is_plain value then option_map (with_value name value) (given_behind None rest) else None
+-- what a command's arguments give, where an option may wait for its value; none where they have no
+-- such form
+unfoldable pub given_behind : CommandName → Option OptionName → List Text → Option Given
+given_behind command None [] = Some (plain_alone [])
+given_behind command (Some name) [] = None
+given_behind command None (argument ∷ rest) =
+    given_by (shape_of command argument) argument rest (given_behind command None rest)
+    (λ name. given_behind command (Some name) rest)
+given_behind command (Some name) (value ∷ rest) =
+    if is_plain value
+    then option_map (with_value name value) (given_behind command None rest) else None
 
--- what arguments give: options in any order, as `--name VALUE` or `--name=VALUE`, and plain
--- arguments among them
-abbrev pub given_by_all : List Text → Option Given
-given_by_all arguments = given_behind None arguments
+-- what a command's arguments give: options in any order, as `--name`, `--name VALUE` or
+-- `--name=VALUE`, and plain arguments among them
+abbrev pub given_by_all : CommandName → List Text → Option Given
+given_by_all command arguments = given_behind command None arguments
+
+-- the values of an option, in their order
+abbrev pub values_of : OptionName → Given → List Text
+values_of name given =
+    map (λ option. option.1) (filter (λ option. same_option name option.0) given.options)
 
 -- whether help is asked for: `-h` or `--help` stands before any `--`
 abbrev pub is_help : Text → Bool
@@ -116,15 +116,17 @@ asks_help (argument ∷ rest) = not (is_end argument) && (is_help argument || as
 abbrev pub shape_in : ShapeRead → Shape
 shape_in read.Plain = Plain
 shape_in read.End = End
+shape_in (read.Flag name) = Flag name
 shape_in (read.Alone name) = Alone name
 shape_in (read.Whole name value) = Whole name value.now
 shape_in read.Unknown = Unknown
 
+abbrev pub option_in : GivenOption → OptionName × Text
+option_in option = (option.name, option.value.now)
+
 abbrev pub given_in : GivenRead → Given
 given_in given = record {
-  me = map (λ value. value.now) given.me.items;
-  peers = map (λ value. value.now) given.peers.items;
-  live = map (λ value. value.now) given.live.items;
+  options = map option_in given.options.items;
   plain = map (λ argument. argument.now) given.plain.items;
 }
 
@@ -139,15 +141,14 @@ cut_in cut = (cut.0.now, option_map (λ behind. behind.now) cut.1)
 -- what some arguments give, and then what the others give
 abbrev pub joined : Given → Given → Given
 joined some others = record {
-  me = some.me ++ others.me;
-  peers = some.peers ++ others.peers;
-  live = some.live ++ others.live;
+  options = some.options ++ others.options;
   plain = some.plain ++ others.plain;
 }
 
--- Arguments that say this give one thing first, by which what was given before grew, and then what
--- the others give.
-pub record LeadsOn (old new : Given) (said : Option Given) (others : List Text) : Type 0 where
+-- Arguments of a command that say this give one thing first, by which what was given before grew,
+-- and then what the others give.
+pub record LeadsOn (command : CommandName) (old new : Given) (said : Option Given)
+    (others : List Text) : Type 0 where
   pub one : Given
   pub grown : new ≡ joined old one
-  pub gives : said ≡ option_map (joined one) (given_by_all others)
+  pub gives : said ≡ option_map (joined one) (given_by_all command others)

@@ -23,6 +23,11 @@ at_most_one [] = Some None
 at_most_one (text ∷ []) = Some (Some text)
 at_most_one (text ∷ another ∷ rest) = None
 
+-- the texts of a list, if there are any
+abbrev pub one_or_more : List Text → Option (List Text)
+one_or_more [] = None
+one_or_more (text ∷ rest) = Some (text ∷ rest)
+
 -- what each of these texts means, where each means something
 unfoldable pub each : {A : Type 0} → (Text → Option A) → List Text → Option (List A)
 each read [] = Some []

@@ -1,18 +1,19 @@
 -- What each list of arguments asks for (own): the parts of a key, a decision, a check of files, a
 -- run of a script, help, the version, or nothing.
-use Rattle.std.specs.Prelude.{ℕ, Bool, true, false, ◌&&◌, if◌then◌else◌, List, [], ◌∷◌, map, Option, Some, None, codes}
+use Rattle.std.specs.Prelude.{ℕ, if◌then◌else◌, List, [], ◌∷◌, map, Option, Some, None, codes}
 use Rattle.std.specs.Map.{lookup}
 use Rattle.std.specs.Option.{option_map, option_or}
 use Rattle.std.specs.Result.{result_ok}
 use Rattle.std.specs.Str.{bytes_eq}
 use Rattle.hex.specs.Hex.{decode_of, decode_sized}
 use Rattle.pg_ids.specs.AnyKey.{any_key_bytes}
-use Rattle.command_line.specs.Arguments.{Text, Given, given_by_all, asks_help}
-use Rattle.command_line.specs.Numbers.{◌>>=◌, only_one, at_most_one, number_from, peers_of}
+use Rattle.command_line.specs.Arguments.{Text, Given, given_by_all, values_of, asks_help}
+use Rattle.command_line.specs.Numbers.{◌>>=◌, only_one, at_most_one, one_or_more, number_from, peers_of}
 use Rattle.command_line.specs.Clients.{eight_bytes, clients_of}
 use Rattle.command_line.specs.declared.live_client.LiveClient.{LiveClient}
 use Rattle.command_line.specs.declared.command_name.CommandName.{CommandName}
 use Rattle.command_line.specs.declared.command_name.CommandName.TheVariants as command
+use Rattle.command_line.specs.declared.option_name.OptionName.TheVariants.{Me, Peers, Live}
 use Rattle.command_line.specs.declared.command_name.FirstArgument.{FirstArgument}
 use Rattle.command_line.specs.declared.command_name.FirstArgument.TheVariants as first
 use Rattle.command_line.specs.declared.request.Request.{Request as RequestGiven}
@@ -59,43 +60,25 @@ unfoldable pub first_of : Text → Option FirstArgument
 first_of argument = option_or (lookup (bytes_eq argument) first_words)
     (option_map first.Command (command_named argument))
 
--- whether no option is given
-abbrev pub is_none : List Text → Bool
-is_none [] = true
-is_none (text ∷ rest) = false
-
-abbrev pub no_option : Given → Bool
-no_option given = is_none given.me && (is_none given.peers && is_none given.live)
-
 -- the bytes of a key: the eight of a short one in 16 hexadecimal digits, or the 24 of a long one in
 -- 48
 abbrev pub key_bytes_of : Text → Option (List ℕ)
 key_bytes_of digits = option_or (eight_bytes digits) (result_ok (decode_sized digits 24))
 
--- `key` wants a key in hexadecimal digits and nothing else
-abbrev pub key_of : List Text → Option Asked
-key_of texts = do
+-- `key` wants a key in hexadecimal digits
+abbrev pub key_asked : List Text → Option Asked
+key_asked texts = do
   digits ← only_one texts
   bytes ← key_bytes_of digits
   Some (Key bytes)
 
-abbrev pub key_asked : Given → Option Asked
-key_asked given = if no_option given then key_of given.plain else None
+-- `check` wants files, one or more
+abbrev pub check_asked : List Text → Option Asked
+check_asked files = option_map Check (one_or_more files)
 
--- `check` wants files, one or more, and nothing else
-abbrev pub files_of : List Text → Option Asked
-files_of [] = None
-files_of (file ∷ files) = Some (Check (file ∷ files))
-
-abbrev pub check_asked : Given → Option Asked
-check_asked given = if no_option given then files_of given.plain else None
-
--- `world` wants one file and nothing else
-abbrev pub world_of : List Text → Option Asked
-world_of texts = option_map World (only_one texts)
-
-abbrev pub world_asked : Given → Option Asked
-world_asked given = if no_option given then world_of given.plain else None
+-- `world` wants one file
+abbrev pub world_asked : List Text → Option Asked
+world_asked files = option_map World (only_one files)
 
 -- the node's number, its peers, its clients and the packet, by their texts
 abbrev pub decision_of : Text → Option Text → Option Text → Text → Option Decision
@@ -110,18 +93,18 @@ decision_of me_text peers_text live_text packet_text = do
 -- hexadecimal digits
 abbrev pub decide_asked : Given → Option Asked
 decide_asked given = do
-  me ← only_one given.me
-  peers ← at_most_one given.peers
-  live ← at_most_one given.live
+  me ← only_one (values_of Me given)
+  peers ← at_most_one (values_of Peers given)
+  live ← at_most_one (values_of Live given)
   packet ← only_one given.plain
   option_map Decide (decision_of me peers live packet)
 
 -- `serve` and `stub` have no answer: they run until they are stopped
 abbrev pub asked_of : CommandName → Given → Option Asked
-asked_of command.Key given = key_asked given
+asked_of command.Key given = key_asked given.plain
 asked_of command.Decide given = decide_asked given
-asked_of command.Check given = check_asked given
-asked_of command.World given = world_asked given
+asked_of command.Check given = check_asked given.plain
+asked_of command.World given = world_asked given.plain
 asked_of command.Serve given = None
 asked_of command.Stub given = None
 
@@ -136,7 +119,7 @@ asked_behind first.Help rest = Some (Help None)
 asked_behind first.Version rest = Some Version
 asked_behind first.HelpOn rest = topic_of rest
 asked_behind (first.Command name) rest =
-    if asks_help rest then Some (Help (Some name)) else (given_by_all rest >>= asked_of name)
+    if asks_help rest then Some (Help (Some name)) else (given_by_all name rest >>= asked_of name)
 
 -- what arguments ask for, and none where they ask for nothing that there is
 abbrev pub asked : List Text → Option Asked

@@ -1,37 +1,17 @@
 //! What the arguments behind a command's name give: options with their values, and plain arguments.
 ghost use Rattle.std.specs.Prelude.{◌≡◌, ◌<◌, ◌≤◌, [], ◌∷◌, IfErr, IfOk, Some, None, drop, length, map, true, MatchResult};
-ghost use Rattle.command_line.specs.Arguments.{asks_help, cut_at, cut_in, given_behind, given_by_all, given_in, is_plain, joined, option_named, option_shape, plain_alone, shape_in, shape_of, value_alone};
+ghost use Rattle.command_line.specs.Arguments.{asks_help, cut_at, cut_in, given_behind, given_by_all, given_in, is_plain, joined, option_shape, plain_alone, shape_in, shape_of, value_alone, values_of};
+ghost use Rattle.std.specs.Option.{option_map};
 ghost use Rattle.command_line.specs.Finds.{Finds, Takes};
-ghost use Rattle.command_line.specs.Request.{no_option};
-ghost use Rattle.command_line.specs.declared.arguments.OptionName.{OptionName};
+ghost use Rattle.command_line.specs.Numbers.{at_most_one, only_one};
+ghost use Rattle.command_line.specs.Options.{option_named};
+ghost use Rattle.command_line.specs.declared.option_name.OptionName.{OptionName};
 
+use crate::command_name::CommandName;
+use crate::list::{at_most_one, only_one};
+use crate::option_name::OptionName;
 use crate::wrong::Wrong;
-use std::alloc::Global;
-
-/// An option of `decide`.
-#[derive(Clone, Copy, Debug, PartialEq, Eq)]
-pub enum OptionName {
-    /// The node's own number.
-    Me,
-    /// The numbers of its peers.
-    Peers,
-    /// Its clients.
-    Live,
-}
-
-impl OptionName {
-    #[tactic(auto, unfolding(crate::specs::Arguments::option_named))]
-    fn read(name: &str) -> Option<OptionName>
-        ensures { result ≡ option_named name.now }
-    {
-        match name {
-            "--me" => Some(OptionName::Me),
-            "--peers" => Some(OptionName::Peers),
-            "--live" => Some(OptionName::Live),
-            _ => None,
-        }
-    }
-}
+use std::alloc::{AllocError, Global};
 
 // What one argument is.
 #[derive(Clone, Copy)]
@@ -40,6 +20,8 @@ enum Shape<'a> {
     Plain,
     // `--`
     End,
+    // An option that has no value.
+    Flag(OptionName),
     // An option whose value is the next argument.
     Alone(OptionName),
     // An option and its value.
@@ -50,8 +32,8 @@ enum Shape<'a> {
 
 impl<'a> Shape<'a> {
     #[tactic(auto, unfolding(crate::specs::Arguments::shape_of))]
-    fn read(argument: &'a str) -> Shape<'a>
-        ensures { shape_in result ≡ shape_of argument.now }
+    fn read(command: CommandName, argument: &'a str) -> Shape<'a>
+        ensures { shape_in result ≡ shape_of command argument.now }
     {
         if is_plain(argument) {
             return Shape::Plain;
@@ -59,18 +41,40 @@ impl<'a> Shape<'a> {
         if argument == "--" {
             return Shape::End;
         }
-        Shape::of_option(argument)
+        Shape::of_option(command, argument)
     }
 
-    fn of_option(argument: &'a str) -> Shape<'a>
-        ensures { shape_in result ≡ option_shape (option_named (cut_at 61 argument.now).0)
+    fn of_option(command: CommandName, argument: &'a str) -> Shape<'a>
+        ensures { shape_in result ≡ option_shape (option_named command (cut_at 61 argument.now).0)
             (cut_at 61 argument.now).1 }
     {
         let (name, value) = cut_at(argument, '=');
-        match (OptionName::read(name), value) {
+        match (OptionName::read(command, name), value) {
             (None, _) => Shape::Unknown,
-            (Some(name), None) => Shape::Alone(name),
-            (Some(name), Some(value)) => Shape::Whole(name, value),
+            (Some(name), None) => Shape::without_value(name),
+            (Some(name), Some(value)) => Shape::with_value(name, value),
+        }
+    }
+
+    // An option with nothing behind its name.
+    fn without_value(name: OptionName) -> Shape<'a>
+        ensures { shape_in result ≡ option_shape (Some name) None }
+    {
+        if name.has_value() {
+            Shape::Alone(name)
+        } else {
+            Shape::Flag(name)
+        }
+    }
+
+    // An option with a value behind its name.
+    fn with_value(name: OptionName, value: &'a str) -> Shape<'a>
+        ensures { shape_in result ≡ option_shape (Some name) (Some value.now) }
+    {
+        if name.has_value() {
+            Shape::Whole(name, value)
+        } else {
+            Shape::Unknown
         }
     }
 }
@@ -108,14 +112,14 @@ pub fn ask_help(arguments: &[&str]) -> bool
     false
 }
 
-// The value of an option, which is the first of these arguments.
-fn next_value<'a>(arguments: &[&'a str]) -> Result<&'a str, Wrong<'a>>
+// The value of a command's option, which is the first of these arguments.
+fn next_value<'a>(command: CommandName, arguments: &[&'a str]) -> Result<&'a str, Wrong<'a>>
     ensures found { IfOk result (λ value.
         (map (λ word. word.now) arguments.now
         ≡ value.now ∷ map (λ word. word.now) (drop 1 arguments.now))
         × (is_plain value.now ≡ true)) }
     ensures none { IfErr result (λ wrong. (name : OptionName)
-        → given_behind (Some name) (map (λ word. word.now) arguments.now) ≡ None) }
+        → given_behind command (Some name) (map (λ word. word.now) arguments.now) ≡ None) }
     ensures some { IfOk result (λ _. 0 < length arguments.now) }
 {
     if arguments.is_empty() {
@@ -128,74 +132,78 @@ fn next_value<'a>(arguments: &[&'a str]) -> Result<&'a str, Wrong<'a>>
     Ok(value)
 }
 
-/// What arguments give.
+/// An option with its value.
+#[derive(Clone, Copy)]
+pub struct GivenOption<'a> {
+    /// The option.
+    pub name: OptionName,
+    /// Its value, empty where it has none.
+    pub value: &'a str,
+}
+
+/// What a command's arguments give.
 #[derive(Drop)]
 pub struct Given<'a> {
-    /// The values of `--me`.
-    pub me: Vec<&'a str>,
-    /// The values of `--peers`.
-    pub peers: Vec<&'a str>,
-    /// The values of `--live`.
-    pub live: Vec<&'a str>,
-    /// The plain arguments.
+    /// The options, in order.
+    pub options: Vec<GivenOption<'a>>,
+    /// The plain arguments, in order.
     pub plain: Vec<&'a str>,
 }
 
 impl<'a> Given<'a> {
-    /// What these arguments give.
-    pub fn read(alloc: Global, arguments: &[&'a str]) -> Result<Given<'a>, Wrong<'a>>
-        ensures { Finds given_in result (given_by_all
+    /// What these arguments of a command give.
+    pub fn read(
+        alloc: Global,
+        command: CommandName,
+        arguments: &[&'a str],
+    ) -> Result<Given<'a>, Wrong<'a>>
+        ensures { Finds given_in result (given_by_all command
             (map (λ argument. argument.now) arguments.now)) }
     {
         let mut given = Given {
-            me: Vec::new(alloc),
-            peers: Vec::new(alloc),
-            live: Vec::new(alloc),
+            options: Vec::new(alloc),
             plain: Vec::new(alloc),
         };
         let mut at = 0;
         while at < arguments.len() {
-            at += given.take(arguments.split_at(at).1)?;
+            at += given.take(command, arguments.split_at(at).1)?;
         }
         Ok(given)
     }
 
     // Takes the first of these arguments, and its value where that is the next one. Returns how
     // many it took.
-    fn take(&mut self, arguments: &[&'a str]) -> Result<usize, Wrong<'a>>
+    fn take(&mut self, command: CommandName, arguments: &[&'a str]) -> Result<usize, Wrong<'a>>
         requires { 0 < length arguments.now }
-        ensures taken { Takes (given_in self.old) (given_in self.new) arguments.now result }
+        ensures taken { Takes command (given_in self.old) (given_in self.new) arguments.now result }
         ensures count { IfOk result (λ count. (0 < count) × (count ≤ length arguments.now)) }
     {
         let argument = arguments[0];
         let later = arguments.split_at(1).1;
-        match Shape::read(argument) {
+        match Shape::read(command, argument) {
             Shape::Plain => self.push_plain(argument)?,
             Shape::End => {
                 self.take_plain(later)?;
                 return Ok(arguments.len());
             }
             Shape::Alone(name) => {
-                self.push(name, next_value(later)?)?;
+                self.push(name, next_value(command, later)?)?;
                 return Ok(2);
             }
+            Shape::Flag(name) => self.push(name, "")?,
             Shape::Whole(name, value) => self.push(name, value)?,
             Shape::Unknown => return Err(Wrong::Form),
         }
         Ok(1)
     }
 
-    // Takes one value of an option.
+    // Takes an option with its value.
     fn push(&mut self, name: OptionName, value: &'a str) -> Result<(), Wrong<'a>>
         ensures { MatchResult result
             (λ _. given_in self.new ≡ joined (given_in self.old) (value_alone name value.now))
             (λ wrong. wrong ≡ Wrong.Memory) }
     {
-        match name {
-            OptionName::Me => self.me.push(value)?,
-            OptionName::Peers => self.peers.push(value)?,
-            OptionName::Live => self.live.push(value)?,
-        }
+        self.options.push(GivenOption { name, value })?;
         Ok(())
     }
 
@@ -222,10 +230,37 @@ impl<'a> Given<'a> {
         Ok(())
     }
 
-    /// Whether no option is given.
-    pub fn has_no_option(&self) -> bool
-        ensures { result ≡ no_option (given_in self.now) }
+    // The values of an option, in order.
+    fn values(&self, alloc: Global, name: OptionName) -> Result<Vec<&'a str>, AllocError>
+        ensures { IfOk result (λ values. map (λ value. value.now) values.items
+            ≡ values_of name (given_in self.now)) }
     {
-        self.me.is_empty() && (self.peers.is_empty() && self.live.is_empty())
+        self.options
+            .iter()
+            .filter(|option| name.is(option.name))
+            .map(|option| option.value)
+            .collect(alloc)
+    }
+
+    /// The value of an option that is given once.
+    pub fn once(&self, alloc: Global, name: OptionName) -> Result<&'a str, Wrong<'a>>
+        ensures { Finds (λ value. value.now) result
+            (only_one (values_of name (given_in self.now))) }
+    {
+        let values = self.values(alloc, name)?;
+        only_one(&values)
+    }
+
+    /// The value of an option that is given once or not at all.
+    pub fn at_most_once(
+        &self,
+        alloc: Global,
+        name: OptionName,
+    ) -> Result<Option<&'a str>, Wrong<'a>>
+        ensures { Finds (option_map (λ value. value.now)) result
+            (at_most_one (values_of name (given_in self.now))) }
+    {
+        let values = self.values(alloc, name)?;
+        at_most_one(&values)
     }
 }

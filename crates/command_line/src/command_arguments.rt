@@ -1,7 +1,7 @@
 //! The arguments of each command, as clap reads them and help shows them.
 use crate::command_name::CommandName;
 use clap::{Arg, ArgAction};
-use std::alloc::Global;
+use std::alloc::{AllocError, Global};
 
 /// How an argument is given.
 #[derive(Clone, Copy)]
@@ -12,6 +12,8 @@ pub enum Form {
     Several,
     /// By its name, and then its value, which help calls so.
     Value(&'static str),
+    /// The same, but not beside the argument with this other name, which stands in its place.
+    ValueUnless(&'static str, &'static str),
     /// By its name alone.
     Flag,
 }
@@ -42,15 +44,19 @@ pub fn arguments_of(name: CommandName) -> &'static [Argument] {
 }
 
 /// An argument as clap reads it.
-pub fn parsed_argument<'a>(alloc: Global, argument: Argument) -> Arg<'a> {
+pub fn parsed_argument<'a>(alloc: Global, argument: Argument) -> Result<Arg<'a>, AllocError> {
     let parsed = Arg::new(alloc, argument.name)
         .required(argument.required)
         .help(argument.help);
     match argument.form {
-        Form::Plain => parsed,
-        Form::Several => parsed.num_args(1..),
-        Form::Value(value) => parsed.long(argument.name).value_name(value),
-        Form::Flag => parsed.long(argument.name).action(ArgAction::SetTrue),
+        Form::Plain => Ok(parsed),
+        Form::Several => Ok(parsed.num_args(1..)),
+        Form::Value(value) => Ok(parsed.long(argument.name).value_name(value)),
+        Form::ValueUnless(value, other) => parsed
+            .long(argument.name)
+            .value_name(value)
+            .conflicts_with(other),
+        Form::Flag => Ok(parsed.long(argument.name).action(ArgAction::SetTrue)),
     }
 }
 
@@ -114,27 +120,37 @@ const SERVE: &[Argument] = &[
     },
     Argument {
         name: "seed",
-        form: Form::Value("HEX64"),
+        form: Form::ValueUnless("HEX64", "seed-file"),
         required: true,
         help: "\
-What the secrets of keys are drawn from, 32 bytes in 64 hexadecimal digits:
-give another one at each start, which nobody can guess",
+What the secrets of keys are drawn from, 32 bytes in 64 hexadecimal
+digits: give another one at each start, which nobody can guess. Every
+user of the machine can read it in the list of processes",
+    },
+    Argument {
+        name: "seed-file",
+        form: Form::Value("FILE"),
+        required: false,
+        help: "\
+In place of --seed, a file that holds 32 bytes, or 64 hexadecimal
+digits and perhaps a line's end. With /dev/urandom each start has
+another seed",
     },
     Argument {
         name: "boot",
         form: Form::Value("N"),
         required: false,
         help: "\
-The number of this start, part of longer keys, 0 to 4294967295 and 0 where it
-isn't given: give another one at each start",
+The number of this start, part of longer keys, 0 to 4294967295 and 0
+where it isn't given: give another one at each start",
     },
     Argument {
         name: "stand-in",
         form: Form::Flag,
         required: false,
         help: "\
-Run a stand-in server at each port of 127.0.0.1 that the settings name as a
-server's address, for trials without PostgreSQL",
+Run a stand-in server at each port of 127.0.0.1 that the settings
+name as a server's address, for trials without PostgreSQL",
     },
     Argument {
         name: "FILE",

@@ -13,11 +13,20 @@ const COMMANDS: [CommandName; 6] = [
     CommandName::Stub,
 ];
 
+/// Which line of usage a text has.
+#[derive(Clone, Copy)]
+pub enum Usage {
+    /// That of help, with all arguments.
+    Whole,
+    /// That of a fault, without the options that few need.
+    Short,
+}
+
 /// The program with its commands.
-pub fn program<'a>(alloc: Global) -> Result<Command<'a>, AllocError> {
+pub fn program<'a>(alloc: Global, usage: Usage) -> Result<Command<'a>, AllocError> {
     let mut program = bare_program(alloc)?;
     for name in &COMMANDS {
-        program = program.subcommand(command(alloc, *name)?)?;
+        program = program.subcommand(command(alloc, *name, usage)?)?;
     }
     Ok(program)
 }
@@ -37,20 +46,28 @@ fn bare_program<'a>(alloc: Global) -> Result<Command<'a>, AllocError> {
 }
 
 /// A command with its arguments.
-pub fn command<'a>(alloc: Global, name: CommandName) -> Result<Command<'a>, AllocError> {
-    let mut command = bare_command(alloc, name)?;
+pub fn command<'a>(
+    alloc: Global,
+    name: CommandName,
+    usage: Usage,
+) -> Result<Command<'a>, AllocError> {
+    let mut command = bare_command(alloc, name, usage)?;
     for argument in arguments_of(name) {
-        command = command.arg(parsed_argument(alloc, *argument))?;
+        command = command.arg(parsed_argument(alloc, *argument)?)?;
     }
     Ok(command)
 }
 
 // A command without its arguments.
-fn bare_command<'a>(alloc: Global, name: CommandName) -> Result<Command<'a>, AllocError> {
+fn bare_command<'a>(
+    alloc: Global,
+    name: CommandName,
+    usage: Usage,
+) -> Result<Command<'a>, AllocError> {
     let command = Command::new(alloc, word(name)).bin_name(whole_word(name))?;
     let command = command.about(about(name)).after_help(after(name));
-    match usage_of(name) {
-        Some(usage) => Ok(command.override_usage(usage)),
+    match usage_of(name, usage) {
+        Some(line) => Ok(command.override_usage(line)),
         None => Ok(command),
     }
 }
@@ -91,16 +108,27 @@ fn about<'a>(name: CommandName) -> &'a str {
 }
 
 // The line of usage, where clap doesn't write it.
-fn usage_of<'a>(name: CommandName) -> Option<&'a str> {
+fn usage_of<'a>(name: CommandName, usage: Usage) -> Option<&'a str> {
     match name {
         CommandName::Decide => {
             Some("pgpeer decide --me <N> [--peers <P,P..>] [--live <C,C..>] <HEX>")
         }
-        CommandName::Serve => {
-            Some("pgpeer serve --front <PORT> --seed <HEX64> [--boot <N>] [--stand-in] <FILE>...")
-        }
+        CommandName::Serve => Some(serve_usage(usage)),
         CommandName::Stub => Some("pgpeer stub [--byte] <PORT>"),
         CommandName::Key | CommandName::Check | CommandName::World => None,
+    }
+}
+
+fn serve_usage<'a>(usage: Usage) -> &'a str {
+    match usage {
+        Usage::Whole => {
+            "\
+pgpeer serve --front <PORT> (--seed <HEX64> | --seed-file <FILE>)
+                    [--boot <N>] [--stand-in] <FILE>..."
+        }
+        Usage::Short => {
+            "pgpeer serve --front <PORT> --seed <HEX64> [--boot <N>] [--stand-in] <FILE>..."
+        }
     }
 }
 
@@ -129,7 +157,7 @@ Examples:
   pgpeer decide --me 1 --peers 2 0000001004d2162e0008000000000007
   pgpeer check node1.ini node2.ini
   pgpeer world the_race.script
-  pgpeer serve --front 6432 --seed $(openssl rand -hex 32) node1.ini node2.ini
+  pgpeer serve --front 6432 --seed-file /dev/urandom node1.ini node2.ini
   pgpeer stub 7100";
 
 const AFTER_KEY: &str = "\
@@ -178,7 +206,7 @@ One file is a pooler of a group whose others run elsewhere. Several files are se
 group in one process.
 
 Examples:
-  $ pgpeer serve --front 6432 --seed $(openssl rand -hex 32) --boot $(date +%s) node1.ini
+  $ pgpeer serve --front 6432 --seed-file /dev/urandom --boot $(date +%s) node1.ini
 
   $ pgpeer serve --stand-in --front 6432 --seed $(openssl rand -hex 32) node1.ini node2.ini";
 

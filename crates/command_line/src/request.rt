@@ -11,6 +11,7 @@ use crate::command_name::{CommandName, FirstArgument};
 use crate::decide_request::DecideRequest;
 use crate::decide_texts::read_decide;
 use crate::list::{at_most_one, only_one};
+use crate::option_name::OptionName;
 use crate::wrong::{Place, Wrong};
 use hex::FromHex;
 use pg_ids::AnyKey;
@@ -76,51 +77,47 @@ impl<'a> Request<'a> {
         if ask_help(arguments) {
             return Ok(Request::Help(Some(name)));
         }
-        let given = Given::read(alloc, arguments)?;
+        let given = Given::read(alloc, name, arguments)?;
         match name {
-            CommandName::Key => Request::key(&given),
+            CommandName::Key => Request::key(&given.plain),
             CommandName::Decide => Request::decide(alloc, &given),
-            CommandName::Check => Request::check(given),
-            CommandName::World => Request::world(&given),
+            CommandName::Check => Request::check(given.plain),
+            CommandName::World => Request::world(&given.plain),
             CommandName::Serve | CommandName::Stub => Err(Wrong::Form),
         }
     }
 
-    fn key(given: &Given<'a>) -> Result<Request<'a>, Wrong<'a>>
-        ensures { Reads asked_in result (key_asked (given_in given.now)) }
+    fn key(arguments: &[&'a str]) -> Result<Request<'a>, Wrong<'a>>
+        ensures { Reads asked_in result (key_asked (map (λ argument. argument.now) arguments.now)) }
     {
-        if !given.has_no_option() {
-            return Err(Wrong::Form);
-        }
-        let digits = only_one(&given.plain)?;
+        let digits = only_one(arguments)?;
         Ok(Request::Key(key_of(digits)?))
     }
 
-    fn check(given: Given<'a>) -> Result<Request<'a>, Wrong<'a>>
-        ensures { Reads asked_in result (check_asked (given_in given.entry)) }
+    fn check(arguments: Vec<&'a str>) -> Result<Request<'a>, Wrong<'a>>
+        ensures { Reads asked_in result
+            (check_asked (map (λ argument. argument.now) arguments.entry.items)) }
     {
-        if !given.has_no_option() || given.plain.is_empty() {
+        if arguments.is_empty() {
             return Err(Wrong::Form);
         }
-        Ok(Request::Check(given.plain))
+        Ok(Request::Check(arguments))
     }
 
-    fn world(given: &Given<'a>) -> Result<Request<'a>, Wrong<'a>>
-        ensures { Reads asked_in result (world_asked (given_in given.now)) }
+    fn world(arguments: &[&'a str]) -> Result<Request<'a>, Wrong<'a>>
+        ensures { Reads asked_in result
+            (world_asked (map (λ argument. argument.now) arguments.now)) }
     {
-        if !given.has_no_option() {
-            return Err(Wrong::Form);
-        }
-        let file = only_one(&given.plain)?;
+        let file = only_one(arguments)?;
         Ok(Request::World(file))
     }
 
     fn decide(alloc: Global, given: &Given<'a>) -> Result<Request<'a>, Wrong<'a>>
         ensures { Finds asked_in result (decide_asked (given_in given.now)) }
     {
-        let me = only_one(&given.me)?;
-        let peers = at_most_one(&given.peers)?;
-        let live = at_most_one(&given.live)?;
+        let me = given.once(alloc, OptionName::Me)?;
+        let peers = given.at_most_once(alloc, OptionName::Peers)?;
+        let live = given.at_most_once(alloc, OptionName::Live)?;
         let packet = only_one(&given.plain)?;
         let request = read_decide(alloc, me, peers, live, packet)?;
         Ok(Request::Decide(request))

@@ -1,13 +1,15 @@
 //! What `serve` is asked for.
 ghost use Rattle.std.specs.Prelude.{◌<◌, length};
 
+use crate::seed::SeedSource;
+
 /// A group of poolers, or some of its nodes, that serve clients.
 #[derive(Drop)]
 pub struct ServeRequest<'a> {
     /// The port at which clients and cancel requests come in.
     pub front: u16,
     /// What the secrets of keys are drawn from.
-    pub seed: [u8; 32],
+    pub seed: SeedSource<'a>,
     /// The number of this start, which is part of longer keys.
     pub boot: u32,
     /// Whether stand-in servers run at those of the settings' server addresses that are 127.0.0.1.

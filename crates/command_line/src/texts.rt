@@ -2,28 +2,28 @@
 ghost use Rattle.std.specs.Prelude.{◌≡◌, IsErr};
 
 use crate::command_name::CommandName;
-use crate::commands::{command, program};
+use crate::commands::{Usage, command, program};
 use crate::wrong::{Place, Wrong};
 use clap::error::ErrorKind;
-use clap::{ArgMatches, Command, Error};
+use clap::{Command, Error};
 use std::alloc::{AllocError, Global};
 
 /// Help on a command, or on the program.
 pub fn help(alloc: Global, topic: Option<CommandName>) -> Result<String, AllocError> {
     match topic {
-        None => parser_text(alloc, &["--help"]),
-        Some(CommandName::Key) => parser_text(alloc, &["key", "--help"]),
-        Some(CommandName::Decide) => parser_text(alloc, &["decide", "--help"]),
-        Some(CommandName::Check) => parser_text(alloc, &["check", "--help"]),
-        Some(CommandName::World) => parser_text(alloc, &["world", "--help"]),
-        Some(CommandName::Serve) => parser_text(alloc, &["serve", "--help"]),
-        Some(CommandName::Stub) => parser_text(alloc, &["stub", "--help"]),
+        None => help_text(alloc, &["--help"]),
+        Some(CommandName::Key) => help_text(alloc, &["key", "--help"]),
+        Some(CommandName::Decide) => help_text(alloc, &["decide", "--help"]),
+        Some(CommandName::Check) => help_text(alloc, &["check", "--help"]),
+        Some(CommandName::World) => help_text(alloc, &["world", "--help"]),
+        Some(CommandName::Serve) => help_text(alloc, &["serve", "--help"]),
+        Some(CommandName::Stub) => help_text(alloc, &["stub", "--help"]),
     }
 }
 
 /// The program's version.
 pub fn version(alloc: Global) -> Result<String, AllocError> {
-    parser_text(alloc, &["--version"])
+    help_text(alloc, &["--version"])
 }
 
 /// The message for arguments that are refused. Fails if memory runs out.
@@ -35,7 +35,7 @@ pub fn usage<'a>(
     ensures memory { wrong.entry ≡ Wrong.Memory → IsErr result }
 {
     match wrong {
-        Wrong::Form => parser_text(alloc, arguments),
+        Wrong::Form => parser_text(alloc, arguments, Usage::Short),
         Wrong::Value(place, value) => value_text(alloc, place, value),
         Wrong::Memory => Err(AllocError),
     }
@@ -48,35 +48,25 @@ pub fn longer_packet(alloc: Global, length: usize, more: usize) -> Result<String
         "invalid value for '<HEX>': {more} bytes follow the CancelRequest, which has {length}"
     )?;
     error_text(
-        command(alloc, CommandName::Decide)?,
+        command(alloc, CommandName::Decide, Usage::Short)?,
         message.as_str(),
         alloc,
     )
 }
 
-/// What these arguments give, as the parser reads them.
-pub fn matches_of<'a>(
-    alloc: Global,
-    arguments: &'a [&'a str],
-) -> Result<ArgMatches<'a>, Wrong<'a>> {
-    match program(alloc)?.try_get_matches_from(arguments) {
-        Ok(matches) => Ok(matches),
-        Err(error) => Err(wrong_of(&error)),
-    }
-}
-
-// Why there are no matches.
-fn wrong_of<'a>(error: &Error) -> Wrong<'a> {
-    match error.kind() {
-        ErrorKind::OutOfMemory => Wrong::Memory,
-        _ => Wrong::Form,
-    }
+// What the parser writes where these arguments ask for help or the version.
+fn help_text<'a>(alloc: Global, arguments: &'a [&'a str]) -> Result<String, AllocError> {
+    parser_text(alloc, arguments, Usage::Whole)
 }
 
 // What the parser writes of these arguments.
-fn parser_text<'a>(alloc: Global, arguments: &'a [&'a str]) -> Result<String, AllocError> {
-    let error = match program(alloc)?.try_get_matches_from(arguments) {
-        Ok(_matches) => return error_text(program(alloc)?, "invalid arguments", alloc),
+fn parser_text<'a>(
+    alloc: Global,
+    arguments: &'a [&'a str],
+    usage: Usage,
+) -> Result<String, AllocError> {
+    let error = match program(alloc, usage)?.try_get_matches_from(arguments) {
+        Ok(_matches) => return error_text(program(alloc, usage)?, "invalid arguments", alloc),
         Err(error) => error,
     };
     if error.kind() == ErrorKind::OutOfMemory {
@@ -101,14 +91,18 @@ fn written(alloc: Global, error: &Error) -> Result<String, AllocError> {
 // The message for an invalid value.
 fn value_text(alloc: Global, place: Place, value: &str) -> Result<String, AllocError> {
     let message = message(alloc, place, value)?;
-    error_text(command(alloc, command_of(place))?, message.as_str(), alloc)
+    error_text(
+        command(alloc, command_of(place), Usage::Short)?,
+        message.as_str(),
+        alloc,
+    )
 }
 
 // The command that a value is of.
 fn command_of(place: Place) -> CommandName {
     match place {
         Place::Key => CommandName::Key,
-        Place::Front | Place::Seed | Place::Boot => CommandName::Serve,
+        Place::Front | Place::Seed | Place::SeedFile | Place::Boot => CommandName::Serve,
         Place::Port => CommandName::Stub,
         _ => CommandName::Decide,
     }
@@ -148,6 +142,7 @@ fn argument(place: Place) -> &'static str {
         Place::Packet => "<HEX>",
         Place::Front => "--front <PORT>",
         Place::Seed => "--seed <HEX64>",
+        Place::SeedFile => "--seed-file <FILE>",
         Place::Boot => "--boot <N>",
         Place::Port => "<PORT>",
     }
@@ -167,6 +162,7 @@ fn expected(place: Place) -> &'static str {
         Place::Packet => "expected an even number of hexadecimal digits",
         Place::Front | Place::Port => "expected a number from 1 to 65535",
         Place::Seed => "expected 64 hexadecimal digits",
+        Place::SeedFile => "expected 32 bytes or 64 hexadecimal digits in the file",
         Place::Boot => "expected a number from 0 to 4294967295",
     }
 }

@@ -29,6 +29,8 @@ pub enum Place {
     Front,
     /// The seed of `serve`.
     Seed,
+    /// The file of `serve` that holds the seed.
+    SeedFile,
     /// The number of a start of `serve`.
     Boot,
     /// The port of `stub`.

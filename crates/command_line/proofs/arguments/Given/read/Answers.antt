@@ -8,6 +8,6 @@ returns c =
     let gives = c.loop-at.invariant.gives in
     gives ∙ rw (
       drop_all c.loop-at.at c.args.arguments.now c.loop-at-test.false,
-      gives_nothing,
+      gives_nothing c.args.command,
       joined_nothing _,
     ) refl

@@ -8,8 +8,8 @@ abbrev pub invariant-loop-at : goal.invariant-loop-at
 invariant-loop-at l =
     record {
       within : l.at ≤ length l.arguments;
-      gives : given_by_all (map (λ w. w.now) l.arguments) ≡ option_map (joined (given_in l.given))
-          (given_by_all (map (λ w. w.now) (drop l.at l.arguments)));
+      gives : given_by_all l.command (map (λ w. w.now) l.arguments)
+          ≡ option_map (joined (given_in l.given)) (given_by_all l.command (map (λ w. w.now) (drop l.at l.arguments)));
     }
 
 abbrev pub decreases-loop-at : goal.decreases-loop-at
