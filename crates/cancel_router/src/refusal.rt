@@ -9,16 +9,16 @@ use thiserror::Error;
 #[derive(Clone, Copy, Debug, PartialEq, Eq, Hash, Error)]
 pub enum RouteRefusal {
     /// The request has passed through as many poolers as it may.
-    #[error("60 Spent")]
+    #[error("the request has passed through as many poolers as it may")]
     Spent,
     /// The key opens no live slot.
-    #[error("61 Unknown")]
+    #[error("the key opens no live slot")]
     Unknown,
     /// The key's pooler isn't in the list of peers.
-    #[error("62 NoPeer")]
+    #[error("the key's pooler is no peer")]
     NoPeer,
     /// The slot's client holds no link.
-    #[error("63 NoLink")]
+    #[error("the slot's client holds no link")]
     NoLink,
 }
 

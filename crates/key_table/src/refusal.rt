@@ -6,7 +6,7 @@ use thiserror::Error;
 
 /// Each slot is live.
 #[derive(Clone, Copy, Debug, PartialEq, Eq, Hash, Error)]
-#[error("30 Full")]
+#[error("no slot is free")]
 pub struct Full;
 
 impl Full {

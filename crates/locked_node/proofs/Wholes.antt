@@ -3,7 +3,7 @@ use Rattle.std.proofs.Common.{◌≡◌, ◌≢◌, ℕ, ◌+◌, ◌*◌, ◌<�
 use Rattle.std.specs.Prelude.{sum_by, slice_index, if◌then◌else◌}
 use Rattle.std.proofs.lemmas.Bool.{cases_eq, cases_lt}
 use Rattle.std.proofs.lemmas.List.Sums.{sum_by-cons}
-use mathlib.Core.Option.{some, some-injective}
+use mathlib.Core.Option.{some, some-injective, some-ne-none}
 use lib.ListN.{get_elem?}
 use Rattle.atomic_table.specs.Table.{State}
 use Rattle.atomic_table.specs.Seated.{TableId}
@@ -11,10 +11,10 @@ use Rattle.atomic_table.proofs.Lists.{set_else}
 use Rattle.node_core.specs.declared.exchange.Exchange.{Exchange}
 use Rattle.locked_node.specs.declared.rule.Share.{Share}
 use Rattle.locked_node.specs.declared.tally.Tally.{Tally}
-use Rattle.locked_node.specs.Replay.{Replay}
-use Rattle.locked_node.specs.Totals.{SameTotals, is_of, number_at, calls_at, sum_at, all_calls}
+use Rattle.locked_node.specs.Replay.{Replay, fixed_of}
+use Rattle.locked_node.specs.Totals.{SameSum, SameTotals, is_of, number_at, calls_in, sum_in, calls_at, sum_at, all_calls}
 use Rattle.locked_node.specs.Journal.{JournalView, CALL_LIMIT}
-use Rattle.locked_node.specs.Lock.{IsFree, IsTaken, IsLocked, IsTotalOfShare, IsWhole, IsAmong, nobody, stake}
+use Rattle.locked_node.specs.Lock.{IsFree, IsTaken, IsLocked, IsTotalOfShare, IsWhole, IsOfLock, nobody, stake}
 use Rattle.locked_node.proofs.Sums.{same_equal}
 use Rattle.locked_node.proofs.Orders.{rises_all}
 use Rattle.locked_node.proofs.Shares.{sum_change, sum_one, le_sum}
@@ -41,22 +41,30 @@ share_some v tally is some_is = ⊎_elim
     (λ (h : length v.begun ≤ 0). let z = sum_nothing (λ (j : JournalView). all_calls j.log.totals) v.begun (omega (arith, h)) in let a = is.all in omega (arith, z, a, some_is))
     (cases_lt 0 (length v.begun))
 
--- the caller of a share has no more than there is
-pub among_is : (start : JournalView) (s : State JournalView Share) (r : IsLocked start s) (id : ℕ) (v : Share) → get_elem? s.views id ≡ some v
-    → (lock : TableId) (tally : Tally) → IsTotalOfShare v tally
-    → IsAmong (record { lock = lock; start = v.start; allowance = v.allowance; made = v.made; places = v.places; tally = tally }) r.journal.log
-among_is start s r id v at lock tally is =
-    let a = le_sum allowed s.views id v at in let b = le_sum counted s.views id v at in let c = begun_within start s r id v at in
-    let fits = r.fits in let many = r.accounts.many in let total = r.accounts.all in let mine = is.all in
-    record { least = omega (arith, b, c, many, total, mine); most = omega (arith, a, fits) }
+-- the journal of the lock of a share's caller
+pub of_lock : (start : JournalView) (s : State JournalView Share) (r : IsLocked start s) (id : ℕ) (v : Share) → get_elem? s.views id ≡ some v → v.start ≡ start
+    → (lock : TableId) (tally : Tally) (journal : JournalView) → IsTotalOfShare v tally → journal ≡ r.journal
+    → IsOfLock (record { lock = lock; start = v.start; allowance = v.allowance; made = v.made; places = v.places; tally = tally }) journal
+of_lock start s r id v at knows lock tally journal is same = subst (IsOfLock (record { lock = lock; start = v.start; allowance = v.allowance; made = v.made; places = v.places; tally = tally })) (sym same) record {
+  calls = r.accounts.calls;
+  replay = subst (λ (j : JournalView). Replay j.view r.accounts.calls r.journal.view) (sym knows) r.accounts.replay;
+  fixed = r.accounts.fixed ∙ ap (λ (j : JournalView). fixed_of j.view) (sym knows);
+  placed = r.accounts.placed id v at;
+  counts = λ kind. r.accounts.counts kind ∙ ap (λ (j : JournalView). calls_at j.log.totals kind + calls_in kind r.accounts.calls) (sym knows);
+  sums = λ kind p. subst (λ (j : JournalView). SameSum (sum_at r.journal.log.totals kind p) (sum_at j.log.totals kind p + sum_in kind p r.accounts.calls)) (sym knows) (r.accounts.sums kind p);
+  all = r.accounts.all ∙ ap (λ (j : JournalView). all_calls j.log.totals + length r.accounts.calls) (sym knows);
+  least = let b = le_sum counted s.views id v at in let c = begun_within start s r id v at in let many = r.accounts.many in let total = r.accounts.all in let mine = is.all in omega (arith, b, c, many, total, mine);
+  most = let a = le_sum allowed s.views id v at in let fits = r.fits in omega (arith, a, fits);
+}
+
+-- the first word
+pub first_word : (words : List ℕ) (n : ℕ) → get_elem? words 0 ≡ some n → slice_index words 0 ≡ n
+first_word [] n e = absurd (some-ne-none n (sym e))
+first_word (w ∷ ws) n e = some-injective w n e
 
 -- a lock whose word says that it is free has its journal
 pub word_free : (start : JournalView) (s : State JournalView Share) (r : IsLocked start s) → get_elem? s.words 0 ≡ some 0 → s.homes ≡ some r.journal ∷ []
-word_free start s r zero_is = ⊎_elim (λ (p : IsFree r.journal s). p.home) (λ (p : IsTaken r.journal s). absurd (p.word (first_word s.words zero_is))) r.place
-  where
-    first_word : (words : List ℕ) → get_elem? words 0 ≡ some 0 → slice_index words 0 ≡ 0
-    first_word [] e = refl
-    first_word (w ∷ ws) e = some-injective w 0 e
+word_free start s r zero_is = ⊎_elim (λ (p : IsFree r.journal s). p.home) (λ (p : IsTaken r.journal s). absurd (p.word (first_word s.words 0 zero_is))) r.place
 
 module _ (start : JournalView) (s : State JournalView Share) (r : IsLocked start s) (id : ℕ) (v : Share) (at : get_elem? s.views id ≡ some v)
     (knows : v.start ≡ start) (all : v.allowance + (sum_by (λ (j : JournalView). all_calls j.log.totals) v.begun + length v.made) ≡ CALL_LIMIT) where
@@ -102,8 +110,8 @@ module _ (start : JournalView) (s : State JournalView Share) (r : IsLocked start
       let m = most in let one = r.one_start in let mine = begun_once in omega (arith, e, f, m.0, m.1, one, mine)
 
   -- nobody else has the lock
-  pub home_free : v.found ≡ None → s.homes ≡ some r.journal ∷ []
-  home_free idle = ⊎_elim (λ (p : IsFree r.journal s). p.home)
+  pub all_free : v.found ≡ None → IsFree r.journal s
+  all_free idle = ⊎_elim (λ (p : IsFree r.journal s). p)
       (λ (p : IsTaken r.journal s). absurd (
       let apart : p.taker ≢ id = λ e. let same : p.share ≡ v = some-injective p.share v (sym p.there ∙ (ap (get_elem? s.views) e ∙ at)) in
       let f : p.share.found ≡ None = ap (λ (z : Share). z.found) same ∙ idle in let g = p.found in cc (f, g) in

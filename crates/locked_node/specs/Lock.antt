@@ -1,7 +1,7 @@
 -- The invariant of a node's lock (own). `IsLocked` holds between any two exchanges of the lock's
 -- word. `CallerStep`: what a call does to its caller, and that the node allows its reply.
--- `Counted`: the same with allowance left, and no change without. `IsWhole`: what a caller knows
--- that all others were joined to.
+-- `Counted`: the same with allowance left, and no change without. `IsOfLock`: what a caller knows of
+-- the journal at the end. `IsWhole`: what one knows that all others were joined to.
 use Rattle.std.specs.Prelude.{ℕ, ◌≡◌, ◌≢◌, ◌+◌, ◌-◌, ◌*◌, ◌^◌, ◌<◌, ◌≤◌, ◌⊎◌, List, [], ◌∷◌, ◌++◌, length, drop, slice_index, slice_get, sum_by, All, AllPairs, Some, None}
 use Rattle.std.specs.List.{AllZip}
 use mathlib.Core.Option.{some, none}
@@ -14,7 +14,7 @@ use Rattle.locked_node.specs.declared.tally.Tally.{Tally}
 use Rattle.locked_node.specs.Replay.{Replay, fixed_of, IsPossible}
 use Rattle.locked_node.specs.Totals.{calls_in, sum_in, calls_at, sum_at, all_calls, SameSum, SameTotals, Counts, AddsUp, IsEmpty}
 use Rattle.node_core.specs.View.{NodeView, IsView}
-use Rattle.locked_node.specs.Journal.{JournalView, LogView, JournalStep, CountsWithin, CALL_LIMIT}
+use Rattle.locked_node.specs.Journal.{JournalView, JournalStep, CountsWithin, CALL_LIMIT}
 
 -- what a new caller is handed
 abbrev pub HANDED : ℕ
@@ -346,7 +346,21 @@ pub record IsWhole (caller : CallerView) (journal : JournalView) : Type 0 where
   pub placed : Placed calls caller.places caller.made
   pub in_order : AllPairs (λ one later. one < later) caller.places → calls ≡ caller.made
 
--- a caller's calls are among those of a log, and its allowance is among what is left
-pub record IsAmong (caller : CallerView) (log : LogView) : Type 0 where
-  pub least : all_calls caller.tally ≤ all_calls log.totals
-  pub most : all_calls log.totals + caller.allowance ≤ CALL_LIMIT
+-- The journal of a caller's lock, also where others have calls and allowance: the calls of all
+-- callers led from the node as it was to the journal's view, and this caller's are at their places.
+-- The journal's totals are those that it began with and those of these calls.
+pub record IsOfLock (caller : CallerView) (journal : JournalView) : Type 0 where
+  pub calls : List Exchange
+  pub replay : Replay caller.start.view calls journal.view
+  pub fixed : fixed_of journal.view ≡ fixed_of caller.start.view
+  pub placed : Placed calls caller.places caller.made
+  pub counts : (kind : ℕ)
+      → calls_at journal.log.totals kind
+      ≡ calls_at caller.start.log.totals kind + calls_in kind calls
+  pub sums : (kind position : ℕ)
+      → SameSum (sum_at journal.log.totals kind position)
+      (sum_at caller.start.log.totals kind position + sum_in kind position calls)
+  pub all : all_calls journal.log.totals ≡ all_calls caller.start.log.totals + length calls
+  -- its calls are among those of the journal, and its allowance is among what is left
+  pub least : all_calls caller.tally ≤ all_calls journal.log.totals
+  pub most : all_calls journal.log.totals + caller.allowance ≤ CALL_LIMIT

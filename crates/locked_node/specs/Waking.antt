@@ -1,5 +1,6 @@
--- Whom a call wakes (own): the client whose wait it cancels, everybody at a new start, and otherwise
--- the slot whose turn it is after the call at the database where the call may have changed that.
+-- Whom a call wakes (own): the client whose wait it cancels, everybody at a new start, and
+-- otherwise the slot whose turn it is after the call at the database where the call may have
+-- changed that.
 use Rattle.std.specs.Prelude.{ℕ, ◌≡◌, ◌<◌, Option, Some, None, length, slice_get}
 use Rattle.pg_ids.specs.AnyKey.{slot_of}
 use Rattle.lease.specs.declared.pass.PassRecord.{PassRecord}

@@ -10,8 +10,8 @@ use crate::call_note::CallNote;
 use crate::log::Log;
 use node_core::{DatabaseNo, NodeCore};
 
-/// A call of one step, with what it hands in. `S` is the stream of a link. The eleven steps are all:
-/// outside of this crate `Log` and `CallNote` have no name.
+/// A call of one step, with what it hands in. `S` is the stream of a link. The eleven steps are
+/// all: outside of this crate `Log` and `CallNote` have no name.
 pub trait Call<S>: Sized {
     /// The step's reply.
     type Reply;

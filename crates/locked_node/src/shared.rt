@@ -63,10 +63,10 @@ impl<S> Model for Shared<S> {
 }
 
 impl<S: Drop> Shared<S> {
-    ghost use Rattle.std.specs.Prelude.{◌≤◌, ◌+◌, IfOk, MatchBool, true};
+    ghost use Rattle.std.specs.Prelude.{◌≤◌, ◌+◌, IfOk, IfSome, IsSomeAnd, MatchBool};
     ghost use Rattle.locked_node.specs.Totals.{IsCountOf, all_calls, calls_at};
     ghost use Rattle.locked_node.specs.Journal.{journal_view, CALL_LIMIT};
-    ghost use Rattle.locked_node.specs.Lock.{Somewhere, IsWhole, IsAmong, IsWithin};
+    ghost use Rattle.locked_node.specs.Lock.{Somewhere, IsWhole, IsOfLock, IsWithin};
     ghost use Rattle.locked_node.specs.Lock.{HANDED, handing, handed, joined};
 
     /// A lock with this journal, and its first caller, which has the journal's totals and may make
@@ -106,38 +106,15 @@ impl<S: Drop> Shared<S> {
         Ok((shared, first))
     }
 
-    /// The journal, at the end. If all callers were joined to this one, its totals are the
-    /// journal's, and its calls led to the node's state, in the order of their places.
-    pub fn into_journal(self, caller: Caller<S>) -> Journal<S>
+    /// The journal, at the end, and `None` if the lock is taken, which a lock that somebody owns
+    /// never is. It is the journal of this lock: the calls of all callers led from the node as it
+    /// was to the node's state, and this caller's are among them. If all callers were joined to
+    /// this one, there is a journal, and its totals are this caller's.
+    pub fn into_journal(self, caller: Caller<S>) -> Option<Journal<S>>
         requires own { caller.lock ≡ self }
+        ensures own { IfSome result (λ journal. IsOfLock caller (journal_view journal)) }
         ensures whole { caller.allowance + all_calls caller.tally ≡ CALL_LIMIT
-            → IsWhole caller (journal_view result) }
-    {
-        let (journal, _) = self.finish(caller);
-        journal
-    }
-
-    /// How many calls were made in all, those of the journal before the lock among them: at least
-    /// those of this caller, and at most as many as its allowance leaves.
-    pub fn total_calls(self, caller: Caller<S>) -> u128
-        requires own { caller.lock ≡ self }
-        ensures whole { caller.allowance + all_calls caller.tally ≡ CALL_LIMIT
-            → result ≡ all_calls caller.tally }
-        ensures least { all_calls caller.tally ≤ result }
-        ensures most { result + caller.allowance ≤ CALL_LIMIT }
-    {
-        let left = caller.allowance;
-        let (journal, free) = self.finish(caller);
-        // A lock that is taken is borrowed, and this one is owned: it is always free.
-        if free { journal.calls() } else { MOST - left }
-    }
-
-    // The journal, and whether the lock was free.
-    fn finish(self, caller: Caller<S>) -> (Journal<S>, bool)
-        requires own { caller.lock ≡ self }
-        ensures whole { caller.allowance + all_calls caller.tally ≡ CALL_LIMIT
-            → IsWhole caller (journal_view result.0) }
-        ensures among { result.1 ≡ true → IsAmong caller result.0.log }
+            → IsSomeAnd result (λ journal. IsWhole caller (journal_view journal)) }
     {
         let Shared {
             table,
@@ -150,11 +127,27 @@ impl<S: Drop> Shared<S> {
             tally: _,
         } = caller;
         let mut closed = table.close_with(seat);
-        let free = closed.word(0) == FREE;
+        let word = closed.word(0);
         let locked = closed.take(0);
         closed.free();
         let Locked { journal } = locked;
-        (journal, free)
+        if word == FREE { Some(journal) } else { None }
+    }
+
+    /// How many calls were made in all, those of the journal before the lock among them: at least
+    /// those of this caller, and at most as many as its allowance leaves.
+    pub fn total_calls(self, caller: Caller<S>) -> u128
+        requires own { caller.lock ≡ self }
+        ensures whole { caller.allowance + all_calls caller.tally ≡ CALL_LIMIT
+            → result ≡ all_calls caller.tally }
+        ensures least { all_calls caller.tally ≤ result }
+        ensures most { result + caller.allowance ≤ CALL_LIMIT }
+    {
+        let left = caller.allowance;
+        match self.into_journal(caller) {
+            Some(journal) => journal.calls(),
+            None => MOST - left,
+        }
     }
 
     // Takes the lock if it is free.

@@ -39,10 +39,10 @@ impl StepRefusal {
 #[derive(Clone, Copy, Debug, PartialEq, Eq, Hash, Error)]
 pub enum JoinRefusal {
     /// No slot is free.
-    #[error("no slot is free")]
+    #[error("{}", Full)]
     Full,
     /// No number is left to give.
-    #[error("no number is left to give")]
+    #[error("{}", StepRefusal::Exhausted)]
     Exhausted,
 }
 
@@ -65,10 +65,10 @@ pub enum CancelRefusal {
     #[error("{0}")]
     Route(RouteRefusal),
     /// The link has as many open tickets as it may have.
-    #[error("the link has as many open tickets as it may have")]
+    #[error("{}", Busy)]
     Busy,
     /// No number is left to give.
-    #[error("no number is left to give")]
+    #[error("{}", StepRefusal::Exhausted)]
     Exhausted,
 }
 

@@ -6,7 +6,7 @@ use thiserror::Error;
 
 /// The link has as many open tickets as it may have.
 #[derive(Clone, Copy, Debug, PartialEq, Eq, Hash, Error)]
-#[error("31 Busy")]
+#[error("the link has as many open tickets as it may have")]
 pub struct Busy;
 
 impl Busy {

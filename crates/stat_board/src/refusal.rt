@@ -6,7 +6,7 @@ use thiserror::Error;
 
 /// The seat has no allowance left.
 #[derive(Clone, Copy, Debug, PartialEq, Eq, Hash, Error)]
-#[error("70 NoAllowance")]
+#[error("the seat has no allowance left")]
 pub struct NoAllowance;
 
 impl NoAllowance {

@@ -55,8 +55,8 @@ pub data Runs : World → List Event → List Took → World → Type 0 where
       → WorldStep event did old between → Runs between events more new
       → Runs old (event ∷ events) (did ∷ more) new
 
--- Events one after another, where from each world of the list on, to the list's end, what is settled
--- stays so, and no interruption comes for it or for what came of it.
+-- Events one after another, where from each world of the list on, to the list's end, what is
+-- settled stays so, and no interruption comes for it or for what came of it.
 pub data RunsSettled : World → List Event → List Took → World → Type 0 where
   Over : (w : World) → RunsSettled w [] [] w
   Then : (event : Event) (did : Took) (events : List Event) (more : List Took)

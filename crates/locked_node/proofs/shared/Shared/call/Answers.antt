@@ -1,5 +1,4 @@
-use Rattle.std.proofs.Common.{[], refl, sym, subst, arith}
-use Rattle.locked_node.specs.Lock.{CallerView, Counted}
+use Rattle.std.proofs.Common.{[], refl, arith}
 use Rattle.locked_node.proofs.Stepping.{makes, caller_keeps, caller_counts}
 use Rattle.locked_node.proofs.shared.Shared.call.Goals as goal
 
