@@ -19,9 +19,10 @@ use Rattle.node_threads.specs.declared.session.outcome.Stayed.{Stayed}
 use Rattle.node_threads.specs.declared.session.outcome.Stayed.TheVariants.{End}
 use Rattle.node_threads.specs.StreamCalls.{SomeCalls, Wrote, WroteSome}
 use Rattle.node_threads.specs.Asking.{IsError}
-use Rattle.node_threads.specs.Replying.{IsPassedOn, ReplyEnd, Ready, Unclear, Unfit, Untold, heard, passed_on, ReadsReply, WritesReply, ready_outcome}
+use Rattle.node_threads.specs.Replying.{IsPassedOn, ReplyEnd, Ready, Unclear, Unfit, Untold, heard, passed_on, ReadsReply, StopsAt, WritesReply, ready_outcome}
 use Rattle.node_threads.specs.Progress.{HandedLast, HandedUnfit, Finishes, EndsHere, GoesOn, Refuses, FinishesIdle, FinishesOpen}
 use Rattle.node_threads.proofs.CallLists.{Read-nothing}
+use Rattle.node_threads.proofs.StoppingLemmas.{stops_nothing}
 
 -- what is passed on where the last bytes are withheld
 pub front_is : (passed front last : List ℕ) (count : ℕ) → passed ≡ front ++ last
@@ -49,18 +50,21 @@ enough passed front last is = omega (arith, ap length is, length-append front la
 -- a reply that ends where nothing more came of it
 pub ends_with : (stream written : List ℕ) (frames : List Frame) (end : ReplyEnd) (text : List ℕ)
     (reads tells : List Call) → AllByRecursion IsPassedOn frames → stream ≡ heard frames end
-    → ReadsReply end [] reads → written ++ text ≡ passed_on frames end → WritesReply end text tells
+    → ReadsReply end [] reads → StopsAt frames end stream reads
+    → written ++ text ≡ passed_on frames end → WritesReply end text tells
     → Finishes stream written end reads tells
-ends_with stream written frames end text reads tells each stream_is read text_is told = record {
-  frames = frames;
-  each = each;
-  bytes = [];
-  bytes_are = append-nil stream ∙ stream_is;
-  read = read;
-  text = text;
-  text_is = text_is;
-  told = told;
-}
+ends_with stream written frames end text reads tells each stream_is read stops text_is told =
+    record {
+      frames = frames;
+      each = each;
+      bytes = [];
+      bytes_are = append-nil stream ∙ stream_is;
+      read = read;
+      stops = stops;
+      text = text;
+      text_is = text_is;
+      told = told;
+    }
 
 -- a reply that ends where nothing more is read of it
 ends_now : (stream written : List ℕ) (frames : List Frame) (end : ReplyEnd) (text : List ℕ)
@@ -68,7 +72,8 @@ ends_now : (stream written : List ℕ) (frames : List Frame) (end : ReplyEnd) (t
     → ReadsReply end [] [] → written ++ text ≡ passed_on frames end → WritesReply end text tells
     → Finishes stream written end [] tells
 ends_now stream written frames end text tells each stream_is read text_is told =
-    ends_with stream written frames end text [] tells each stream_is read text_is told
+    ends_with stream written frames end text [] tells each stream_is read
+    (stops_nothing frames end stream) text_is told
 
 -- a ReadyForQuery that the client took
 pub ready_told : (stream written : List ℕ) (status : ℕ) (passage : Passage) (tells : List Call)

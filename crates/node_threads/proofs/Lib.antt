@@ -9,7 +9,10 @@ pub mod PassingLemmas
 pub mod FindingLemmas
 pub mod AskingLemmas
 pub mod Totals
+pub mod StoppingLemmas
 pub mod StayLemmas
 pub mod LoginLemmas
 pub mod OpeningLemmas
 pub mod LeaseLemmas
+pub mod ServingLemmas
+pub mod ConnectionLemmas

@@ -1,7 +1,7 @@
 -- A reply that is passed on, one reading after another.
-use Rattle.std.proofs.Common.{◌≡◌, IfSome, ℕ, ◌≤◌, List, [], ◌++◌, length, Option, Some, None, refl, sym, ◌∙◌, subst, append_assoc, append-nil}
+use Rattle.std.proofs.Common.{◌≡◌, IfSome, ℕ, ◌≤◌, List, [], ◌∷◌, ◌++◌, length, Option, Some, None, refl, sym, ◌∙◌, subst, append_assoc, append-nil}
 use Rattle.peer_forward.specs.Calls.{Call, Effect, Makes}
-use Rattle.pg_frames.specs.Passage.{Passage, head_text}
+use Rattle.pg_frames.specs.Passage.{Passage, head_text, HasNoNext}
 use Rattle.client_state.specs.Acts.{ready_text}
 use Rattle.node_threads.specs.declared.session.place.Place.{Place}
 use Rattle.node_threads.specs.declared.session.place.Place.TheVariants.{Between}
@@ -12,6 +12,7 @@ use Rattle.node_threads.specs.Progress.{HandedOut, HandedLast, HandedUnfit, Fini
 use Rattle.peer_forward.proofs.CallLemmas.{Makes-append}
 use Rattle.node_threads.proofs.CallLists.{Read-append, Read-nothing, ReadToEnd-append, Wrote-append, Wrote-nothing, WroteSome-append}
 use Rattle.node_threads.proofs.EndLemmas.{enough}
+use Rattle.node_threads.proofs.StoppingLemmas.{Unfinished, unfinished_none, unfinished_more, CanEnd, can_end, stops_after}
 
 -- reads of a reply before others
 reads_after : (end : ReplyEnd) (a b : List ℕ) (xs ys : List Call) → Read a xs
@@ -37,14 +38,17 @@ writes_after (Untold begun after) a b xs ys first more = WroteSome-append a b xs
 
 -- a reply whose front was read and written before
 pub finishes_after : (before bytes text : List ℕ) (end : ReplyEnd) (xs ys reads tells : List Call)
-    → Read bytes xs → Wrote text ys → Finishes (before ++ bytes) text end reads tells
+    → CanEnd end → Unfinished before xs → Read bytes xs → Wrote text ys
+    → Finishes (before ++ bytes) text end reads tells
     → Finishes before [] end (xs ++ reads) (ys ++ tells)
-finishes_after before bytes text end xs ys reads tells read told more = record {
+finishes_after before bytes text end xs ys reads tells can unfinished read told more = record {
   frames = more.frames;
   each = more.each;
   bytes = bytes ++ more.bytes;
   bytes_are = sym (append_assoc before bytes more.bytes) ∙ more.bytes_are;
   read = reads_after end bytes more.bytes xs reads read more.read;
+  stops = stops_after more.frames end before bytes more.bytes xs reads more.each can read unfinished
+      more.bytes_are more.stops;
   text = text ++ more.text;
   text_is = more.text_is;
   told = writes_after end text more.text ys tells told more.told;
@@ -60,6 +64,7 @@ pub record Passing {L C : Type 0} (wrote gave : Effect L) (wrote' gave' : Effect
   pub made' : Makes wrote' gave' client tells client'
   pub bytes : List ℕ
   pub read : Read bytes reads
+  pub unfinished : Unfinished before reads
   pub text : List ℕ
   pub told : Wrote text tells
   pub out : HandedOut (before ++ bytes) text place passage
@@ -74,6 +79,7 @@ passing_start wrote gave wrote' gave' link client passage left passed = record {
   made' = refl;
   bytes = [];
   read = Read-nothing;
+  unfinished = unfinished_none passage.bytes;
   text = [];
   told = Wrote-nothing;
   out = record {
@@ -94,23 +100,32 @@ pub passing_more : {L C : Type 0} (wrote gave : Effect L) (wrote' gave' : Effect
     (passage handed passage' : Passage)
     (so_far : Passing wrote gave wrote' gave' link client before place passage link' client')
     → HandedOut (before ++ so_far.bytes) so_far.text place' handed
-    → SomeCalls wrote gave link' link'' (λ reads. SomeCalls wrote' gave' client' client''
-    (λ tells. (bytes : List ℕ) × Read bytes reads × (text : List ℕ) × Wrote text tells
+    → HasNoNext handed.left handed.bytes
+    → ((call : Call) × Makes wrote gave link' (call ∷ []) link''
+    × SomeCalls wrote' gave' client' client''
+    (λ tells. (bytes : List ℕ) × Read bytes (call ∷ []) × (text : List ℕ) × Wrote text tells
     × ((stream written : List ℕ) → HandedOut stream written place' handed
     → HandedOut (stream ++ bytes) (written ++ text) place' passage')))
     → Passing wrote gave wrote' gave' link client before place' passage' link'' client''
 passing_more wrote gave wrote' gave' link link' link'' client client' client'' before place place'
-    passage handed passage' so_far out more =
+    passage handed passage' so_far out dry more =
     let told = more.2 in
     let here = told.2.4 (before ++ so_far.bytes) so_far.text out in
     record {
-      reads = so_far.reads ++ more.0;
-      made = Makes-append wrote gave link link' link'' so_far.reads more.0 so_far.made more.1;
+      reads = so_far.reads ++ more.0 ∷ [];
+      made = Makes-append wrote gave link link' link'' so_far.reads (more.0 ∷ []) so_far.made more.1;
       tells = so_far.tells ++ told.0;
       made' = Makes-append wrote' gave' client client' client'' so_far.tells told.0 so_far.made'
           told.1;
       bytes = so_far.bytes ++ told.2.0;
-      read = Read-append so_far.bytes told.2.0 so_far.reads more.0 so_far.read told.2.1;
+      read = Read-append so_far.bytes told.2.0 so_far.reads (more.0 ∷ []) so_far.read told.2.1;
+      unfinished = unfinished_more before so_far.bytes so_far.reads more.0 so_far.read (record {
+        written = so_far.text;
+        place = place';
+        passage = handed;
+        out = out;
+        dry = dry;
+      });
       text = so_far.text ++ told.2.2;
       told = Wrote-append so_far.text told.2.2 so_far.tells told.0 so_far.told told.2.3;
       out = subst
@@ -138,7 +153,7 @@ passing_ends wrote gave wrote' gave' link link' link'' client client' client'' b
         (
           ends.0,
           finishes_after before so_far.bytes so_far.text ends.0 so_far.reads so_far.tells reads tells
-              so_far.read so_far.told ends.1,
+              (can_end ends.0 stayed ends.2) so_far.unfinished so_far.read so_far.told ends.1,
           ends.2,
         ),
       ),
@@ -164,7 +179,7 @@ passing_goes_on wrote gave wrote' gave' link link' link'' client client' client'
         (
           goes.0,
           finishes_after before so_far.bytes so_far.text (Ready goes.0 []) so_far.reads so_far.tells
-              reads tells so_far.read so_far.told goes.1,
+              reads tells tt so_far.unfinished so_far.read so_far.told goes.1,
           goes.2,
         ),
       ),

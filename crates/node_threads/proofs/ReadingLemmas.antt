@@ -87,7 +87,7 @@ pub untold_ends : (stream written : List ℕ) (place : Place) (passage : Passage
 untold_ends stream written place passage count tells stayed count_is dry told is out = (
   Untold out.shown (withheld place ++ passage.bytes),
   ends_with stream written out.frames (Untold out.shown (withheld place ++ passage.bytes))
-      out.front [] tells out.each out.stream_is Read-nothing out.written_is
+      out.front [] tells out.each out.stream_is Read-nothing tt out.written_is
       (subst (λ xs. WroteSome xs tells)
       (front_is passage.passed out.front (withheld place) count out.passed_is count_is) told),
   (for_client place passage.left passage.bytes out.shown out.is_shown dry, is),
@@ -109,7 +109,7 @@ faulty_between stream written passage fault tells reply stayed out dry has told 
       Faulty passage.bytes fault,
       ends_with stream written out.frames (Faulty passage.bytes fault) out.front [] tells out.each
           (out.stream_is ∙ ap (λ xs. texts out.frames ++ (xs ++ passage.bytes)) out.is_shown.1)
-          Read-nothing
+          Read-nothing tt
           (out.written_is ∙ ap (λ xs. texts out.frames ++ xs) out.is_shown.1
           ∙ append-nil (texts out.frames))
           (subst (λ xs. Wrote xs tells)
@@ -179,7 +179,7 @@ cut_ends stream written place passage count call tells stayed inside count_is dr
           here.each
           (here.stream_is ∙ ap (λ xs. texts here.frames ++ (here.shown ++ xs)) nothing
           ∙ ap (λ xs. texts here.frames ++ xs) (append-nil here.shown ∙ was.6))
-          (ReadToEnd-failed call failed)
+          (ReadToEnd-failed call failed) tt
           (here.written_is ∙ ap (λ xs. texts here.frames ++ xs) was.6)
           (subst (λ xs. Wrote xs tells)
           (front_is passage.passed here.front [] count here.passed_is zero_is) told),
@@ -201,7 +201,7 @@ lost_at stream written place passage rest call tells reply stayed out shown_is r
       ends_with stream written out.frames (Lost rest) out.front (call ∷ []) tells out.each
           (out.stream_is ∙ ap (λ xs. texts out.frames ++ (xs ++ (withheld place ++ passage.bytes)))
           shown_is ∙ ap (λ xs. texts out.frames ++ xs) rest_is)
-          (ReadToEnd-failed call failed)
+          (ReadToEnd-failed call failed) tt
           (out.written_is ∙ ap (λ xs. texts out.frames ++ xs) shown_is
           ∙ append-nil (texts out.frames))
           (subst (λ xs. Wrote xs tells) (front_is passage.passed out.front (withheld place)

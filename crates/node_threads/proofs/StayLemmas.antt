@@ -24,6 +24,7 @@ replies before end reads tells finishes = record {
   bytes = finishes.bytes;
   bytes_are = finishes.bytes_are;
   read = finishes.read;
+  stops = finishes.stops;
   told = subst (λ text. WritesReply end text tells) finishes.text_is finishes.told;
 }
 

@@ -11,11 +11,15 @@ use Rattle.client_state.specs.Acts.{fatal}
 use Rattle.client_state.specs.ClientMessage.{client_message}
 use Rattle.client_state.specs.declared.client_message.ClientMessage.{ClientMessage}
 use Rattle.client_state.specs.declared.client_message.ClientMessage.TheVariants.{Request, Gathered, Terminate, Refused}
-use Rattle.node_threads.specs.StreamCalls.{Read, ReadToEnd}
+use Rattle.node_threads.specs.StreamCalls.{Sends, Read, ReadToEnd}
 
 -- the session ends with this error, or without it where memory for it was refused
 abbrev pub IsError : ErrorCode → List ℕ → Type 0
 IsError code reply = (reply ≡ fatal code) ⊎ (reply ≡ [])
+
+-- it was written, as far as the client took it
+abbrev pub SendsError : ErrorCode → List Call → Type 0
+SendsError code calls = (reply : List ℕ) × IsError code reply × Sends reply calls
 
 -- messages of an extended query that are gathered, after some with this text
 abbrev pub AreGathered : List ℕ → List Frame → Type 0

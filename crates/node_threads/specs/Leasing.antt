@@ -1,7 +1,22 @@
--- What a client that has asked for a link has in hand, and what its link is connected to (own).
-use Rattle.std.specs.Prelude.{ℕ, ◌≡◌, List, Option, Some, None, Ok, slice_get}
+-- What a client that has asked for a link has in hand, by which answer of the node, and what its
+-- link is connected to (own).
+use Rattle.std.specs.Prelude.{ℕ, ◌≡◌, ◌⊎◌, List, Option, Some, None, Ok, slice_get}
 use Rattle.ini_config.specs.Node.{DatabaseSettings}
+use Rattle.lease.specs.LinkValue.{LinkValue}
+use Rattle.lease.specs.declared.link_record.LinkRecord.{LinkRecord}
+use Rattle.lease.specs.declared.pass.PassRecord.{PassRecord}
+use Rattle.lease.specs.declared.permit.PermitRecord.{PermitRecord}
+use Rattle.link_pool.specs.declared.replies.AcquireReply.{AcquireReply}
+use Rattle.link_pool.specs.declared.replies.AcquireReply.TheVariants as acquire
+use Rattle.link_pool.specs.declared.replies.UpReply.{UpReply}
+use Rattle.link_pool.specs.declared.replies.UpReply.TheVariants as up
+use Rattle.link_pool.specs.declared.replies.UpFailedReply.{UpFailedReply}
+use Rattle.link_pool.specs.declared.replies.UpFailedReply.TheVariants as failing
+use Rattle.node_core.specs.declared.exchange.Exchange.TheVariants as step
+use Rattle.locked_node.specs.Lock.{CallerView, CallerStep, Counted}
 use Rattle.peer_forward.specs.Calls.{Effect}
+use Rattle.startup.specs.declared.error_code.ErrorCode.{ErrorCode}
+use Rattle.startup.specs.declared.error_code.ErrorCode.TheVariants.{TooManyConnections, ConnectionFailure, AdminShutdown}
 use Rattle.node_threads.specs.Balance.{Hand, nothing, a_lease}
 use Rattle.node_threads.specs.Cancelling.{Opens}
 use Rattle.node_threads.specs.LoggingIn.{LogsIn}
@@ -41,3 +56,81 @@ pub record IsLoggedIn {T : Type 0} (wrote gave : Effect T) (opens : Opens T)
   pub before : T
   pub opened : opens database (Ok before)
   pub logs_in : SomeCalls wrote gave before stream (LogsIn entry.user entry.dbname key)
+
+-- the caller's last step asked for a link for the client of this pass, and got this answer
+abbrev pub WasAnswered : PassRecord → AcquireReply LinkRecord PermitRecord → CallerView → Type 0
+WasAnswered pass reply new =
+    (old : CallerView) × Counted (step.Acquire pass reply) reply acquire.Exhausted old new
+
+-- the node was told that the link of a permit is up, and gave this answer
+abbrev pub WentUp : PermitRecord → UpReply LinkRecord PermitRecord (Unit {0}) → CallerView
+    → CallerView → Type 0
+WentUp permit reply old new =
+    (key : List ℕ) × Counted (step.Up permit key reply) reply (up.AtEnd tt) old new
+
+-- the node was told that the link of a permit couldn't be opened
+abbrev pub HasFailed : PermitRecord → CallerView → CallerView → Type 0
+HasFailed permit old new =
+    (reply : UpFailedReply) × Counted (step.UpFailed permit reply) reply failing.Exhausted old new
+
+-- By the last steps the client of this pass got this link: it was there, or it was opened for the
+-- permit that the client got.
+abbrev pub IsGiven : PassRecord → LinkRecord → CallerView → Type 0
+IsGiven pass link new = WasAnswered pass (acquire.Got link) new
+    ⊎ ((permit : PermitRecord) × (asked : CallerView)
+    × WasAnswered pass (acquire.Open permit) asked × WentUp permit (up.Up link) asked new)
+
+-- the error of a client whose pass is stale, or for whom the node has no number left
+abbrev pub IsDenial : AcquireReply LinkRecord PermitRecord → ErrorCode → Type 0
+IsDenial acquire.Stale code = code ≡ AdminShutdown
+IsDenial acquire.Holding code = code ≡ TooManyConnections
+IsDenial acquire.Exhausted code = code ≡ TooManyConnections
+IsDenial (acquire.Got link) code = ⊥
+IsDenial (acquire.Open permit) code = ⊥
+IsDenial acquire.Waiting code = ⊥
+IsDenial acquire.Cancelled code = ⊥
+
+-- the same of a client whose permit is stale
+abbrev pub IsUpDenial : UpReply LinkRecord PermitRecord (Unit {0}) → ErrorCode → Type 0
+IsUpDenial (up.Stale stream) code = code ≡ AdminShutdown
+IsUpDenial (up.AtEnd stream) code = code ≡ TooManyConnections
+IsUpDenial (up.Exhausted permit stream) code = ⊥
+IsUpDenial (up.Up link) code = ⊥
+
+-- No link came of a permit, and this is the error because of that: the node has no use for the
+-- permit; it has no number left for a link; or its server can't be reached.
+abbrev pub IsUnopened : PermitRecord → ErrorCode → CallerView → CallerView → Type 0
+IsUnopened permit code old new =
+    ((reply : UpReply LinkRecord PermitRecord (Unit {0})) × IsUpDenial reply code
+    × WentUp permit reply old new)
+    ⊎ ((back : PermitRecord) × (between : CallerView)
+    × WentUp permit (up.Exhausted back tt) old between × HasFailed back between new
+    × (code ≡ TooManyConnections))
+    ⊎ (HasFailed permit old new × (code ≡ ConnectionFailure))
+
+-- by the last steps the client of this pass gets no link, and this is the error because of that
+abbrev pub IsDenied : PassRecord → ErrorCode → CallerView → Type 0
+IsDenied pass code new =
+    ((reply : AcquireReply LinkRecord PermitRecord) × IsDenial reply code
+    × WasAnswered pass reply new)
+    ⊎ ((permit : PermitRecord) × (asked : CallerView)
+    × WasAnswered pass (acquire.Open permit) asked × IsUnopened permit code asked new)
+
+-- what came of a client's asking for a link is what the node answered last
+abbrev pub IsAnswer : {L : Type 0} → PassRecord → Acquired (LinkValue L) → CallerView → Type 0
+IsAnswer pass (Lease lease) new = IsGiven pass lease.details new
+IsAnswer pass Cancelled new = WasAnswered pass acquire.Cancelled new
+IsAnswer pass (Refused code) new = IsDenied pass code new
+IsAnswer pass Ended new = Unit {0}
+
+-- what came of a permit is what the node answered
+abbrev pub IsOpened : {L : Type 0} → PermitRecord → Acquired (LinkValue L) → CallerView → CallerView
+    → Type 0
+IsOpened permit (Lease lease) old new = WentUp permit (up.Up lease.details) old new
+IsOpened permit Cancelled old new = ⊥
+IsOpened permit (Refused code) old new = IsUnopened permit code old new
+IsOpened permit Ended old new = Unit {0}
+
+-- what came of a client's asking stays so, unless its session ends without a word
+abbrev pub IsKept : {L : Type 0} → Acquired L → Acquired L → CallerView → CallerView → Type 0
+IsKept opened result old new = ((result ≡ opened) × (new ≡ old)) ⊎ (result ≡ Ended)

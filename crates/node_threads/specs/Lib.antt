@@ -12,5 +12,7 @@ pub mod Finding
 pub mod Turn
 pub mod Leasing
 pub mod LoggingIn
+pub mod Serving
 pub mod Opening
 pub mod Restarting
+pub mod Connection

@@ -23,7 +23,7 @@ use Rattle.node_threads.specs.declared.session.outcome.Stayed.{Stayed}
 use Rattle.node_threads.specs.declared.session.outcome.Stayed.TheVariants.{Release, Close, End}
 use Rattle.node_threads.specs.Asking.{IsError}
 use Rattle.node_threads.specs.StreamCalls.{Wrote, WroteSome}
-use Rattle.node_threads.specs.Replying.{IsPassedOn, ReplyEnd, Ready as ReadyEnd, heard, passed_on, ReadsReply, WritesReply, EndsStay, ready_outcome}
+use Rattle.node_threads.specs.Replying.{IsPassedOn, ReplyEnd, Ready as ReadyEnd, heard, passed_on, ReadsReply, StopsAt, WritesReply, EndsStay, ready_outcome}
 
 -- a session that waits for the reply to a request
 abbrev pub asking : ℕ → Session
@@ -116,6 +116,7 @@ pub record Finishes (stream written : List ℕ) (end : ReplyEnd) (reads tells : 
     pub bytes : List ℕ
     pub bytes_are : stream ++ bytes ≡ heard frames end
     pub read : ReadsReply end bytes reads
+    pub stops : StopsAt frames end stream reads
     pub text : List ℕ
     pub text_is : written ++ text ≡ passed_on frames end
     pub told : WritesReply end text tells

@@ -17,7 +17,7 @@ use Rattle.client_state.specs.declared.link_message.Status.{Status}
 use Rattle.client_state.specs.declared.link_message.Status.TheVariants.{Idle, InTransaction, Unknown}
 use Rattle.node_threads.specs.declared.session.outcome.Stayed.{Stayed}
 use Rattle.node_threads.specs.declared.session.outcome.Stayed.TheVariants.{Release, Close, End}
-use Rattle.node_threads.specs.StreamCalls.{Wrote, WroteSome, Read, ReadToEnd}
+use Rattle.node_threads.specs.StreamCalls.{given, Wrote, WroteSome, Read, ReadToEnd}
 use Rattle.node_threads.specs.Asking.{IsError}
 
 -- a frame of the link that is passed on
@@ -74,6 +74,25 @@ ReadsReply (Lost rest) bytes calls = ReadToEnd bytes calls
 ReadsReply (Cut kind size body) bytes calls = ReadToEnd bytes calls
 ReadsReply end bytes calls = Read bytes calls
 
+-- no read is made once all this is there: it isn't whole without the last
+abbrev pub ReadsNoFurther : List ℕ → List ℕ → List Call → Type 0
+ReadsNoFurther whole before reads = (earlier : List Call) (last : Call)
+    → reads ≡ earlier ++ last ∷ [] → length (before ++ given earlier) < length whole
+
+-- nothing is read behind a ReadyForQuery, nor behind the head of a frame that isn't passed on: what
+-- stands there came with the same read
+abbrev pub StopsAt : List Frame → ReplyEnd → List ℕ → List Call → Type 0
+StopsAt frames (Ready status after) before reads =
+    ReadsNoFurther (texts frames ++ ready_text status) before reads
+StopsAt frames (Unclear status after) before reads =
+    ReadsNoFurther (texts frames ++ ready_text status) before reads
+StopsAt frames (Unfit kind size after) before reads =
+    ReadsNoFurther (texts frames ++ head_text kind size) before reads
+StopsAt frames (Faulty rest fault) before reads = Unit {0}
+StopsAt frames (Lost rest) before reads = Unit {0}
+StopsAt frames (Cut kind size body) before reads = Unit {0}
+StopsAt frames (Untold begun after) before reads = Unit {0}
+
 -- the calls that write it to the client: all of it, unless the client doesn't take it
 abbrev pub WritesReply : ReplyEnd → List ℕ → List Call → Type 0
 WritesReply (Untold begun after) text calls = WroteSome text calls
@@ -88,6 +107,7 @@ pub record Replies (before : List ℕ) (frames : List Frame) (end : ReplyEnd)
   pub bytes : List ℕ
   pub bytes_are : before ++ bytes ≡ heard frames end
   pub read : ReadsReply end bytes reads
+  pub stops : StopsAt frames end before reads
   pub told : WritesReply end (passed_on frames end) tells
 
 -- what the client doesn't take: a ReadyForQuery that it was to get, or a part of a frame, or what

@@ -1,6 +1,6 @@
 -- Which calls of a stream write a text or a prefix of it, and which read bytes, or all up to the
 -- end (own).
-use Rattle.std.specs.Prelude.{◌≡◌, ℕ, ◌<◌, ◌≤◌, List, [], ◌∷◌, ◌++◌, length, take, Ok, Err}
+use Rattle.std.specs.Prelude.{◌≡◌, ◌⊎◌, ℕ, ◌<◌, ◌≤◌, List, [], ◌∷◌, ◌++◌, length, take, Ok, Err}
 use Rattle.std.specs.List.{AllByRecursion}
 use Rattle.peer_forward.specs.Calls.{Call, WriteCall, ReadCall, Effect, Makes, taken}
 
@@ -57,6 +57,10 @@ pub record WroteSome (text : List ℕ) (calls : List Call) : Type 0 where
   pub left : List ℕ
   pub some_left : 0 < length left
   pub beginning : text ≡ taken writes ++ left
+
+-- the calls wrote the text, as far as the stream took it
+abbrev pub Sends : List ℕ → List Call → Type 0
+Sends text calls = Wrote text calls ⊎ WroteSome text calls
 
 -- the calls read these bytes
 pub record Read (bytes : List ℕ) (calls : List Call) : Type 0 where

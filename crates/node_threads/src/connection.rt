@@ -1,7 +1,13 @@
 //! A client's connection, from its first packet to its end.
-ghost use Rattle.std.specs.Prelude.{◌≡◌, ◌≤◌, length};
+ghost use Rattle.std.specs.Prelude.{◌≡◌, ◌≤◌, ◌⊎◌, length, slice_get};
 ghost use Rattle.std.specs.Arc.{arc_value};
+ghost use Rattle.std.specs.Option.{ForSome};
+ghost use Rattle.stat_board.specs.Seats.{SeatView};
+ghost use Rattle.peer_forward.specs.Finishing.{Finishes};
 ghost use Rattle.node_threads.specs.Balance.{Balanced};
+ghost use Rattle.node_threads.specs.StreamCalls.{SomeCalls};
+ghost use Rattle.node_threads.specs.Cancelling.{IsCarried, ServesCancel};
+ghost use Rattle.node_threads.specs.Connection.{place_of, ServesAt, ServesConnection};
 
 use crate::login::refuse;
 use crate::{
@@ -33,6 +39,16 @@ where
     C: WriteCalls + ReadCalls,
     // Each pass, permit, lease and ticket that was made was spent.
     ensures balanced { Balanced calling.old.caller calling.new.caller }
+    // The first packets were read, and then what they ask for was served.
+    ensures served { ForSome
+        (slice_get (arc_value (arc_value calling.old.node).group) (arc_value calling.old.node).place)
+        (λ settings. ServesConnection
+        ⟦<O::Stream as WriteCalls>⟧.wrote ⟦<O::Stream as ReadCalls>⟧.gave C.wrote C.gave
+        (IsCarried ⟦<O::Stream as WriteCalls>⟧.wrote ⟦<O::Stream as ReadCalls>⟧.gave
+        (O.cancels opener.now))
+        (IsCarried ⟦<O::Stream as WriteCalls>⟧.wrote ⟦<O::Stream as ReadCalls>⟧.gave
+        (O.reaches opener.now))
+        settings.databases client.old client.new calling.old.caller calling.new.caller) }
 {
     let mut cutter = Cutter::new(alloc);
     match open(rt, alloc, client, &mut cutter) {
@@ -63,7 +79,7 @@ where
     }
 }
 
-// What a connection is served with, but for its node.
+// What a connection is served with, except its node.
 #[derive(Drop)]
 struct Visit<'a, R, O, G> {
     rt: &'a R,
@@ -87,12 +103,18 @@ where
     G: Gate,
     C: WriteCalls + ReadCalls,
     ensures balanced { Balanced calling.old.caller calling.new.caller }
+    ensures served { ForSome
+        (slice_get (arc_value (arc_value calling.old.node).group) (arc_value calling.old.node).place)
+        (λ settings. SomeCalls C.wrote C.gave client.old client.new (λ calls. ServesAt
+        ⟦<O::Stream as WriteCalls>⟧.wrote ⟦<O::Stream as ReadCalls>⟧.gave
+        (place_of name.now settings.databases) kind cutter.old calls cutter.new
+        calling.old.caller calling.new.caller)) }
 {
     let Some(database) = calling.node.settings().find_database(name) else {
         refuse(visit.alloc, client, ErrorCode::InvalidCatalogName);
         return;
     };
-    let secret = calling.node.secret(visit.rt);
+    let secret = calling.node.secret();
     let service = visit.to(&calling.node);
     serve_client(
         service,
@@ -120,6 +142,14 @@ where
     G: Gate,
     C: WriteCalls + ReadCalls,
     ensures balanced { Balanced calling.old.caller calling.new.caller }
+    ensures served { ((client.new ≡ client.old) × (calling.new.caller ≡ calling.old.caller))
+        ⊎ ((seat next : SeatView) × ServesCancel
+        (IsCarried ⟦<O::Stream as WriteCalls>⟧.wrote ⟦<O::Stream as ReadCalls>⟧.gave
+        (O.cancels visit.entry.opener.now))
+        (IsCarried ⟦<O::Stream as WriteCalls>⟧.wrote ⟦<O::Stream as ReadCalls>⟧.gave
+        (O.reaches visit.entry.opener.now))
+        key calling.old.caller calling.new.caller seat next
+        (λ verdict. Finishes C.wrote client.old verdict client.new)) }
 {
     let is_own = key.peer() == calling.node.settings().peer_id();
     let Some(mut seat) = calling.node.seats.take(visit.rt, key, is_own) else {
@@ -144,7 +174,8 @@ where
 impl<'a, R, O: Opener, G> Visit<'a, R, O, G> {
     // The service of a node.
     fn to(&self, node: &'a Node<O::Stream>) -> Service<'a, R, Link<O::Stream>, O, G>
-        ensures { result.shared.now ≡ node.now.shared }
+        ensures shared { result.shared.now ≡ node.now.shared }
+        ensures opener { result.opener.now ≡ self.now.opener.now }
     {
         Service {
             rt: self.rt,

@@ -15,7 +15,7 @@ mod stream;
 
 pub use cancel::{Counting, Seat, Seats, relay, report, serve_cancel};
 pub use connection::serve_connection;
-pub use desk::{Desk, DeskCall, ListDesk, LockDesk};
+pub use desk::{Desk, DeskCall, ListDesk, LockDesk, RequestDesk, Requested};
 pub use gate::{Gate, Open, Point};
 pub use login::{Opened, open};
 pub use node::{Admission, Calling, Entrance, Front, Node, Secrets, restart};

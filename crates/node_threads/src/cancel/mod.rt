@@ -8,5 +8,6 @@ mod seats;
 
 pub use counting::Counting;
 pub use orders::serve_cancel;
+pub(crate) use reports::report_unconnected;
 pub use reports::{relay, report};
 pub use seats::{Seat, Seats};

@@ -2,16 +2,19 @@
 ghost use Rattle.std.specs.Prelude.{◌≡◌};
 ghost use Rattle.pg_ids.specs.declared.any_key.KeyBytes.TheVariants as bytes;
 ghost use Rattle.startup.specs.CancelPacket.{packet_of, packet_bytes};
+ghost use Rattle.peer_forward.specs.Carrying.{Carried};
 ghost use Rattle.peer_forward.specs.Finishing.{Finishes};
+ghost use Rattle.peer_forward.specs.declared.verdict.Verdict.TheVariants as verdict;
 ghost use Rattle.stat_board.specs.Places.{place_of};
 ghost use Rattle.node_threads.specs.Desks.{Tells, reported};
 ghost use Rattle.node_threads.specs.Cancelling.{Tries, CountsAll, words_of_refusal, word_of_outcome, IsCarried, FinishesCarried, ServesCancel};
 ghost use Rattle.node_threads.specs.Balance.{Balanced, CancelsAtMostOnce};
 
-use crate::{Desk, Gate, LockDesk, Opener, Point, Service, relay, report};
+use crate::cancel::report_unconnected;
+use crate::{Context, Gate, LockDesk, Opener, Point, Requested, Service, relay, report};
 use cancel_router::RouteRefusal;
 use lease::Ticket;
-use locked_node::Caller;
+use locked_node::{Caller, Shared};
 use node_core::{CancelRefusal, Order};
 use peer_forward::{Outcome, ReadCalls, Verdict, WriteCalls, finish};
 use pg_ids::{AnyKey, DatabaseNo, PeerNo, ServerKey};
@@ -99,14 +102,46 @@ where
     let context = service.context();
     let shared = service.shared;
     service.gate.pass(service.rt, Point::Ordered);
-    let mut desk = LockDesk { shared, caller };
     let Ok(mut server) = service.opener.cancel(service.rt, database) else {
-        service.gate.pass(service.rt, Point::Carried);
-        desk.failed(service.rt, ticket);
-        finish(requester, Verdict::NoConnect);
-        return Outcome::Failed;
+        let desk = LockDesk { shared, caller };
+        let mut desk = Requested { desk, requester };
+        return report_unconnected(context, &mut desk, ticket);
     };
-    report(context, &mut desk, requester, &mut server, ticket, request)
+    report_at_lock(
+        context,
+        shared,
+        caller,
+        requester,
+        &mut server,
+        ticket,
+        request,
+    )
+}
+
+// Carries the request of a ticket to its server, and reports to the node how that ended.
+fn report_at_lock<R, S, G, Q, T>(
+    context: Context<'_, R, G>,
+    shared: &Shared<S>,
+    caller: &mut Caller<S>,
+    requester: &mut Q,
+    server: &mut T,
+    ticket: Ticket,
+    request: Packet,
+) -> Outcome
+where
+    R: Wait,
+    S: Drop,
+    G: Gate,
+    Q: WriteCalls,
+    T: WriteCalls + ReadCalls,
+    requires own { caller.old.lock ≡ shared.now }
+    ensures carried { Carried T.wrote T.gave server.old (packet_bytes request) result server.new }
+    ensures told { Tells (reported result ticket) caller.old caller.new }
+    ensures finished { Finishes Q.wrote requester.old (verdict.Carried result) requester.new }
+{
+    let desk = LockDesk { shared, caller };
+    let mut desk = Requested { desk, requester };
+    report(context, &mut desk, server, ticket, request)
 }
 
 // Carries a request to a peer.

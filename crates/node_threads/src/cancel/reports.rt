@@ -3,10 +3,11 @@ ghost use Rattle.std.specs.Prelude.{◌≡◌};
 ghost use Rattle.startup.specs.CancelPacket.{packet_bytes};
 ghost use Rattle.peer_forward.specs.Carrying.{Carried};
 ghost use Rattle.peer_forward.specs.Finishing.{Finishes};
+ghost use Rattle.peer_forward.specs.declared.outcome.Outcome.TheVariants as outcome;
 ghost use Rattle.peer_forward.specs.declared.verdict.Verdict.TheVariants as verdict;
 ghost use Rattle.node_threads.specs.Desks.{reported};
 
-use crate::{Context, Desk, Gate, Point};
+use crate::{Context, Gate, Point, RequestDesk};
 use lease::Ticket;
 use peer_forward::{Outcome, ReadCalls, Verdict, WriteCalls, carry, finish};
 use startup::Packet;
@@ -15,25 +16,24 @@ use std::sync::Wait;
 /// Carries the request of a ticket to the link's server, reports to the desk how that ended, and
 /// finishes the connection that the request came on. The gate is passed at `Carried` before the
 /// desk is called.
-pub fn report<R, S, D, G, Q, T>(
+pub fn report<R, S, D, G, T>(
     context: Context<'_, R, G>,
     desk: &mut D,
-    requester: &mut Q,
     server: &mut T,
     ticket: Ticket,
     packet: Packet,
 ) -> Outcome
 where
     R: Wait,
-    D: Desk<S>,
+    D: RequestDesk<S>,
     G: Gate,
-    Q: WriteCalls,
     T: WriteCalls + ReadCalls,
     requires ready { D.ready desk.old }
     ensures carried { Carried T.wrote T.gave server.old (packet_bytes packet) result server.new }
-    // One call, with the request's own ticket: it has ended exactly where the carrying has.
-    ensures told { D.told desk.old (reported result ticket) desk.new }
-    ensures finished { Finishes Q.wrote requester.old (verdict.Carried result) requester.new }
+    // One call, with the request's own ticket: it has ended exactly where the carrying has. After
+    // that the requester's connection is finished.
+    ensures told { (told : _) × D.told desk.old (reported result ticket) told
+        × D.finished told (verdict.Carried result) desk.new }
 {
     let Context { rt, gate } = context;
     let outcome = carry(server, packet);
@@ -42,8 +42,32 @@ where
         Outcome::Ended => desk.ended(rt, ticket),
         Outcome::Failed => desk.failed(rt, ticket),
     }
-    finish(requester, Verdict::Carried(outcome));
+    desk.finish(Verdict::Carried(outcome));
     outcome
+}
+
+/// Reports to the desk that the request of a ticket couldn't be carried, since nobody could be
+/// connected to, and finishes the connection that it came on.
+pub(crate) fn report_unconnected<R, S, D, G>(
+    context: Context<'_, R, G>,
+    desk: &mut D,
+    ticket: Ticket,
+) -> Outcome
+where
+    R: Wait,
+    D: RequestDesk<S>,
+    G: Gate,
+    requires ready { D.ready desk.old }
+    ensures failed { result ≡ outcome.Failed }
+    // As failed, and after that the requester's connection is finished.
+    ensures told { (told : _) × D.told desk.old (reported result ticket) told
+        × D.finished told verdict.NoConnect desk.new }
+{
+    let Context { rt, gate } = context;
+    gate.pass(rt, Point::Carried);
+    desk.failed(rt, ticket);
+    desk.finish(Verdict::NoConnect);
+    Outcome::Failed
 }
 
 /// Carries a request to another pooler, and finishes the connection that it came on.

@@ -1,4 +1,6 @@
 //! The seats at a node's board, for its cancel connections.
+ghost use Rattle.std.specs.Prelude.{◌≡◌, ◌⊎◌, ◌≤◌, ◌<◌, ◌+◌, ◌*◌, ◌++◌, ◌∷◌, [], None, IfSome, OnOk, vec_len, vec_capacity, Contains};
+
 use crate::Counting;
 use pg_ids::{AnyKey, Identity};
 use std::alloc::{AllocError, Global};
@@ -17,19 +19,20 @@ pub struct Seats {
     console: Mutex<Counting>,
 }
 
-/// A seat that a cancel connection has.
-#[derive(Drop)]
+/// A seat that a cancel connection has, which has to be given back.
 pub struct Seat {
     /// What it counts by.
     pub counting: Counting,
     purpose: Purpose,
 }
 
-// The seats that are free, and what the others are for.
+// The 255 seats for requests: those that are free, and what the others are for.
 #[derive(Drop)]
 struct Free {
     seats: Vec<Counting>,
     taken: Vec<Purpose>,
+    ghost all: { vec_len seats + vec_len taken ≡ 255 },
+    ghost room: { (255 ≤ vec_capacity seats) × (255 ≤ vec_capacity taken) },
 }
 
 // What a seat is for.
@@ -45,13 +48,13 @@ impl Seats {
     /// A board on which nothing is counted, with 256 seats, which may count as much as each other.
     pub fn new(alloc: Global) -> Result<Seats, AllocError> {
         let mut seats = Vec::with_capacity(alloc, 1 << HALVINGS)?;
-        let console = Counting::new(alloc)?;
-        seats.push(console)?;
-        for _ in 0..HALVINGS {
+        let first = Counting::new(alloc)?;
+        seats.push(first)?;
+        for _i in 0..HALVINGS {
             halve_each(alloc, &mut seats)?;
         }
         let Some(console) = seats.pop() else {
-            return Err(AllocError);
+            unreachable!()
         };
         let taken = Vec::with_capacity(alloc, seats.len())?;
         Ok(Seats {
@@ -84,35 +87,68 @@ impl Seats {
 }
 
 impl Free {
-    fn take(&mut self, purpose: Purpose) -> Option<Seat> {
-        let mut alike: usize = 0;
-        for taken in &self.taken {
-            if *taken == purpose {
-                alike = alike.saturating_add(1);
-            }
-        }
-        if alike >= SHARE {
+    // Takes a seat for this, if one is free and less than half of them are taken for it.
+    fn take(&mut self, purpose: Purpose) -> Option<Seat>
+        ensures taken { IfSome result (λ seat. (vec_len self.new.seats + 1 ≡ vec_len self.old.seats)
+            × (self.new.taken.items ≡ self.old.taken.items ++ seat.purpose ∷ [])
+            × (seat.purpose ≡ purpose)) }
+        ensures none { result ≡ None → (vec_len self.new.seats ≡ vec_len self.old.seats)
+            × (self.new.taken.items ≡ self.old.taken.items) }
+        // There is none only where no seat is free, or half of them are taken.
+        ensures needed { result ≡ None
+            → (vec_len self.old.seats ≡ 0) ⊎ (128 ≤ vec_len self.old.taken) }
+    {
+        if self.alike(&purpose) >= SHARE {
             return None;
         }
         let counting = self.seats.pop()?;
-        let _ = self.taken.push(purpose);
+        self.taken.push_reserved(purpose);
         Some(Seat { counting, purpose })
     }
 
-    fn give_back(&mut self, seat: Seat) {
-        let Seat { counting, purpose } = seat;
-        let _ = self.seats.push(counting);
-        for place in 0..self.taken.len() {
-            if self.taken.get(place) == Some(&purpose) {
-                self.taken.swap_remove(place);
-                return;
+    // How many seats are taken for this.
+    fn alike(&self, purpose: &Purpose) -> usize
+        ensures { result ≤ vec_len self.now.taken }
+    {
+        let mut alike: usize = 0;
+        for taken in &self.taken {
+            if taken == purpose {
+                alike = alike.saturating_add(1);
             }
         }
+        alike
+    }
+
+    // Gives back a seat that was taken here.
+    fn give_back(&mut self, seat: Seat)
+        ensures given { Contains self.old.taken.items seat.purpose
+            → vec_len self.new.seats ≡ vec_len self.old.seats + 1 }
+    {
+        let Seat { counting, purpose } = seat;
+        if let Some(place) = self.find(&purpose) {
+            self.taken.swap_remove(place);
+            self.seats.push_reserved(counting);
+        }
+    }
+
+    // The place of a seat that is taken for this.
+    fn find(&self, purpose: &Purpose) -> Option<usize>
+        ensures found { IfSome result (λ place. place < vec_len self.now.taken) }
+        ensures missing { result ≡ None → Contains self.now.taken.items purpose.now → ⊥ }
+    {
+        for place in 0..self.taken.len() {
+            if self.taken[place] == *purpose {
+                return Some(place);
+            }
+        }
+        None
     }
 }
 
 // Halves each seat, and puts the new halves behind them.
-fn halve_each(alloc: Global, seats: &mut Vec<Counting>) -> Result<(), AllocError> {
+fn halve_each(alloc: Global, seats: &mut Vec<Counting>) -> Result<(), AllocError>
+    ensures { OnOk result (vec_len seats.new ≡ 2 * vec_len seats.old) }
+{
     let mut halves = Vec::with_capacity(alloc, seats.len())?;
     for seat in seats.iter_mut() {
         halves.push(seat.split()?)?;

@@ -6,11 +6,13 @@ ghost use Rattle.node_threads.specs.declared.desk.call.DeskCall.TheVariants as c
 mod call;
 mod list;
 mod lock;
+mod request;
 
 pub use call::DeskCall;
 use lease::{Lease, Ticket};
 pub use list::ListDesk;
 pub use lock::LockDesk;
+pub use request::{RequestDesk, Requested};
 use std::sync::Wait;
 
 /// Where a cancel request's ticket is spent once it was carried, and a client's lease once its

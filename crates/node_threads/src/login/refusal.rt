@@ -1,6 +1,7 @@
 //! Errors that end a connection.
 ghost use Rattle.std.specs.Prelude.{Some};
 ghost use Rattle.node_threads.specs.StreamCalls.{SomeCalls};
+ghost use Rattle.node_threads.specs.Asking.{SendsError};
 ghost use Rattle.node_threads.specs.Opening.{WritesError};
 
 use crate::stream::write_whole;
@@ -12,7 +13,8 @@ use std::alloc::Global;
 /// Writes the error that ends a connection, as far as the client takes it. Nothing is written where
 /// memory for its text is refused.
 pub fn refuse<C: WriteCalls + ReadCalls>(alloc: Global, client: &mut C, code: ErrorCode)
-    ensures { SomeCalls C.wrote C.gave client.old client.new (WritesError (Some code)) }
+    ensures written { SomeCalls C.wrote C.gave client.old client.new (WritesError (Some code)) }
+    ensures said { SomeCalls C.wrote C.gave client.old client.new (SendsError code) }
 {
     let Ok(reply) = Reply::error(alloc, Severity::Fatal, code) else {
         return;

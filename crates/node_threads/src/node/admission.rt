@@ -5,7 +5,7 @@
 //! has asked again: each hand-over would wait until a thread has woken up. So clients wait here
 //! first, where whoever is done wakes the next one, and those that were let in ask in any order.
 //! While one of them waits in the node's queue all the same, nobody is let in. A client that was
-//! not let in within 20 milliseconds asks all the same; so does one at once that is told to, by a
+//! not let in within 20 milliseconds asks all the same; so does one at once that is made to, by a
 //! cancel request for it or by the console. No claim of a node rests on this.
 use ini_config::Settings;
 use pg_ids::{DatabaseNo, SlotNo};
@@ -33,7 +33,7 @@ const ASKED: u64 = 2;
 
 const QUEUED: u64 = 3;
 
-// Beside the first two: it was told to ask at once, and somebody waits until it has.
+// Beside the first two: it has to ask at once, and somebody waits until it has.
 const TOLD: u64 = 4;
 
 type State = Arc<AtomicU64, Global>;
@@ -321,7 +321,7 @@ fn tell(state: &AtomicU64) -> bool {
     exchange(state, ADMITTED, ADMITTED | TOLD) || state.load(Ordering::SeqCst) & TOLD != 0
 }
 
-// Waits until a client that was told to ask has asked.
+// Waits until a client that has to ask has asked.
 fn await_asked<R: Wait>(rt: &R, state: &AtomicU64) {
     for _ in 0..TRIES {
         let found = state.load(Ordering::SeqCst);

@@ -5,6 +5,7 @@ ghost use Rattle.std.specs.Arc.{arc_value};
 ghost use Rattle.node_core.specs.View.{IsFresh};
 ghost use Rattle.node_threads.specs.Balance.{Balanced};
 ghost use Rattle.node_threads.specs.Restarting.{boot_after, RestartsAt};
+ghost use Rattle.node_threads.specs.Secrets.{drawing_of, secret_at};
 
 use crate::node::restarts::restart;
 use crate::{Admission, Link, Seats, Secrets};
@@ -14,6 +15,7 @@ use locked_node::{Caller, Journal, Shared};
 use node_core::NodeCore;
 use pg_ids::{Boot, Secret};
 use std::alloc::{AllocError, Global};
+use std::sync::atomic::{AtomicU64, Ordering};
 use std::sync::{Arc, Mutex, Wait};
 
 /// What the threads of a node share.
@@ -22,9 +24,11 @@ pub struct Node<L: Drop> {
     pub(crate) shared: Shared<Link<L>>,
     pub(crate) seats: Seats,
     pub(crate) admission: Admission,
-    group: Arc<Group, Global>,
-    place: usize,
-    secrets: Mutex<Secrets>,
+    pub(crate) group: Arc<Group, Global>,
+    pub(crate) place: usize,
+    secrets: Secrets,
+    // How many secrets were drawn.
+    drawn: AtomicU64,
     boot: Mutex<Boot>,
     ghost listed: { place < length (arc_value group) },
 }
@@ -43,12 +47,12 @@ impl<L: Drop> Node<L> {
         Shared::new(alloc, Journal::new(alloc, core)?)
     }
 
-    // A node at a place of the group, behind this lock. Its secrets are drawn from the seed.
+    // A node at a place of the group, behind this lock. Its secrets are these.
     fn new(
         alloc: Global,
         group: &Arc<Group, Global>,
         place: usize,
-        seed: [u8; 32],
+        secrets: Secrets,
         boot: Boot,
         shared: Shared<Link<L>>,
     ) -> Result<Node<L>, AllocError>
@@ -56,9 +60,9 @@ impl<L: Drop> Node<L> {
         ensures shared { IfOk result (λ node. node.shared ≡ shared) }
         ensures group { IfOk result (λ node. arc_value node.group ≡ arc_value group.now) }
         ensures place { IfOk result (λ node. node.place ≡ place) }
+        ensures secrets { IfOk result (λ node. node.secrets ≡ secrets) }
     {
         let settings = &group.nodes()[place];
-        let secrets = Secrets::new(seed, settings.peer_id());
         let seats = Seats::new(alloc)?;
         let admission = Admission::new(alloc, settings)?;
         let group = Arc::try_clone(group)?;
@@ -68,7 +72,8 @@ impl<L: Drop> Node<L> {
             admission,
             group,
             place,
-            secrets: Mutex::new(secrets),
+            secrets,
+            drawn: AtomicU64::new(0),
             boot: Mutex::new(boot),
         })
     }
@@ -80,9 +85,11 @@ impl<L: Drop> Node<L> {
         &self.group.nodes()[self.place]
     }
 
-    /// The secret for a login.
-    pub(crate) fn secret<R: Wait>(&self, rt: &R) -> Secret {
-        self.secrets.lock(rt).draw()
+    /// The secret for a login, which no other login gets until 2^64 were drawn.
+    pub(crate) fn secret(&self) -> Secret
+        ensures { (number : ℕ) × (result ≡ secret_at self.now.secrets number) }
+    {
+        self.secrets.at(self.drawn.fetch_add(1, Ordering::SeqCst))
     }
 }
 
@@ -110,10 +117,14 @@ impl<L: Drop> Calling<L> {
         // The node is new: it has the settings of its place, and this boot.
         ensures fresh { IfOk result (λ calling. ForSome (slice_get (arc_value group.now) place)
             (λ settings. IsFresh settings boot calling.caller.start.view)) }
+        // Its secrets are those of the seed and of its number.
+        ensures seeded { IfOk result (λ calling. ForSome (slice_get (arc_value group.now) place)
+            (λ settings. (arc_value calling.node).secrets ≡ drawing_of seed settings.peer_id)) }
     {
         let settings = &group.nodes()[place];
         let (shared, caller) = Node::lock(alloc, settings, boot)?;
-        let node = Node::new(alloc, group, place, seed, boot, shared)?;
+        let secrets = Secrets::new(seed, settings.peer_id());
+        let node = Node::new(alloc, group, place, secrets, boot, shared)?;
         let node = Arc::new(alloc, node)?;
         Ok(Calling { node, caller })
     }

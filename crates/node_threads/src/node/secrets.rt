@@ -43,6 +43,17 @@ impl Secrets {
         Secrets { words }
     }
 
+    /// The secret with this number, from 0. It waits for nobody, and takes no memory.
+    pub fn at(&self, number: u64) -> Secret
+        ensures { result ≡ secret_at self.now number }
+    {
+        let Ok(mut words) = self.words.clone() else {
+            unreachable!()
+        };
+        words.set_word_pos(number as u128);
+        Secret(words.next_word())
+    }
+
     /// The next secret. It waits for nobody, and takes no memory.
     pub fn draw(&mut self) -> Secret
         ensures secret { result ≡ secret_at self.old self.old.drawn }

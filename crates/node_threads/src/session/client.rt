@@ -1,11 +1,18 @@
 //! A client's session, from its login to its end.
 ghost use Rattle.std.specs.Prelude.{◌≡◌, ◌<◌, [], None, length};
+ghost use Rattle.startup.specs.declared.error_code.ErrorCode.TheVariants.{OutOfMemory};
 ghost use Rattle.client_state.specs.Acts.{start};
 ghost use Rattle.pg_frames.specs.Passage.{start as passage_start};
 ghost use Rattle.node_threads.specs.Balance.{Moves, Balanced, nothing, a_pass, a_lease};
 ghost use Rattle.node_threads.specs.Desks.{Tells};
 ghost use Rattle.node_threads.specs.Turn.{handed_in, GoesOnWithout};
 ghost use Rattle.node_threads.specs.Progress.{asking};
+ghost use Rattle.node_threads.specs.Leasing.{hand_of};
+ghost use Rattle.node_threads.specs.Asking.{IsError};
+ghost use Rattle.node_threads.specs.StreamCalls.{SomeCalls};
+ghost use Rattle.node_threads.specs.Stay.{Stay};
+ghost use Rattle.node_threads.specs.Serving.{Greets, TellsCancelled, ComesOf, Serves, Stays, ServesClient};
+ghost use Rattle.node_threads.specs.declared.session.leases.Acquired.{Acquired as AcquiredOf};
 
 use crate::login::refuse;
 use crate::session::leases::{Acquired, acquire};
@@ -45,6 +52,10 @@ where
     requires database { database < length caller.old.start.view.pools }
     // Each pass, permit and lease that was made was spent.
     ensures balanced { Balanced caller.old caller.new }
+    // The client was served from its login to its end, and told why it ended; or it was refused.
+    ensures served { SomeCalls C.wrote C.gave client.old client.new (λ calls. ServesClient
+        ⟦<O::Stream as WriteCalls>⟧.wrote ⟦<O::Stream as ReadCalls>⟧.gave
+        database secret kind cutter.old calls cutter.new caller.old caller.new) }
 {
     let shared = service.shared;
     let Ok(pass) = shared.join(service.rt, caller, database, secret, kind) else {
@@ -74,6 +85,9 @@ where
     C: WriteCalls + ReadCalls,
     requires own { caller.old.lock ≡ service.shared.now }
     ensures balanced { Balanced caller.old caller.new }
+    ensures stays { SomeCalls C.wrote C.gave client.old client.new (λ calls. Stays
+        ⟦<O::Stream as WriteCalls>⟧.wrote ⟦<O::Stream as ReadCalls>⟧.gave
+        pass.now database result cutter.old calls cutter.new caller.old caller.new) }
 {
     let alloc = service.alloc;
     let Ok(entrance) = Entrance::new(service.rt, alloc, service.admission, pass.key().slot()) else {
@@ -102,7 +116,9 @@ where
 
 // Writes the messages of a login. Returns what is to be written to the client if this ends the
 // session.
-fn greet<C: WriteCalls + ReadCalls>(alloc: Global, client: &mut C, pass: &Pass) -> Option<Reply> {
+fn greet<C: WriteCalls + ReadCalls>(alloc: Global, client: &mut C, pass: &Pass) -> Option<Reply>
+    ensures { SomeCalls C.wrote C.gave client.old client.new (Greets pass.now.key result) }
+{
     let mut login = Vec::new(alloc);
     if write_login(Some(pass.key()), &mut login).is_err() {
         return Some(error(alloc, ErrorCode::OutOfMemory));
@@ -134,6 +150,9 @@ where
     requires session { session.old ≡ start session.old.database }
     ensures balanced { Balanced caller.old caller.new }
     ensures session { result ≡ None → session.new ≡ start session.old.database }
+    ensures serves { SomeCalls C.wrote C.gave client.old client.new (λ calls. Serves
+        ⟦<O::Stream as WriteCalls>⟧.wrote ⟦<O::Stream as ReadCalls>⟧.gave
+        pass.now session.old.database result cutter.old calls cutter.new caller.old caller.new) }
 {
     let request = match next_request(service.rt, session, client, cutter) {
         Ok(request) => request,
@@ -142,7 +161,36 @@ where
     let database = session.database();
     let acquired = acquire(service, caller, entrance, pass, database);
     entrance.catch_up(service.rt, database);
-    let end = match acquired {
+    let end = serve_acquired(service, caller, client, cutter, session, acquired, request);
+    entrance.leave(service.rt, database);
+    end
+}
+
+// Serves a request with what came of asking for a link. Returns what is to be written to the client
+// where the session ends.
+fn serve_acquired<R, O, G, C>(
+    service: Service<'_, R, Link<O::Stream>, O, G>,
+    caller: &mut Caller<Link<O::Stream>>,
+    client: &mut C,
+    cutter: &mut Cutter,
+    session: &mut Client,
+    acquired: Acquired<Lease<Link<O::Stream>>>,
+    request: Request,
+) -> Option<Reply>
+where
+    R: Wait,
+    O: Opener,
+    G: Gate,
+    C: WriteCalls + ReadCalls,
+    requires own { caller.old.lock ≡ service.shared.now }
+    requires session { session.old ≡ asking session.old.database }
+    ensures moves { Moves (hand_of acquired) caller.old nothing caller.new }
+    ensures session { result ≡ None → session.new ≡ start session.old.database }
+    ensures comes { SomeCalls C.wrote C.gave client.old client.new (λ calls. ComesOf
+        ⟦<O::Stream as WriteCalls>⟧.wrote ⟦<O::Stream as ReadCalls>⟧.gave
+        acquired request result cutter.old calls cutter.new caller.old caller.new) }
+{
+    match acquired {
         Acquired::Lease(lease) => ride(service, caller, client, cutter, session, lease, request),
         Acquired::Cancelled => {
             session.drop_request();
@@ -150,9 +198,7 @@ where
         }
         Acquired::Refused(code) => Some(error(service.alloc, code)),
         Acquired::Ended => Some(Reply::nothing()),
-    };
-    entrance.leave(service.rt, database);
-    end
+    }
 }
 
 // Serves a transaction on the link of a lease. Returns what is to be written to the client where
@@ -175,6 +221,10 @@ where
     requires session { session.old ≡ asking session.old.database }
     ensures moves { Moves a_lease caller.old nothing caller.new }
     ensures session { result ≡ None → session.new ≡ start session.old.database }
+    ensures comes { SomeCalls C.wrote C.gave client.old client.new (λ calls. ComesOf
+        ⟦<O::Stream as WriteCalls>⟧.wrote ⟦<O::Stream as ReadCalls>⟧.gave
+        (AcquiredOf.Lease lease) request result cutter.old calls cutter.new
+        caller.old caller.new) }
 {
     service.gate.pass(service.rt, Point::Acquired);
     // A link is given back as it was at its start. No clause of the lock says so.
@@ -211,6 +261,11 @@ where
     requires own { caller.old.lock ≡ service.shared.now }
     requires session { session.old ≡ asking session.old.database }
     requires at_start { lease.stream.flow ≡ passage_start }
+    ensures stay { (link : _) × SomeCalls
+        ⟦<O::Stream as WriteCalls>⟧.wrote ⟦<O::Stream as ReadCalls>⟧.gave
+        lease.stream.stream link
+        (λ on_link. SomeCalls C.wrote C.gave client.old client.new
+        (λ on_client. Stay request [] cutter.old on_link on_client result cutter.new)) }
     ensures told { Tells (handed_in result lease.details) caller.old caller.new }
     ensures session { GoesOnWithout result session.old session.new }
 {
@@ -221,12 +276,17 @@ where
 }
 
 // Tells a client that its request was cancelled while it waited for a link; its session goes on.
-fn tell_cancelled<C: WriteCalls + ReadCalls>(alloc: Global, client: &mut C) -> Option<Reply> {
+fn tell_cancelled<C: WriteCalls + ReadCalls>(alloc: Global, client: &mut C) -> Option<Reply>
+    ensures { SomeCalls C.wrote C.gave client.old client.new (TellsCancelled result) }
+{
     let Ok(cancelled) = Reply::error(alloc, Severity::Error, ErrorCode::QueryCanceled) else {
         return Some(Reply::nothing());
     };
     let ready = Reply::ready(b'I');
-    if write_whole(client, cancelled.as_slice()) && write_whole(client, ready.as_slice()) {
+    if !write_whole(client, cancelled.as_slice()) {
+        return Some(Reply::nothing());
+    }
+    if write_whole(client, ready.as_slice()) {
         None
     } else {
         Some(Reply::nothing())
@@ -250,7 +310,9 @@ fn leave<R: Wait, S: Drop>(rt: &R, shared: &Shared<S>, caller: &mut Caller<S>, p
 }
 
 // The error that ends a session, or nothing where memory for it was refused.
-fn error(alloc: Global, code: ErrorCode) -> Reply {
+fn error(alloc: Global, code: ErrorCode) -> Reply
+    ensures { IsError code result }
+{
     match Reply::error(alloc, Severity::Fatal, code) {
         Ok(reply) => reply,
         Err(_) => Reply::nothing(),

@@ -1,11 +1,12 @@
 //! A link for a client's request: an idle one, or a new one that is opened.
-ghost use Rattle.std.specs.Prelude.{◌≡◌, ◌+◌, ◌≤◌, ℕ, List, length, IsTrue, IfOk};
+ghost use Rattle.std.specs.Prelude.{◌≡◌, ◌+◌, ◌≤◌, ℕ, List, length, IsTrue, IfOk, IfSome};
 ghost use Rattle.startup.specs.StartupMessage.{HasNoZero};
 ghost use Rattle.link_pool.specs.declared.replies.UpReply.TheVariants as up;
 ghost use Rattle.node_core.specs.declared.exchange.Exchange.TheVariants as step;
 ghost use Rattle.locked_node.specs.Lock.{CallerStep};
 ghost use Rattle.node_threads.specs.Balance.{Moves, nothing, a_lease, a_permit};
-ghost use Rattle.node_threads.specs.Leasing.{hand_of, hand_of_answer, OfLease, OfAnswer, IsLoggedIn};
+ghost use Rattle.node_threads.specs.Leasing.{hand_of, hand_of_answer, OfLease, OfAnswer, IsLoggedIn, IsAnswer, IsOpened, IsKept};
+ghost use Rattle.node_threads.specs.declared.session.leases.Acquired.{Acquired};
 
 use crate::login::{LinkError, LoggedIn, log_in};
 use crate::{Entrance, Gate, Link, Opener, Point, Service};
@@ -46,6 +47,8 @@ pub fn acquire<R: Wait, O: Opener, G: Gate>(
     // A lease was made where one is returned, and no permit is left.
     ensures moves { Moves nothing caller.old (hand_of result) caller.new }
     ensures database { OfLease (λ lease. lease.details.at.database ≡ database) result }
+    // It is what the node answered last.
+    ensures answer { IsAnswer pass.now result caller.new }
 {
     let has_waited = entrance.enter(service.rt, database);
     if has_waited && service.opener.is_gone() {
@@ -71,6 +74,7 @@ fn ask<R: Wait, O: Opener, G: Gate>(
     requires own { caller.old.lock ≡ service.shared.now }
     ensures moves { Moves nothing caller.old (hand_of_answer result) caller.new }
     ensures database { OfAnswer (λ lease. lease.details.at.database ≡ database) result }
+    ensures answer { IfSome result (λ acquired. IsAnswer pass.now acquired caller.new) }
 {
     let answer = service.shared.acquire(service.rt, caller, pass);
     entrance.asked();
@@ -108,6 +112,8 @@ fn take<R: Wait, O: Opener, G: Gate>(
     requires own { caller.old.lock ≡ service.shared.now }
     ensures moves { Moves a_lease caller.old (hand_of_answer result) caller.new }
     ensures database { OfAnswer (λ lease. lease.details.at.database ≡ database) result }
+    ensures kept { IfSome result
+        (λ acquired. IsKept (Acquired.Lease lease) acquired caller.old caller.new) }
 {
     if is_of(&lease, database) && service.opener.is_quiet(&lease.stream().stream) {
         return Some(Acquired::Lease(lease));
@@ -138,6 +144,7 @@ fn open<R: Wait, O: Opener, G: Gate>(
         (O.connects service.entry.opener.now) service.entry.settings.now.databases
         lease.details.at.database key lease.stream.stream
         × CallerStep caller.old (step.Up permit key (up.Up lease.details)) caller.new) result }
+    ensures opened { IsOpened permit result caller.old caller.new }
 {
     match connect(service, permit.details().at.database) {
         Ok(opened) => put_up(service, caller, permit, opened),
@@ -162,6 +169,7 @@ fn unless_gone<R: Wait, O: Opener, G: Gate>(
     requires own { caller.old.lock ≡ service.shared.now }
     ensures moves { Moves (hand_of opened) caller.old (hand_of result) caller.new }
     ensures database { OfLease (λ lease. lease.details.at.database ≡ database) result }
+    ensures kept { IsKept opened result caller.old caller.new }
 {
     match opened {
         Acquired::Lease(lease) => {
@@ -189,9 +197,10 @@ fn put_up<R: Wait, O: Opener, G: Gate>(
     ensures moves { Moves a_permit caller.old (hand_of result) caller.new }
     ensures at { OfLease (λ lease. lease.details.at ≡ permit.at) result }
     ensures link { OfLease (λ lease. lease.stream ≡ opened.link) result }
-    // The node was told the key that the server gave.
+    // The node has the key that the server gave.
     ensures key { OfLease (λ lease. CallerStep caller.old
         (step.Up permit opened.key (up.Up lease.details)) caller.new) result }
+    ensures opened { IsOpened permit result caller.old caller.new }
 {
     let shared = service.shared;
     match shared.up(service.rt, caller, permit, opened.link, opened.key) {

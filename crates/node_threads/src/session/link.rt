@@ -3,7 +3,7 @@ ghost use Rattle.std.specs.Prelude.{◌≡◌, ◌<◌, ◌≤◌, [], ◌∷◌
 ghost use Rattle.peer_forward.specs.Calls.{Call, Makes};
 ghost use Rattle.pg_frames.specs.FrameText.{HasFault};
 ghost use Rattle.pg_frames.specs.Passage.{fed, after, HasNoNext};
-ghost use Rattle.node_threads.specs.StreamCalls.{SomeCalls, Read, IsFailedRead};
+ghost use Rattle.node_threads.specs.StreamCalls.{Read, IsFailedRead};
 
 use crate::stream::read_some;
 use peer_forward::{ReadCalls, WriteCalls};
@@ -27,8 +27,9 @@ pub(crate) fn read_up_to<const MOST: usize, L: WriteCalls + ReadCalls>(link: &mu
     requires dry { HasNoNext link.old.flow.left link.old.flow.bytes }
     requires sound { HasFault (after link.old.flow) None }
     requires few { length link.old.flow.passed ≤ 8 }
-    ensures more { result ≡ true → SomeCalls L.wrote L.gave link.old.stream link.new.stream
-        (λ reads. (bytes : List ℕ) × Read bytes reads × (link.new.flow ≡ fed link.old.flow bytes)) }
+    ensures more { result ≡ true → (call : Call)
+        × Makes L.wrote L.gave link.old.stream (call ∷ []) link.new.stream
+        × (bytes : List ℕ) × Read bytes (call ∷ []) × (link.new.flow ≡ fed link.old.flow bytes) }
     ensures none { result ≡ false → (call : Call)
         × Makes L.wrote L.gave link.old.stream (call ∷ []) link.new.stream × IsFailedRead call }
 {

@@ -187,11 +187,12 @@ fn read_on<C: WriteCalls + ReadCalls, L: WriteCalls + ReadCalls>(
     requires dry { HasNoNext link.old.flow.left link.old.flow.bytes }
     requires handed { (stream : List ℕ) × (written : List ℕ)
         × HandedOut stream written place link.old.flow }
-    ensures more { result ≡ None → SomeCalls L.wrote L.gave link.old.stream link.new.stream
-        (λ reads. SomeCalls C.wrote C.gave client.old client.new
-        (λ tells. (bytes : List ℕ) × Read bytes reads × (text : List ℕ) × Wrote text tells
+    ensures more { result ≡ None → (call : Call)
+        × Makes L.wrote L.gave link.old.stream (call ∷ []) link.new.stream
+        × SomeCalls C.wrote C.gave client.old client.new
+        (λ tells. (bytes : List ℕ) × Read bytes (call ∷ []) × (text : List ℕ) × Wrote text tells
         × ((stream written : List ℕ) → HandedOut stream written place link.old.flow
-        → HandedOut (stream ++ bytes) (written ++ text) place link.new.flow))) }
+        → HandedOut (stream ++ bytes) (written ++ text) place link.new.flow)) }
     ensures session { result ≡ None → session.new ≡ session.old }
     ensures ends { IfSome result (λ stayed.
         SomeCalls L.wrote L.gave link.old.stream link.new.stream
@@ -233,8 +234,9 @@ fn read_more<L: WriteCalls + ReadCalls>(link: &mut Link<L>) -> bool
     requires dry { HasNoNext link.old.flow.left link.old.flow.bytes }
     requires sound { HasFault (after link.old.flow) None }
     requires few { length link.old.flow.passed ≤ 6 }
-    ensures more { result ≡ true → SomeCalls L.wrote L.gave link.old.stream link.new.stream
-        (λ reads. (bytes : List ℕ) × Read bytes reads × (link.new.flow ≡ fed link.old.flow bytes)) }
+    ensures more { result ≡ true → (call : Call)
+        × Makes L.wrote L.gave link.old.stream (call ∷ []) link.new.stream
+        × (bytes : List ℕ) × Read bytes (call ∷ []) × (link.new.flow ≡ fed link.old.flow bytes) }
     ensures none { result ≡ false → (call : Call)
         × Makes L.wrote L.gave link.old.stream (call ∷ []) link.new.stream × IsFailedRead call }
 {

@@ -1,8 +1,16 @@
 use Rattle.std.proofs.Common.{◌≡◌}
+use Rattle.std.specs.Io.KnownBytes.{ReadConsumes, WriteAppends}
 use Rattle.client_state.specs.Acts.{start}
 use Rattle.node_threads.specs.Balance.{Balanced}
+use Rattle.node_threads.proofs.ServingLemmas.{Serving}
 use Rattle.node_threads.proofs.session.client.serve_pass.Given as goal
 
--- between two requests nothing but the pass is held
+-- so far requests were served, and between two of them nothing but the pass is held
 abbrev pub invariant-loop : goal.invariant-loop
-invariant-loop g l = Balanced l.fn.caller l.caller × (l.session ≡ start l.session.database)
+invariant-loop g l = Balanced l.fn.caller l.caller × (l.session ≡ start l.fn.database)
+    × Serving (λ old bytes result new.
+    WriteAppends (g.O.Stream.Write.contents old) (g.O.Stream.Write.contents new) result bytes)
+    (λ old buffer result new.
+    ReadConsumes (g.O.Stream.Read.remaining old) (g.O.Stream.Read.remaining new) result buffer)
+    g.C.WriteCalls.wrote g.C.ReadCalls.gave l.fn.pass l.fn.database l.fn.cutter l.fn.client
+    l.client l.cutter l.fn.caller l.caller

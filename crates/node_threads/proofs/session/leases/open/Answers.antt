@@ -1,4 +1,4 @@
-use Rattle.std.proofs.Common.{◌∙◌, ap, sym}
+use Rattle.std.proofs.Common.{◌∙◌, inr, refl, ap, sym}
 use Rattle.lease.specs.declared.permit.PermitRecord.{PermitRecord}
 use Rattle.node_threads.proofs.Balancing.{up_failed_moves}
 use Rattle.node_threads.proofs.LeaseLemmas.{of_lease, same_link}
@@ -23,3 +23,6 @@ returns-in-Lost-clause-moves g c =
 pub returns-in-Memory-clause-moves : goal.returns-in-Memory-clause-moves
 returns-in-Memory-clause-moves g c =
     up_failed_moves c.args.permit _ _ _ _ _ c.up_failed-reply.ensures.counted
+
+pub returns-in-Lost-clause-opened : goal.returns-in-Lost-clause-opened
+returns-in-Lost-clause-opened g c = inr (inr ((_, c.up_failed-reply.ensures.counted), refl))

@@ -45,13 +45,13 @@ returns-then-read_more-clause-more g c _ =
         told.0,
         told.1,
         (
-          read.2.0,
-          read.2.1,
+          read.2,
+          read.3,
           _,
           told.2,
           λ stream written out. more_read stream written c.args.place c.args.link.now.flow _ _
-              read.2.0 c.withheld.ensures
-              (read.2.2 ∙ ap (λ p. fed p read.2.0) c.pass_on.ensures.flow) out,
+              read.2 c.withheld.ensures
+              (read.4 ∙ ap (λ p. fed p read.2) c.pass_on.ensures.flow) out,
         ),
       ),
     )
