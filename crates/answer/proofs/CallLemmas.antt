@@ -1,22 +1,23 @@
 -- Calls that a caller made, and what they are to the clients that came.
-use Rattle.std.proofs.Common.{ℕ, ◌≡◌, ◌+◌, ◌<◌, List, [], ◌∷◌, ◌++◌, Some, Ok, Err, refl, sym, ap, ◌∙◌, append_assoc, append-nil, length-append, arith, subst}
-use Rattle.std.specs.Prelude.{AllPairs, Result, MatchResult, IsErrAnd}
+use Rattle.std.proofs.Common.{ℕ, ◌≡◌, ◌+◌, ◌<◌, ◌≤◌, List, [], ◌∷◌, ◌++◌, length, Option, Some, None, Ok, Err, refl, sym, ap, ◌∙◌, append_assoc, append-nil, length-append, arith, subst}
+use Rattle.std.specs.Prelude.{AllPairs, Result, MatchResult, IsErrAnd, IsSomeAnd}
 use Rattle.std.proofs.lemmas.List.Quantifiers.{all_pairs_push}
 use Rattle.pg_ids.specs.declared.any_key.AnyKey.{AnyKey}
-use Rattle.pg_ids.specs.declared.any_key.Kind.TheVariants as kind
-use Rattle.lease.specs.declared.pass.PassRecord.{PassRecord}
 use Rattle.lease.specs.declared.ticket.TicketRecord.{TicketRecord}
 use Rattle.node_core.specs.View.{NodeView}
 use Rattle.node_core.specs.declared.exchange.Exchange.{Exchange}
-use Rattle.node_core.specs.declared.exchange.Exchange.TheVariants.{Join, Cancel}
+use Rattle.node_core.specs.declared.exchange.Exchange.TheVariants.{Cancel}
 use Rattle.node_core.specs.declared.exchange.Order.{Order}
-use Rattle.locked_node.specs.Journal.{JournalView, CALL_LIMIT}
+use Rattle.locked_node.specs.Journal.{JournalView, JournalValue, journal_view, CALL_LIMIT}
 use Rattle.locked_node.specs.Lock.{CallerView, CallerStep, IsWhole}
 use Rattle.locked_node.specs.Replay.{Replay}
 use Rattle.locked_node.specs.Totals.{all_calls}
 use Rattle.answer.specs.declared.fault.Reply.{Reply}
 use Rattle.command_line.specs.declared.live_client.LiveClient.{LiveClient}
-use Rattle.answer.specs.Decision.{AreOpening, IsComing, AreLive, Comes, Goes, Makes, MayOrder, MayReply, Orders, Stops, Trips, reply_of}
+use Rattle.node_core.specs.NodeStep.{NodeStep}
+use Rattle.answer.specs.Attended.{Came, Asked, Rests, ticket_of}
+use Rattle.answer.specs.Decision.{IsComing, AreLive, Calls, Cannot, Comes, HasRoom, Haves, Leads, Makes, MayOrder, Orders, Trips, reply_of}
+use Rattle.answer.proofs.BackSteps.{came_rests, cancel_leads}
 
 -- one call
 pub makes_one : (old : CallerView) (call : Exchange) (new : CallerView) → CallerStep old call new
@@ -59,6 +60,36 @@ makes_none caller = record {
   order = λ order. order;
 }
 
+-- ---- what calls lead to
+
+-- some calls, and then more
+pub replay_split : (some more : List Exchange) (first last : NodeView)
+    → Replay first (some ++ more) last
+    → (middle : NodeView) × Replay first some middle × Replay middle more last
+replay_split [] more first last replay = (first, refl, replay)
+replay_split (call ∷ some) more first last (next, step, replay) =
+    let rest = replay_split some more next last replay in
+    (rest.0, (next, step, rest.1), rest.2)
+
+module _ (Before Middle After : NodeView → Type 0) where
+  -- one call
+  pub leads_one : (call : Exchange)
+      → ((v w : NodeView) → Before v → NodeStep v call w → After w)
+      → Leads Before (call ∷ []) After
+  leads_one call by first last before (next, step, end) =
+      subst After (sym end) (by first next before step)
+
+  -- some calls, and then more
+  pub leads_then : (some more : List Exchange) → Leads Before some Middle
+      → Leads Middle more After → Leads Before (some ++ more) After
+  leads_then some more one other first last before replay =
+      let parts = replay_split some more first last replay in
+      other parts.0 last (one first parts.0 before parts.1) parts.2
+
+-- no call
+pub leads_none : (Before : NodeView → Type 0) → Leads Before [] Before
+leads_none Before first last before end = subst Before (sym end) before
+
 -- ---- replies that aren't expected
 
 -- `?` passes a reply on as it is
@@ -71,47 +102,46 @@ reply_passed (Ok x) given P Q never holds = absurd never
 pub step_by : {T R : Type 0} (r : Result T Reply) (call : R → Exchange) (reply : R)
     (expected : T → R) (old new : CallerView) → CallerStep old (call reply) new
     → MatchResult r (λ x. reply ≡ expected x) (λ given. reply_of (call reply) ≡ Some given)
-    → MatchResult r (λ x. CallerStep old (call (expected x)) new) (λ given. Trips old given new)
+    → MatchResult r (λ x. CallerStep old (call (expected x)) new)
+    (λ given. Trips old call given new)
 step_by (Ok x) call reply expected old new step is =
     subst (λ a. CallerStep old (call a) new) is step
 step_by (Err given) call reply expected old new step says =
-    record { call = call reply; step = step; says = says }
+    record { reply = reply; step = step; says = says }
 
-pub stops_now : (old new : CallerView) (given : Reply) → Trips old given new → Stops old given new
-stops_now old new given trips = record {
-  calls = trips.call ∷ [];
-  makes = makes_one old trips.call new trips.step;
-  say = record { before = []; call = trips.call; after = []; are = refl; says = trips.says };
+-- a reply that isn't expected is one that no such node gives
+pub cannot_trip : {R : Type 0} (Before : NodeView → Type 0) (ask : R → Exchange) (given : Reply)
+    (old new : CallerView) → Trips old ask given new
+    → ((v w : NodeView) (reply : R) → Before v → NodeStep v (ask reply) w
+    → reply_of (ask reply) ≡ Some given → ⊥)
+    → Cannot Before old new
+cannot_trip Before ask given old new trips never = record {
+  calls = ask trips.reply ∷ [];
+  makes = makes_one old (ask trips.reply) new trips.step;
+  never = leads_one Before Before (λ _. ⊥) (ask trips.reply)
+      (λ v w before step. never v w trips.reply before step trips.says);
 }
 
-pub stops_then : (old middle new : CallerView) (some : List Exchange) (given : Reply)
-    → Makes old some middle → Stops middle given new → Stops old given new
-stops_then old middle new some given makes stops = record {
-  calls = some ++ stops.calls;
-  makes = makes_then old middle new some stops.calls makes stops.makes;
-  say = record {
-    before = some ++ stops.say.before;
-    call = stops.say.call;
-    after = stops.say.after;
-    are = ap (λ calls. some ++ calls) stops.say.are
-        ∙ sym (append_assoc some stops.say.before (stops.say.call ∷ stops.say.after));
-    says = stops.say.says;
-  };
+-- some calls lead to a node that can't make the rest
+pub cannot_then : (Before Middle : NodeView → Type 0) (old middle new : CallerView)
+    (some : List Exchange) → Makes old some middle → Leads Before some Middle
+    → Cannot Middle middle new → Cannot Before old new
+cannot_then Before Middle old middle new some makes leads cannot = record {
+  calls = some ++ cannot.calls;
+  makes = makes_then old middle new some cannot.calls makes cannot.makes;
+  never = leads_then Before Middle (λ _. ⊥) some cannot.calls leads cannot.never;
+}
+
+-- more is true of the node
+pub cannot_of : (Before Weaker : NodeView → Type 0) (old new : CallerView)
+    → ((v : NodeView) → Before v → Weaker v) → Cannot Weaker old new → Cannot Before old new
+cannot_of Before Weaker old new weaken cannot = record {
+  calls = cannot.calls;
+  makes = cannot.makes;
+  never = λ first last before replay. cannot.never first last (weaken first before) replay;
 }
 
 -- ---- clients
-
--- a client joins, and then opens its link, if it has one
-pub coming_by : (client : LiveClient) (pass : PassRecord) (old middle new : CallerView)
-    (after : List Exchange) → CallerStep old (Join 0 client.secret kind.Short (Ok pass)) middle
-    → AreOpening pass client.server_key after → Makes middle after new
-    → (calls : List Exchange) × IsComing client calls × Makes old calls new
-coming_by client pass old middle new after joining opening opened = (
-  Join 0 client.secret kind.Short (Ok pass) ∷ after,
-  record { pass = pass; after = after; are = refl; opening = opening },
-  makes_then old middle new (Join 0 client.secret kind.Short (Ok pass) ∷ []) after
-      (makes_one old (Join 0 client.secret kind.Short (Ok pass)) middle joining) opened,
-)
 
 -- the calls of some clients, and then those of one more
 live_push : (clients : List LiveClient) (calls : List Exchange) (client : LiveClient)
@@ -128,50 +158,60 @@ live_push (c ∷ cs) calls client more (first, rest, are, comes, live) coming = 
 )
 
 -- one client more comes
-pub comes_push : (clients : List LiveClient) (client : LiveClient) (old middle new : CallerView)
-    (more : List Exchange) → Comes old clients middle → IsComing client more → Makes middle more new
-    → Comes old (clients ++ client ∷ []) new
-comes_push clients client old middle new more comes coming makes = record {
-  calls = comes.calls ++ more;
-  live = live_push clients comes.calls client more comes.live coming;
-  makes = makes_then old middle new comes.calls more comes.makes makes;
+pub comes_push : (clients : List LiveClient) (client : LiveClient) (had middle have : Haves)
+    (old between new : CallerView) → Comes old clients had middle between
+    → Comes between (client ∷ []) middle have new
+    → Comes old (clients ++ client ∷ []) had have new
+comes_push clients client had middle have old between new some one =
+    let many = some.many in
+    let more = one.many in
+    let longer = length-append clients (client ∷ []) in
+    let only = one.live in
+    let are : one.calls ≡ only.0 = only.2 ∙ ap (λ rest. only.0 ++ rest) only.4
+    ∙ append-nil only.0 in
+    record {
+      calls = some.calls ++ one.calls;
+      live = live_push clients some.calls client one.calls some.live
+          (subst (IsComing client) (sym are) only.3);
+      makes = makes_then old between new some.calls one.calls some.makes one.makes;
+      many = omega (arith, many, more, longer);
+      leads = λ size room.
+          let few : length middle.passes ≤ size = omega (arith, more, room) in
+          leads_then (Came size had.passes had.leases) (Came size middle.passes middle.leases)
+          (Came size have.passes have.leases) some.calls one.calls (some.leads size few)
+          (one.leads size room);
+    }
+
+pub comes_none : (had : Haves) (caller : CallerView) → Comes caller [] had had caller
+comes_none had caller = record {
+  calls = [];
+  live = refl;
+  makes = makes_none caller;
+  many = omega arith;
+  leads = λ size room. leads_none (Came size had.passes had.leases);
 }
 
-pub comes_none : (caller : CallerView) → Comes caller [] caller
-comes_none caller = record { calls = []; live = refl; makes = makes_none caller }
-
-pub stops_after_goes : (old middle new : CallerView) (given : Reply) → Goes old middle
-    → Stops middle given new → Stops old given new
-stops_after_goes old middle new given goes stops =
-    stops_then old middle new goes.calls given goes.makes stops
-
-pub stops_after_comes : (clients : List LiveClient) (old middle new : CallerView) (given : Reply)
-    → Comes old clients middle → Stops middle given new → Stops old given new
-stops_after_comes clients old middle new given comes stops =
-    stops_then old middle new comes.calls given comes.makes stops
-
--- ---- handing back
-
-pub goes_none : (caller : CallerView) → Goes caller caller
-goes_none caller = record { calls = []; makes = makes_none caller }
-
-pub goes_one : (old : CallerView) (call : Exchange) (new : CallerView) → CallerStep old call new
-    → Goes old new
-goes_one old call new step = record { calls = call ∷ []; makes = makes_one old call new step }
-
-pub goes_then : (old middle new : CallerView) → Goes old middle → Goes middle new → Goes old new
-goes_then old middle new one other =
-    record {
-      calls = one.calls ++ other.calls;
-      makes = makes_then old middle new one.calls other.calls one.makes other.makes;
-    }
+-- after some clients there is room for one more, if there was for more than these
+pub cannot_come : (clients : List LiveClient) (all : ℕ) (had middle : Haves)
+    (old between new : CallerView) → length clients < all → Comes old clients had middle between
+    → Cannot (HasRoom middle 1) between new → Cannot (HasRoom had all) old new
+cannot_come clients all had middle old between new some comes cannot =
+    let many = comes.many in
+    cannot_then (HasRoom had all) (HasRoom middle 1) old between new comes.calls comes.makes
+    (λ first last room replay. let enough = room.room in record {
+      size = room.size;
+      room = omega (arith, many, some, enough);
+      came = comes.leads room.size (omega (arith, many, some, enough)) first last room.came replay;
+    })
+    cannot
 
 -- ---- an order
 
 pub orders_by : (clients : List LiveClient) (key : AnyKey) (order : Order TicketRecord)
-    (old joined asked new : CallerView) → Comes old clients joined
-    → CallerStep joined (Cancel key order) asked → Goes asked new → Orders old clients key order new
-orders_by clients key order old joined asked new comes step goes = record {
+    (had have : Haves) (old joined asked new : CallerView) → Comes old clients had have joined
+    → CallerStep joined (Cancel key order) asked → Calls asked new
+    → Orders old clients key order new
+orders_by clients key order had have old joined asked new comes step goes = record {
   calls = comes.calls;
   live = comes.live;
   more = goes.calls;
@@ -180,52 +220,67 @@ orders_by clients key order old joined asked new comes step goes = record {
       (makes_one joined (Cancel key order) asked step) goes.makes);
 }
 
--- the first of some calls
-replay_front : (some more : List Exchange) (first last : NodeView)
-    → Replay first (some ++ more) last → (middle : NodeView) × Replay first some middle
-replay_front [] more first last replay = (first, refl)
-replay_front (call ∷ some) more first last (next, step, replay) = let front =
-    replay_front some more next last replay in (front.0, (next, step, front.1))
+-- what came of a request can be handed back
+pub cannot_hand_back : (clients : List LiveClient) (key : AnyKey) (order : Order TicketRecord)
+    (had have : Haves) (old joined asked new : CallerView) → Comes old clients had have joined
+    → CallerStep joined (Cancel key order) asked
+    → Cannot (Asked have.passes have.leases (ticket_of order)) asked new
+    → Cannot (HasRoom had (length clients)) old new
+cannot_hand_back clients key order had have old joined asked new comes step cannot =
+    let many = comes.many in
+    cannot_then (HasRoom had (length clients)) (Rests have.passes have.leases) old joined new
+    comes.calls comes.makes
+    (λ first last room replay. let enough = room.room in
+    came_rests room.size have.passes have.leases last
+    (comes.leads room.size (omega (arith, many, enough)) first last room.came replay))
+    (cannot_then (Rests have.passes have.leases) (Asked have.passes have.leases (ticket_of order))
+    joined asked new (Cancel key order ∷ []) (makes_one joined (Cancel key order) asked step)
+    (leads_one (Rests have.passes have.leases) (Rests have.passes have.leases)
+    (Asked have.passes have.leases (ticket_of order)) (Cancel key order)
+    (λ v w rests stepped. cancel_leads have.passes have.leases v w key order rests stepped)) cannot)
 
-module _ (journal : JournalView) (first last : CallerView) (end : JournalView)
+-- the journal at the end, where there is one
+there : {S : Type 0} (last : CallerView) (end : Option (JournalValue S))
+    → IsSomeAnd end (λ j. IsWhole last (journal_view j)) → (j : JournalView) × IsWhole last j
+there last None is = absurd is
+there last (Some j) is = (journal_view j, is)
+
+module _ {S : Type 0} (journal : JournalView) (first last : CallerView) (end : Option (JournalValue S))
     (started : first.start ≡ journal) (all : first.allowance + all_calls journal.log.totals ≡ CALL_LIMIT)
     (counts : all_calls first.tally ≡ all_calls journal.log.totals)
     (nothing : (first.made ≡ []) × (first.places ≡ []))
-    (whole : last.allowance + all_calls last.tally ≡ CALL_LIMIT → IsWhole last end) where
+    (whole : last.allowance + all_calls last.tally ≡ CALL_LIMIT
+      → IsSomeAnd end (λ j. IsWhole last (journal_view j))) where
   -- a first caller that has all of its lock made calls that led to the journal's view
-  replayed : (calls : List Exchange) → Makes first calls last → Replay journal.view calls end.view
+  replayed : (calls : List Exchange) → Makes first calls last
+      → (view : NodeView) × Replay journal.view calls view
   replayed calls makes =
       let left = makes.allowance in
       let counted = makes.count in
-      let is_whole = whole (omega (arith, all, counts, left, counted)) in
+      let found = there last end (whole (omega (arith, all, counts, left, counted))) in
+      let is_whole = found.1 in
       let in_order : AllPairs (λ one later. one < later) first.places =
       rw nothing.1 (λ i j d lt within. absurd (omega arith)) in
       let are : is_whole.calls ≡ calls = is_whole.in_order (makes.order in_order) ∙ makes.made
       ∙ ap (λ made. made ++ calls) nothing.0 in
-      subst (λ start. Replay start.view calls end.view) (makes.start ∙ started)
-      (subst (λ all_made. Replay last.start.view all_made end.view) are is_whole.replay)
+      (
+        found.0.view,
+        subst (λ start. Replay start.view calls found.0.view) (makes.start ∙ started)
+            (subst (λ all_made. Replay last.start.view all_made found.0.view) are is_whole.replay),
+      )
 
   pub may_order : (clients : List LiveClient) (key : AnyKey) (order : Order TicketRecord)
       → Orders first clients key order last → MayOrder journal.view clients key order
   may_order clients key order orders =
       let replay = replayed (orders.calls ++ Cancel key order ∷ orders.more) orders.makes in
-      let front = replay_front (orders.calls ++ Cancel key order ∷ []) orders.more journal.view
-      end.view (subst (λ calls. Replay journal.view calls end.view)
-      (sym (append_assoc orders.calls (Cancel key order ∷ []) orders.more)) replay) in
+      let front = replay_split (orders.calls ++ Cancel key order ∷ []) orders.more journal.view
+      replay.0 (subst (λ calls. Replay journal.view calls replay.0)
+      (sym (append_assoc orders.calls (Cancel key order ∷ []) orders.more)) replay.1) in
       record { calls = orders.calls; live = orders.live; last = front.0; replay = front.1 }
 
-  pub may_reply : (given : Reply) → Stops first given last → MayReply journal.view given
-  may_reply given stops =
-      let say = stops.say in
-      let replay = subst (λ calls. Replay journal.view calls end.view) say.are
-      (replayed stops.calls stops.makes) in
-      let front = replay_front (say.before ++ say.call ∷ []) say.after journal.view end.view
-      (subst (λ calls. Replay journal.view calls end.view)
-      (sym (append_assoc say.before (say.call ∷ []) say.after)) replay) in
-      record {
-        calls = say.before;
-        call = say.call;
-        says = say.says;
-        last = front.0;
-        replay = front.1;
-      }
+  -- the node gave no reply that isn't expected
+  pub cannot_be : (had : Haves) (many : ℕ) → HasRoom had many journal.view
+      → Cannot (HasRoom had many) first last → ⊥
+  cannot_be had many room cannot =
+      let made = replayed cannot.calls cannot.makes in
+      cannot.never journal.view made.0 room made.1

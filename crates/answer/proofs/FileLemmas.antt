@@ -11,7 +11,7 @@ use Rattle.world.specs.declared.event.Event.{Event}
 use Rattle.answer.specs.declared.fault.Fault.{Fault}
 use Rattle.answer.specs.declared.fault.Fault.TheVariants as fault
 use Rattle.answer.proofs.WordList.{AllZip-next}
-use Rattle.answer.specs.Files.{Folder, Says, SayInOrder, HasFault, IsFirstFault, IsGroupFault, MakeNoGroup, IsFileFault, IsUnread, IsCheckFault}
+use Rattle.answer.specs.Files.{Folder, Says, SayInOrder, HasFault, IsFirstFault, IsGroupFault, MakeNoGroup, IsFileFault, IsReached, IsCheckFault}
 use Rattle.answer.specs.Scripts.{SaysNoGroup, SaysScript}
 use Rattle.std.specs.Result.{IfErr, IsErrAnd}
 
@@ -21,16 +21,17 @@ pub passed_on : {T E : Type 0} (r : Result T E) (e : E) (P : E → Type 0) → I
 passed_on (Err y) e P is holds = subst P (sym is) holds
 passed_on (Ok x) e P never holds = absurd never
 
+-- the file at a place says what one node more is
+pub SayInOrder-next : (holds : List ℕ → Option (List ℕ)) (files : List (Bor (List ℕ))) (i : ℕ)
+    (d : Bor (List ℕ)) (nodes : List NodeSettings) (node : NodeSettings) → i < length files
+    → SayInOrder holds (map (λ w. w.now) (take i files)) nodes
+    → Says (holds (get_or files i d).now) node
+    → SayInOrder holds (map (λ w. w.now) (take (i + 1) files)) (nodes ++ node ∷ [])
+SayInOrder-next holds files i d nodes node within said says =
+    AllZip-next (λ file n. Says (holds file) n) files i nodes d node within said says
+
 module _ (folder : Folder) (files : List (Bor (List ℕ))) (i : ℕ) (d : Bor (List ℕ))
     (nodes : List NodeSettings) where
-  -- the file at a place says what one node more is
-  pub SayInOrder-next : (node : NodeSettings) → i < length files
-      → SayInOrder folder (map (λ w. w.now) (take i files)) nodes
-      → Says (folder (get_or files i d).now) node
-      → SayInOrder folder (map (λ w. w.now) (take (i + 1) files)) (nodes ++ node ∷ [])
-  SayInOrder-next node within said says =
-      AllZip-next (λ file n. Says (folder file) n) files i nodes d node within said says
-
   -- the file at a place stands between the others
   place_at : i < length files → map (λ w. w.now) files ≡ map (λ w. w.now) (take i files)
       ++ (get_or files i d).now ∷ map (λ w. w.now) (drop (suc i) files)
@@ -43,8 +44,8 @@ module _ (folder : Folder) (files : List (Bor (List ℕ))) (i : ℕ) (d : Bor (L
 
   -- the file at a place is the first with a fault
   pub IsFirstFault-at : (error : IniError) → i < length files
-      → SayInOrder folder (map (λ w. w.now) (take i files)) nodes
-      → HasFault (folder (get_or files i d).now) error
+      → SayInOrder folder.holds (map (λ w. w.now) (take i files)) nodes
+      → HasFault (folder.holds (get_or files i d).now) error
       → IsFirstFault folder (map (λ w. w.now) files) (get_or files i d).now error
   IsFirstFault-at error within said fault = record {
     before = map (λ w. w.now) (take i files);
@@ -55,10 +56,10 @@ module _ (folder : Folder) (files : List (Bor (List ℕ))) (i : ℕ) (d : Bor (L
     fault = fault;
   }
 
-  -- the file at a place can't be read
-  pub IsUnread-at : i < length files → SayInOrder folder (map (λ w. w.now) (take i files)) nodes
-      → IsUnread folder (map (λ w. w.now) files) (get_or files i d).now
-  IsUnread-at within said = record {
+  -- the file at a place is reached
+  pub IsReached-at : i < length files → SayInOrder folder.holds (map (λ w. w.now) (take i files)) nodes
+      → IsReached folder (map (λ w. w.now) files) (get_or files i d).now
+  IsReached-at within said = record {
     before = map (λ w. w.now) (take i files);
     after = map (λ w. w.now) (drop (suc i) files);
     place = place_at within;
@@ -68,15 +69,22 @@ module _ (folder : Folder) (files : List (Bor (List ℕ))) (i : ℕ) (d : Bor (L
 
   -- the fault of the file at a place
   pub IsCheckFault-at : (f : Fault) → i < length files
-      → SayInOrder folder (map (λ w. w.now) (take i files)) nodes
-      → IsFileFault (folder (get_or files i d).now) (get_or files i d).now f
+      → SayInOrder folder.holds (map (λ w. w.now) (take i files)) nodes
+      → IsFileFault folder (get_or files i d).now f
       → IsCheckFault folder (map (λ w. w.now) files) f
-  IsCheckFault-at (fault.InFile file error) within said (same, inl memory) = inl memory
+  IsCheckFault-at (fault.InFile file error) within said (same, inl memory) =
+      inl (
+        memory,
+        subst (IsReached folder (map (λ w. w.now) files)) (sym same)
+            (IsReached-at within said),
+      )
   IsCheckFault-at (fault.InFile file error) within said (same, inr fault) =
       inr (subst (λ name. IsFirstFault folder (map (λ w. w.now) files) name error) (sym same)
       (IsFirstFault-at error within said fault))
-  IsCheckFault-at (fault.Unread file reason) within said same =
-      subst (IsUnread folder (map (λ w. w.now) files)) (sym same) (IsUnread-at within said)
+  IsCheckFault-at (fault.Unread file reason) within said (same, unreadable) = (
+    subst (IsReached folder (map (λ w. w.now) files)) (sym same) (IsReached-at within said),
+    subst folder.unreadable (sym same) unreadable,
+  )
   IsCheckFault-at fault.Memory within said _ = tt
   IsCheckFault-at (fault.Usage text) within said never = absurd never
   IsCheckFault-at (fault.InScript file line) within said never = absurd never
@@ -98,7 +106,7 @@ group_fault nodes Memory zero same missing = inl refl
 
 -- nodes of files that are no group
 pub MakeNoGroup-of : (folder : Folder) (files : List (List ℕ)) (nodes : List NodeSettings)
-    (error : GroupError) → SayInOrder folder files nodes
+    (error : GroupError) → SayInOrder folder.holds files nodes
     → (error ≡ Memory) ⊎ IsGroupFault nodes error
     → (error ≡ Memory) ⊎ MakeNoGroup folder files error
 MakeNoGroup-of folder files nodes error said (inl memory) = inl memory

@@ -1,5 +1,14 @@
+pub mod Places
+pub mod ClientSteps
+pub mod LinkSteps
+pub mod BackSteps
+pub mod NewNodes
 pub mod CallLemmas
+pub mod ComingLemmas
+pub mod LeavingLemmas
 pub mod FileLemmas
 pub mod PacketLemmas
 pub mod WordList
+pub mod PrintingLemmas
+pub mod ReadingLemmas
 pub mod WritingLemmas

@@ -3,10 +3,11 @@ use Rattle.std.proofs.Common.{◌≡◌, ℕ, ◌+◌, List, ◌++◌, Option, S
 use Rattle.std.proofs.Math.Seq.{take-add}
 use Rattle.std.proofs.lemmas.List.{take-append-drop}
 use Rattle.std.proofs.KnownBytes.{Appends-trans}
-use Rattle.std.specs.Io.KnownBytes.{Appends, Keeps}
+use Rattle.std.specs.Io.KnownBytes.{Appends}
 use Rattle.answer.specs.declared.fault.Fault.{Fault}
 use Rattle.answer.specs.declared.fault.Fault.TheVariants.{Memory}
-use Rattle.answer.specs.Answer.{AppendsPart, Change, IsAnswer, IsFault, WritesFault}
+use Rattle.answer.specs.Answer.{IsAnswer, IsFault, WritesFault}
+use Rattle.answer.specs.Printing.{AppendsPart, Change}
 use Rattle.command_line.specs.Arguments.{Text}
 use Rattle.answer.specs.Files.{Folder}
 use Rattle.command_line.specs.Request.{Asked, Key, Decide, Check, World, Help, Version, asked}
@@ -42,9 +43,9 @@ memory_may_run_out folder (Some (Help topic)) = refl
 memory_may_run_out folder (Some Version) = refl
 
 -- a fault was written, or that memory ran out
-pub answers_fault : (folder : Folder) (arguments : List Text) (out err : Change) (fault : Fault)
-    (result : ℕ) → IsFault folder (asked arguments) fault → WritesFault fault err result
-    → Keeps out.old out.new → IsAnswer folder arguments out err result
+pub answers_fault : {W E : Type 0} (folder : Folder) (arguments : List Text) (out : Change W)
+    (err : Change E) (fault : Fault) (result : ℕ) → IsFault folder (asked arguments) fault
+    → WritesFault fault err result → out.new ≡ out.old → IsAnswer folder arguments out err result
 answers_fault folder arguments out err fault result is (inl written) keeps =
     inr (fault, is, written, keeps)
 answers_fault folder arguments out err fault result is (inr written) keeps =

@@ -1,7 +1,6 @@
 -- The answer to each list of arguments, by what the files contain (own): what is written on both
 -- outputs, and the exit status (`IsAnswer`).
 use Rattle.std.specs.Prelude.{ℕ, ◌≡◌, ◌⊎◌, ◌<◌, true, List, ◌++◌, Option, Some, None, Err, length, max, ⊤}
-use Rattle.std.specs.Io.KnownBytes.{Appends, Keeps}
 use Rattle.pg_ids.specs.AnyKey.{IsAnyKey, any_key_bytes}
 use Rattle.pg_ids.specs.declared.any_key.AnyKey.{AnyKey}
 use Rattle.startup.specs.Kinds.{none_seen}
@@ -14,10 +13,11 @@ use Rattle.ini_config.specs.Node.{NodeSettings}
 use Rattle.lease.specs.declared.ticket.TicketRecord.{TicketRecord}
 use Rattle.node_core.specs.declared.exchange.Order.{Order}
 use Rattle.answer.specs.declared.fault.Fault.{Fault}
-use Rattle.answer.specs.declared.fault.Fault.TheVariants.{Usage, Packet, NotACancel, Unexpected, Memory}
+use Rattle.answer.specs.declared.fault.Fault.TheVariants.{Usage, Packet, NotACancel, Memory}
 use Rattle.command_line.specs.Arguments.{Text}
 use Rattle.command_line.specs.Request.{Asked, Decision, Key, Decide, Check, World, Help, Version, asked}
-use Rattle.answer.specs.Decision.{IsDecided, Gives}
+use Rattle.answer.specs.Decision.{IsDecided}
+use Rattle.answer.specs.Printing.{Change, IsWritten}
 use Rattle.answer.specs.Files.{Folder, IsGroupLine, IsCheckFault}
 use Rattle.answer.specs.Scripts.{HasOutcome, IsWorldFault}
 use Rattle.answer.specs.Texts.{key_text, order_text, fault_text}
@@ -87,9 +87,8 @@ IsPacketFault packet NotACancel = AsksElse packet
 IsPacketFault packet Memory = ⊤
 IsPacketFault packet _ = ⊥
 
--- why there is no order: a fault of the packet, or an unexpected reply of the node
+-- why there is no order: a fault of the packet; the node gives no reply that isn't expected
 abbrev pub IsDecideFault : Decision → Fault → Type 0
-IsDecideFault given (Unexpected reply) = Gives (settings_in given) reply
 IsDecideFault given fault = IsPacketFault given.packet fault
 
 -- ---- all requests
@@ -103,8 +102,8 @@ abbrev pub IsOutput : Folder → Option Asked → Text → Type 0
 IsOutput folder None text = ⊥
 IsOutput folder (Some (Key bytes)) text = IsKeyLine bytes text
 IsOutput folder (Some (Decide given)) text = IsOrderLine given text
-IsOutput folder (Some (Check files)) text = IsGroupLine folder files text
-IsOutput folder (Some (World file)) text = HasOutcome (folder file) text
+IsOutput folder (Some (Check files)) text = IsGroupLine folder.holds files text
+IsOutput folder (Some (World file)) text = HasOutcome (folder.holds file) text
 IsOutput folder (Some (Help topic)) text = ⊤
 IsOutput folder (Some Version) text = ⊤
 
@@ -120,41 +119,21 @@ IsFault folder None fault = IsUsage fault
 IsFault folder (Some (Key bytes)) fault = IsMemoryFault fault
 IsFault folder (Some (Decide given)) fault = IsDecideFault given fault
 IsFault folder (Some (Check files)) fault = IsCheckFault folder files fault
-IsFault folder (Some (World file)) fault = IsWorldFault (folder file) file fault
+IsFault folder (Some (World file)) fault = IsWorldFault folder file fault
 IsFault folder (Some (Help topic)) fault = IsMemoryFault fault
 IsFault folder (Some Version) fault = IsMemoryFault fault
 
--- known bytes grow by a beginning of the text, or stay
-pub record AppendsPart (old new : Option (List ℕ)) (text : List ℕ) : Type 0 where
-  pub part : List ℕ
-  pub rest : List ℕ
-  pub text_is : text ≡ part ++ rest
-  pub appends : Appends old new part
-
--- bytes that a writer holds before and after
-pub record Change : Type 0 where
-  pub old : Option (List ℕ)
-  pub new : Option (List ℕ)
-
--- the text was written whole, with this status; or the writer failed, and a beginning was written,
--- with status 1
-abbrev pub IsWritten : Change → Text → ℕ → ℕ → Type 0
-IsWritten writer text status result =
-    ((result ≡ status) × Appends writer.old writer.new text)
-    ⊎ ((result ≡ 1) × AppendsPart writer.old writer.new text)
-
 -- the fault was written, or where there was no memory for its text, that memory ran out
-abbrev pub WritesFault : Fault → Change → ℕ → Type 0
+abbrev pub WritesFault : {T : Type 0} → Fault → Change T → ℕ → Type 0
 WritesFault fault err result =
     IsWritten err (fault_text fault) (status_of fault) result
     ⊎ IsWritten err (fault_text Memory) (status_of Memory) result
 
--- The answer to arguments, by what files hold: a text on standard output and nothing on standard
--- error, with status 0; or a fault on standard error and nothing on standard output, with its
--- status.
-abbrev pub IsAnswer : Folder → List Text → Change → Change → ℕ → Type 0
+-- The answer to arguments, by what files hold: a text on standard output, with status 0; or a fault
+-- on standard error, with its status. Of the other output no call is made.
+abbrev pub IsAnswer : {W E : Type 0} → Folder → List Text → Change W → Change E → ℕ → Type 0
 IsAnswer folder arguments out err result =
     ((text : Text) × IsOutput folder (asked arguments) text
-    × IsWritten out text 0 result × Keeps err.old err.new)
+    × IsWritten out text 0 result × (err.new ≡ err.old))
     ⊎ ((fault : Fault) × IsFault folder (asked arguments) fault
-    × IsWritten err (fault_text fault) (status_of fault) result × Keeps out.old out.new)
+    × IsWritten err (fault_text fault) (status_of fault) result × (out.new ≡ out.old))

@@ -1,6 +1,7 @@
 -- What `decide` asks of a node (own): a fresh node with boot 0, the logins of clients with these
--- secrets, a link for each that has a server key, and then the cancel request.
-use Rattle.std.specs.Prelude.{ℕ, ◌≡◌, ◌+◌, ◌<◌, List, [], ◌∷◌, ◌++◌, AllPairs, Option, Some, None, length, Ok, Err, ⊤}
+-- secrets, a link for each that has a server key, and then the cancel request. `Cannot`: no node
+-- gives a caller these replies.
+use Rattle.std.specs.Prelude.{ℕ, ◌≡◌, ◌+◌, ◌<◌, ◌≤◌, List, [], ◌∷◌, ◌++◌, AllPairs, Option, Some, None, length, map, Ok, Err}
 use Rattle.pg_ids.specs.declared.any_key.AnyKey.{AnyKey}
 use Rattle.pg_ids.specs.declared.any_key.Kind.TheVariants as kind
 use Rattle.ini_config.specs.Node.{NodeSettings}
@@ -23,10 +24,11 @@ use Rattle.node_core.specs.declared.refusal.StepRefusal.TheVariants.{Stale, Exha
 use Rattle.locked_node.specs.Replay.{Replay}
 use Rattle.locked_node.specs.Totals.{all_calls}
 use Rattle.locked_node.specs.Lock.{CallerView, CallerStep}
-use Rattle.answer.specs.declared.fault.Fault.{Fault}
-use Rattle.answer.specs.declared.fault.Fault.TheVariants.{Unexpected, Memory}
+use Rattle.lease.specs.LinkValue.{LinkValue}
+use Rattle.answer.specs.declared.held.Held.{Held}
 use Rattle.answer.specs.declared.fault.Reply.{Reply}
 use Rattle.answer.specs.declared.fault.Reply.TheVariants as reply
+use Rattle.answer.specs.Attended.{Came, Joined, Rests, Asked}
 use Rattle.command_line.specs.declared.live_client.LiveClient.{LiveClient}
 
 -- ---- which calls are made
@@ -83,14 +85,6 @@ abbrev pub leave_reply : Option PassRecord → LeaveReply PassRecord
 leave_reply None = leave.Left
 leave_reply (Some held) = leave.Holding held
 
--- one of these calls has this reply, which isn't expected
-pub record SayIn (calls : List Exchange) (given : Reply) : Type 0 where
-  pub before : List Exchange
-  pub call : Exchange
-  pub after : List Exchange
-  pub are : calls ≡ before ++ call ∷ after
-  pub says : reply_of call ≡ Some given
-
 -- ---- what a caller makes
 
 -- a caller's calls are in the order of their places
@@ -107,25 +101,112 @@ pub record Makes (old : CallerView) (calls : List Exchange) (new : CallerView) :
   pub order : IsInOrder old → IsInOrder new
 
 -- a caller made one call, whose reply isn't expected
-pub record Trips (old : CallerView) (given : Reply) (new : CallerView) : Type 0 where
-  pub call : Exchange
-  pub step : CallerStep old call new
-  pub says : reply_of call ≡ Some given
+pub record Trips {R : Type 0} (old : CallerView) (ask : R → Exchange) (given : Reply)
+    (new : CallerView) : Type 0 where
+  pub reply : R
+  pub step : CallerStep old (ask reply) new
+  pub says : reply_of (ask reply) ≡ Some given
 
--- a caller made calls, one of which has this reply, which isn't expected
-pub record Stops (old : CallerView) (given : Reply) (new : CallerView) : Type 0 where
+-- ---- what calls lead to
+
+-- a node of which the first is true is one of which the second is, after these calls
+abbrev pub Leads : (NodeView → Type 0) → List Exchange → (NodeView → Type 0) → Type 0
+Leads Before calls After = (first last : NodeView) → Before first → Replay first calls last
+    → After last
+
+-- a caller made calls that no node of which this is true allows
+pub record Cannot (Before : NodeView → Type 0) (old new : CallerView) : Type 0 where
   pub calls : List Exchange
   pub makes : Makes old calls new
-  pub say : SayIn calls given
+  pub never : Leads Before calls (λ _. ⊥)
+
+-- what leases say
+abbrev pub leases_of : {S : Type 0} → List (LinkValue S) → List LinkRecord
+leases_of leases = map (λ lease. lease.details) leases
+
+-- a caller made the calls by which a client that came opens its link
+pub record Opens (old : CallerView) (pass : PassRecord) (key : List ℕ)
+    (leases more : List LinkRecord) (new : CallerView) : Type 0 where
+  pub calls : List Exchange
+  pub opening : AreOpening pass (Some key) calls
+  pub makes : Makes old calls new
+  pub leads : (size : ℕ) (passes : List PassRecord)
+      → Leads (Joined size passes pass leases) calls (Came size (passes ++ pass ∷ []) more)
+
+-- clients came, the last with this pass, which has nothing yet
+abbrev pub MayOpen : PassRecord → List LinkRecord → NodeView → Type 0
+MayOpen pass leases view = (size : ℕ) × (passes : List PassRecord)
+    × Joined size passes pass leases view
+
+-- what clients have: their passes, and the leases of those that have a link
+pub record Haves : Type 0 where
+  pub passes : List PassRecord
+  pub leases : List LinkRecord
+
+-- the same of values
+abbrev pub has : Held → Haves
+has held = record { passes = held.passes.items; leases = leases_of held.leases.items }
+
+-- clients that have this came, and there is a slot and a place for each of so many more
+pub record HasRoom (had : Haves) (more : ℕ) (view : NodeView) : Type 0 where
+  pub size : ℕ
+  pub room : length had.passes + more ≤ size
+  pub came : Came size had.passes had.leases view
 
 -- a caller made the calls by which these clients come
-pub record Comes (old : CallerView) (clients : List LiveClient) (new : CallerView) : Type 0 where
+pub record Comes (old : CallerView) (clients : List LiveClient) (had have : Haves)
+    (new : CallerView) : Type 0 where
   pub calls : List Exchange
   pub live : AreLive clients calls
   pub makes : Makes old calls new
+  pub many : length have.passes ≡ length had.passes + length clients
+  pub leads : (size : ℕ) → length have.passes ≤ size
+      → Leads (Came size had.passes had.leases) calls (Came size have.passes have.leases)
+
+-- the request was decided on, which left this ticket
+abbrev pub WasAsked : Option TicketRecord → NodeView → Type 0
+WasAsked ticket view = (passes : List PassRecord) × (leases : List LinkRecord)
+    × Asked passes leases ticket view
+
+-- a caller made the calls by which the request of this ticket is reported
+pub record Reports (old : CallerView) (ticket : Option TicketRecord) (new : CallerView)
+    : Type 0 where
+  pub calls : List Exchange
+  pub makes : Makes old calls new
+  pub leads : (passes : List PassRecord) (leases : List LinkRecord)
+      → Leads (Asked passes leases ticket) calls (Rests passes leases)
+
+-- a caller made the calls by which these links are closed, but for those that are left
+pub record Closes (old : CallerView) (leases left : List LinkRecord) (new : CallerView)
+    : Type 0 where
+  pub calls : List Exchange
+  pub makes : Makes old calls new
+  pub leads : (passes : List PassRecord) → Leads (Rests passes leases) calls (Rests passes left)
+
+-- clients that have these links have nothing else
+abbrev pub SomeRest : List LinkRecord → NodeView → Type 0
+SomeRest leases view = (passes : List PassRecord) × Rests passes leases view
+
+-- a caller made the calls by which clients with these passes leave, but for those that are left
+pub record Leaves (old : CallerView) (passes left : List PassRecord) (new : CallerView)
+    : Type 0 where
+  pub calls : List Exchange
+  pub makes : Makes old calls new
+  pub leads : Leads (Rests passes []) calls (Rests left [])
+
+-- a caller made the calls by which the client of a pass leaves
+pub record Goes (old : CallerView) (pass : PassRecord) (new : CallerView) : Type 0 where
+  pub calls : List Exchange
+  pub makes : Makes old calls new
+  pub leads : (passes : List PassRecord)
+      → Leads (Rests (passes ++ pass ∷ []) []) calls (Rests passes [])
+
+-- the client of this pass is the last of those who came, none of whom has a link
+abbrev pub IsLast : PassRecord → NodeView → Type 0
+IsLast pass view = (passes : List PassRecord) × Rests (passes ++ pass ∷ []) [] view
 
 -- a caller made some calls
-pub record Goes (old new : CallerView) : Type 0 where
+pub record Calls (old new : CallerView) : Type 0 where
   pub calls : List Exchange
   pub makes : Makes old calls new
 
@@ -147,34 +228,9 @@ pub record MayOrder (first : NodeView) (clients : List LiveClient) (key : AnyKey
   pub last : NodeView
   pub replay : Replay first (calls ++ Cancel key order ∷ []) last
 
--- from this view some calls lead to one with this reply, which isn't expected
-pub record MayReply (first : NodeView) (given : Reply) : Type 0 where
-  pub calls : List Exchange
-  pub call : Exchange
-  pub says : reply_of call ≡ Some given
-  pub last : NodeView
-  pub replay : Replay first (calls ++ call ∷ []) last
-
 -- a new node of boot 0 to which these clients came may give this order for a request with this key
 pub record IsDecided (settings : NodeSettings) (clients : List LiveClient) (key : AnyKey)
     (order : Order TicketRecord) : Type 0 where
   pub fresh : NodeView
   pub made : IsFresh settings 0 fresh
   pub order_is : MayOrder fresh clients key order
-
--- a new node of boot 0 may give this reply, which isn't expected, to a call behind others
-pub record Gives (settings : NodeSettings) (given : Reply) : Type 0 where
-  pub fresh : NodeView
-  pub made : IsFresh settings 0 fresh
-  pub reply_is : MayReply fresh given
-
--- the node may give a reply that isn't expected, or memory ran out
-abbrev pub IsReplyFault : NodeView → Fault → Type 0
-IsReplyFault first (Unexpected given) = MayReply first given
-IsReplyFault first Memory = ⊤
-IsReplyFault first _ = ⊥
-
-abbrev pub IsNodeFault : NodeSettings → Fault → Type 0
-IsNodeFault settings (Unexpected given) = Gives settings given
-IsNodeFault settings Memory = ⊤
-IsNodeFault settings _ = ⊥

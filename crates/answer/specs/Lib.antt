@@ -1,6 +1,11 @@
 pub mod Texts
 pub mod Statuses
+pub mod Attended
 pub mod Decision
+pub mod Reading
+pub mod ReadingFaults
 pub mod Files
 pub mod Scripts
+pub mod Printing
 pub mod Answer
+pub mod Seeds

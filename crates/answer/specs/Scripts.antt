@@ -14,7 +14,7 @@ use Rattle.world_script.specs.Script.{IsScript, IsFirstFault}
 use Rattle.world_script.specs.Outcome.{outcome}
 use Rattle.answer.specs.declared.fault.Fault.{Fault}
 use Rattle.answer.specs.declared.fault.Fault.TheVariants as fault
-use Rattle.answer.specs.Files.{Holds, IsGroupFault}
+use Rattle.answer.specs.Files.{Folder, Holds, IsGroupFault}
 
 -- the file's text is a script of these nodes and events
 pub record SaysScript (known : Option (List ℕ)) (nodes : List NodeSettings) (events : List Event)
@@ -55,15 +55,17 @@ pub record SaysNoGroup (known : Option (List ℕ)) (error : GroupError) : Type 0
 
 -- Why the file with this name says no script: its first fault, or that it can't be read; or memory
 -- ran out.
-abbrev pub IsScriptFault : Option (List ℕ) → List ℕ → Fault → Type 0
-IsScriptFault known name (fault.InScript file line) = (string_bytes file ≡ name)
-    × HasBadLine known line
-IsScriptFault known name (fault.Unread file reason) = string_bytes file ≡ name
-IsScriptFault known name fault.Memory = ⊤
-IsScriptFault known name _ = ⊥
+abbrev pub IsScriptFault : Folder → List ℕ → Fault → Type 0
+IsScriptFault folder name (fault.InScript file line) = (string_bytes file ≡ name)
+    × HasBadLine (folder.holds name) line
+IsScriptFault folder name (fault.Unread file reason) = (string_bytes file ≡ name)
+    × folder.unreadable name
+IsScriptFault folder name fault.Memory = ⊤
+IsScriptFault folder name _ = ⊥
 
 -- why the file with this name has no outcome: it says no script, or its nodes are no group; or
 -- memory ran out
-abbrev pub IsWorldFault : Option (List ℕ) → List ℕ → Fault → Type 0
-IsWorldFault known name (fault.OfGroup error) = (error ≡ group.Memory) ⊎ SaysNoGroup known error
-IsWorldFault known name fault = IsScriptFault known name fault
+abbrev pub IsWorldFault : Folder → List ℕ → Fault → Type 0
+IsWorldFault folder name (fault.OfGroup error) = (error ≡ group.Memory)
+    ⊎ SaysNoGroup (folder.holds name) error
+IsWorldFault folder name fault = IsScriptFault folder name fault

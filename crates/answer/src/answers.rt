@@ -1,11 +1,13 @@
 //! The program's answer to its arguments.
-ghost use Rattle.std.specs.Prelude.{◌≡◌, IfErr, IfOk, Some, map, string_bytes, true};
-ghost use Rattle.std.specs.Io.KnownBytes.{Appends, Keeps};
+ghost use Rattle.std.specs.Prelude.{◌≡◌, ℕ, IfErr, IfOk, Some, [], map, string_bytes, true, false};
+ghost use Rattle.std.specs.Io.KnownBytes.{Appends};
 ghost use Rattle.pg_ids.specs.AnyKey.{IsAnyKey};
 ghost use Rattle.command_line.specs.declared.wrong.Wrong.TheVariants as wrongs;
 ghost use Rattle.answer.specs.declared.fault.Fault.TheVariants.{Memory};
-ghost use Rattle.answer.specs.Answer.{AppendsPart, IsAnswer, IsFault, IsOutput, IsUsage, IsWritten, WritesFault};
+ghost use Rattle.answer.specs.Answer.{IsAnswer, IsFault, IsOutput, IsUsage, WritesFault};
+ghost use Rattle.answer.specs.Printing.{AppendsPart, Change, IsWritten, Stops, Writes};
 ghost use Rattle.command_line.specs.Request.{asked, asked_in};
+ghost use Rattle.answer.specs.Files.{folder_of};
 ghost use Rattle.answer.specs.Statuses.{status_of};
 ghost use Rattle.answer.specs.Texts.{fault_text, key_text, part_text};
 
@@ -14,17 +16,17 @@ use crate::decide::decide_line;
 use crate::fault::Fault;
 use crate::opener::Opener;
 use crate::outcome::outcome_text;
+use crate::output::{Output, is_interrupted};
 use command_line::{Request, Wrong, help, usage, version};
 use pg_ids::{AnyKey, LongPart};
 use std::alloc::{AllocError, Global};
-use std::io::{ErrorKind, Write};
 use std::sync::Wait;
 
 /// Writes the answer to these arguments to `out`, or why there is none to `err`, and nothing else.
 /// Returns the status that the program ends with: 0 for an answer, 1 for a fault in running, 2 for
 /// arguments, settings, a script or a group that are refused. Where memory runs out the fault says
-/// so, and where a writer fails the status is 1.
-pub fn answer<R: Wait, O: Opener, W: Write, E: Write>(
+/// so. Where a write fails or takes nothing, or the flush fails, the status is 1.
+pub fn answer<R: Wait, O: Opener, W: Output, E: Output>(
     rt: &R,
     alloc: Global,
     arguments: &[&str],
@@ -32,9 +34,13 @@ pub fn answer<R: Wait, O: Opener, W: Write, E: Write>(
     out: &mut W,
     err: &mut E,
 ) -> u8
-    ensures { IsAnswer (O.text opener.now) (map (λ argument. argument.now) arguments.now)
-        (record { old = W.contents out.old; new = W.contents out.new })
-        (record { old = E.contents err.old; new = E.contents err.new }) result }
+    ensures { IsAnswer (folder_of (O.text opener.now) (O.opens opener.now) O.Reader.gave)
+        (map (λ argument. argument.now) arguments.now)
+        (record { wrote = W.wrote; flushed = W.flushed; holds = W.holds; old = out.old;
+        new = out.new })
+        (record { wrote = E.wrote; flushed = E.flushed; holds = E.holds; old = err.old;
+        new = err.new })
+        result }
 {
     match output(rt, alloc, arguments, opener) {
         Ok(text) => write(out, &text, 0),
@@ -49,9 +55,11 @@ fn output<R: Wait, O: Opener>(
     arguments: &[&str],
     opener: &O,
 ) -> Result<Vec<u8>, Fault>
-    ensures text { IfOk result (λ text. IsOutput (O.text opener.now)
+    ensures text { IfOk result (λ text. IsOutput
+        (folder_of (O.text opener.now) (O.opens opener.now) O.Reader.gave)
         (asked (map (λ argument. argument.now) arguments.now)) text.items) }
-    ensures fault { IfErr result (λ fault. IsFault (O.text opener.now)
+    ensures fault { IfErr result (λ fault. IsFault
+        (folder_of (O.text opener.now) (O.opens opener.now) O.Reader.gave)
         (asked (map (λ argument. argument.now) arguments.now)) fault) }
 {
     match Request::read(alloc, arguments) {
@@ -78,9 +86,12 @@ fn output_of<R: Wait, O: Opener>(
     request: Request<'_>,
     opener: &O,
 ) -> Result<Vec<u8>, Fault>
-    ensures text { IfOk result (λ text. IsOutput (O.text opener.now) (Some (asked_in request.entry))
+    ensures text { IfOk result (λ text. IsOutput
+        (folder_of (O.text opener.now) (O.opens opener.now) O.Reader.gave)
+        (Some (asked_in request.entry))
         text.items) }
-    ensures fault { IfErr result (λ fault. IsFault (O.text opener.now)
+    ensures fault { IfErr result (λ fault. IsFault
+        (folder_of (O.text opener.now) (O.opens opener.now) O.Reader.gave)
         (Some (asked_in request.entry)) fault) }
 {
     match request {
@@ -121,9 +132,14 @@ fn part_text(alloc: Global, part: Option<LongPart>) -> Result<String, AllocError
 }
 
 /// Writes a fault, and returns its status, or 1 where it can't be written.
-pub fn write_fault<W: Write>(alloc: Global, writer: &mut W, fault: &Fault) -> u8
-    ensures { WritesFault fault.now
-        (record { old = W.contents writer.old; new = W.contents writer.new }) result }
+pub fn write_fault<W: Output>(alloc: Global, writer: &mut W, fault: &Fault) -> u8
+    ensures { WritesFault fault.now (record {
+      wrote = W.wrote;
+      flushed = W.flushed;
+      holds = W.holds;
+      old = writer.old;
+      new = writer.new;
+    }) result }
 {
     match fault.text(alloc) {
         Ok(text) => write(writer, text.as_bytes(), fault.status()),
@@ -131,34 +147,62 @@ pub fn write_fault<W: Write>(alloc: Global, writer: &mut W, fault: &Fault) -> u8
     }
 }
 
-// Returns the status, or 1 where the text can't be written whole.
-fn write<W: Write>(writer: &mut W, text: &[u8], status: u8) -> u8
-    ensures { IsWritten (record { old = W.contents writer.old; new = W.contents writer.new })
-        text.now status result }
+// Writes and flushes the text. Returns the status, or 1 where that fails.
+fn write<W: Output>(writer: &mut W, text: &[u8], status: u8) -> u8
+    ensures { IsWritten (record {
+      wrote = W.wrote;
+      flushed = W.flushed;
+      holds = W.holds;
+      old = writer.old;
+      new = writer.new;
+    }) text.now status result }
 {
-    if write_whole(writer, text) && writer.flush().is_ok() {
-        status
-    } else {
-        1
+    if !write_whole(writer, text) {
+        return 1;
+    }
+    match writer.flush_once() {
+        Ok(()) => status,
+        Err(_) => 1,
     }
 }
 
 // Whether all bytes were written. Otherwise a beginning of them was.
-fn write_whole<W: Write>(writer: &mut W, bytes: &[u8]) -> bool
-    ensures whole { result ≡ true
-        → Appends (W.contents writer.old) (W.contents writer.new) bytes.now }
-    ensures part { AppendsPart (W.contents writer.old) (W.contents writer.new) bytes.now }
+fn write_whole<W: Output>(writer: &mut W, bytes: &[u8]) -> bool
+    ensures whole { result ≡ true → Appends (W.holds writer.old) (W.holds writer.new) bytes.now }
+    ensures part { AppendsPart (W.holds writer.old) (W.holds writer.new) bytes.now }
+    ensures writes { result ≡ true → (count : ℕ) × Writes (record {
+      wrote = W.wrote;
+      flushed = W.flushed;
+      holds = W.holds;
+      old = writer.old;
+      new = writer.new;
+    }) bytes.now []
+        count }
+    ensures stops { result ≡ false → Stops (record {
+      wrote = W.wrote;
+      flushed = W.flushed;
+      holds = W.holds;
+      old = writer.old;
+      new = writer.new;
+    }) bytes.now }
 {
     let mut taken = 0;
     for _ in 0..u64::MAX {
         if taken >= bytes.len() {
             return true;
         }
-        match writer.write(bytes.split_at(taken).1) {
-            Ok(0) => return false,
-            Ok(count) => taken += count,
-            Err(error) if error.kind() == ErrorKind::Interrupted => {}
-            Err(_) => return false,
+        match writer.write_once(bytes.split_at(taken).1) {
+            Ok(count) => {
+                if count == 0 {
+                    return false;
+                }
+                taken += count;
+            }
+            Err(error) => {
+                if !is_interrupted(&error) {
+                    return false;
+                }
+            }
         }
     }
     false

@@ -1,21 +1,21 @@
 //! `pgpeer check`: whether settings files make a group.
 ghost use Rattle.std.specs.Prelude.{◌≡◌, ◌⊎◌, IfErr, IfOk, MatchResult, String, map, string_bytes, IfSome};
-ghost use Rattle.answer.specs.Files.{IsCheckFault, IsFileFault, IsGroupLine, SayInOrder, Says};
+ghost use Rattle.answer.specs.Files.{folder_of, IsCheckFault, IsFileFault, IsGroupLine, SayInOrder, Says};
 ghost use Rattle.answer.specs.Texts.{group_text};
 
 use crate::fault::Fault;
-use crate::file_text::{file_text, unread};
+use crate::file_text::{NoText, file_text, unread};
 use crate::opener::Opener;
 use ini_config::{Group, GroupError, IniCode, IniError, Settings, read_settings};
 use std::alloc::Global;
-use std::io::ErrorKind;
 
 /// The line that names how many nodes these files make a group of, or the first fault: of a file, in
 /// the order of the arguments, or else of the group.
 pub fn check_line<O: Opener>(alloc: Global, opener: &O, files: &[&str]) -> Result<String, Fault>
     ensures group { IfOk result (λ line. IsGroupLine (O.text opener.now)
         (map (λ file. file.now) files.now) (string_bytes line)) }
-    ensures refused { IfErr result (λ fault. IsCheckFault (O.text opener.now)
+    ensures refused { IfErr result (λ fault. IsCheckFault
+        (folder_of (O.text opener.now) (O.opens opener.now) O.Reader.gave)
         (map (λ file. file.now) files.now) fault) }
 {
     let group = group_of(alloc, opener, files)?;
@@ -28,7 +28,8 @@ pub fn check_line<O: Opener>(alloc: Global, opener: &O, files: &[&str]) -> Resul
 pub fn group_of<O: Opener>(alloc: Global, opener: &O, files: &[&str]) -> Result<Group, Fault>
     ensures said { IfOk result (λ group. SayInOrder (O.text opener.now)
         (map (λ file. file.now) files.now) group) }
-    ensures refused { IfErr result (λ fault. IsCheckFault (O.text opener.now)
+    ensures refused { IfErr result (λ fault. IsCheckFault
+        (folder_of (O.text opener.now) (O.opens opener.now) O.Reader.gave)
         (map (λ file. file.now) files.now) fault) }
 {
     match Group::check(settings_of(alloc, opener, files)?) {
@@ -49,7 +50,8 @@ fn group_line(alloc: Global, count: usize) -> Result<String, Fault>
 fn settings_of<O: Opener>(alloc: Global, opener: &O, files: &[&str]) -> Result<Vec<Settings>, Fault>
     ensures said { IfOk result (λ nodes. SayInOrder (O.text opener.now)
         (map (λ file. file.now) files.now) nodes.items) }
-    ensures refused { IfErr result (λ fault. IsCheckFault (O.text opener.now)
+    ensures refused { IfErr result (λ fault. IsCheckFault
+        (folder_of (O.text opener.now) (O.opens opener.now) O.Reader.gave)
         (map (λ file. file.now) files.now) fault) }
 {
     let mut nodes = Vec::new(alloc);
@@ -66,7 +68,9 @@ fn settings_of<O: Opener>(alloc: Global, opener: &O, files: &[&str]) -> Result<V
 fn node_of<O: Opener>(alloc: Global, opener: &O, file: &str) -> Result<Settings, Fault>
     ensures said { IfOk result (λ node. Says (O.text opener.now file.now) node) }
     ensures refused { IfErr result
-        (λ fault. IsFileFault (O.text opener.now file.now) file.now fault) }
+        (λ fault. IsFileFault
+        (folder_of (O.text opener.now) (O.opens opener.now) O.Reader.gave)
+        file.now fault) }
 {
     let text = settings_text(alloc, opener, file)?;
     match read_settings(alloc, text.as_str()) {
@@ -80,14 +84,14 @@ fn settings_text<O: Opener>(alloc: Global, opener: &O, file: &str) -> Result<Str
     ensures held { IfOk result (λ text. IfSome (O.text opener.now file.now)
         (λ bytes. string_bytes text ≡ bytes)) }
     ensures refused { IfErr result
-        (λ fault. IsFileFault (O.text opener.now file.now) file.now fault) }
+        (λ fault. IsFileFault
+        (folder_of (O.text opener.now) (O.opens opener.now) O.Reader.gave)
+        file.now fault) }
 {
     match file_text(alloc, opener, file) {
         Ok(text) => Ok(text),
-        Err(error) if error.kind() == ErrorKind::OutOfMemory => {
-            Err(in_file(alloc, file, OUT_OF_MEMORY))
-        }
-        Err(error) => Err(unread(alloc, file, &error)),
+        Err(NoText::Memory) => Err(in_file(alloc, file, OUT_OF_MEMORY)),
+        Err(why) => Err(unread(alloc, file, &why)),
     }
 }
 

@@ -1,7 +1,6 @@
 //! Clients come to a node behind its lock.
-ghost use Rattle.std.specs.Prelude.{◌≡◌, ◌+◌, ◌*◌, ◌<◌, ◌≤◌, Some, List, MatchResult, OnOk, length, vec_len, vec_capacity};
-ghost use Rattle.node_core.specs.declared.exchange.Exchange.{Exchange};
-ghost use Rattle.answer.specs.Decision.{AreOpening, Comes, IsComing, Makes, Stops};
+ghost use Rattle.std.specs.Prelude.{◌≡◌, ◌+◌, ◌*◌, ◌<◌, ◌≤◌, [], ◌∷◌, MatchResult, OnOk, length, vec_len, vec_capacity};
+ghost use Rattle.answer.specs.Decision.{Cannot, Comes, HasRoom, MayOpen, Opens, has, leases_of};
 
 use crate::fault::Reply;
 use crate::held::{Held, NoStream};
@@ -13,7 +12,8 @@ use pg_ids::ServerKey;
 use std::sync::Wait;
 
 /// Each client comes, in order: it joins with its secret, and then opens its link, if it has a
-/// server's key. The first that gets a reply that isn't expected is the last.
+/// server's key. The first that gets a reply that isn't expected is the last, but where there is
+/// room for all no node gives one.
 pub fn all_come<R: Wait>(
     rt: &R,
     shared: &Shared<NoStream>,
@@ -27,8 +27,8 @@ pub fn all_come<R: Wait>(
     requires passes { vec_len held.old.passes + length clients.now ≤ vec_capacity held.old.passes }
     requires leases { vec_len held.old.leases + length clients.now ≤ vec_capacity held.old.leases }
     ensures came { MatchResult result
-        (λ _. Comes caller.old clients.now caller.new)
-        (λ reply. Stops caller.old reply caller.new) }
+        (λ _. Comes caller.old clients.now (has held.old) (has held.new) caller.new)
+        (λ _. Cannot (HasRoom (has held.old) (length clients.now)) caller.old caller.new) }
     ensures allowance { OnOk result
         (caller.old.allowance ≤ caller.new.allowance + 3 * length clients.now) }
     ensures passes { OnOk result
@@ -56,9 +56,8 @@ fn come<R: Wait>(
     requires passes { vec_len held.old.passes < vec_capacity held.old.passes }
     requires leases { vec_len held.old.leases < vec_capacity held.old.leases }
     ensures came { MatchResult result
-        (λ _. (calls : List Exchange) × IsComing client.now calls
-        × Makes caller.old calls caller.new)
-        (λ reply. Stops caller.old reply caller.new) }
+        (λ _. Comes caller.old (client.now ∷ []) (has held.old) (has held.new) caller.new)
+        (λ _. Cannot (HasRoom (has held.old) 1) caller.old caller.new) }
     ensures allowance { OnOk result (caller.old.allowance ≤ caller.new.allowance + 3) }
     ensures passes { OnOk result ((vec_capacity held.new.passes ≡ vec_capacity held.old.passes)
         × (vec_len held.new.passes ≤ vec_len held.old.passes + 1)) }
@@ -87,9 +86,9 @@ fn open_link<R: Wait>(
     requires allowance { 2 ≤ caller.old.allowance }
     requires room { vec_len leases.old < vec_capacity leases.old }
     ensures opened { MatchResult result
-        (λ _. (calls : List Exchange) × AreOpening pass.now (Some key) calls
-        × Makes caller.old calls caller.new)
-        (λ reply. Stops caller.old reply caller.new) }
+        (λ _. Opens caller.old pass.now key (leases_of leases.old.items)
+        (leases_of leases.new.items) caller.new)
+        (λ _. Cannot (MayOpen pass.now (leases_of leases.old.items)) caller.old caller.new) }
     ensures allowance { OnOk result (caller.old.allowance ≤ caller.new.allowance + 2) }
     ensures room { OnOk result ((vec_capacity leases.new ≡ vec_capacity leases.old)
         × (vec_len leases.new ≤ vec_len leases.old + 1)) }

@@ -3,7 +3,8 @@ ghost use Rattle.std.specs.Prelude.{◌≡◌, ◌≢◌, ◌+◌, ◌*◌, ◌<
 ghost use Rattle.ini_config.specs.Plain.{plain_settings};
 ghost use Rattle.node_core.specs.View.{IsFresh};
 ghost use Rattle.locked_node.specs.Totals.{all_calls};
-ghost use Rattle.answer.specs.Decision.{IsDecided, IsNodeFault, IsReplyFault, MayOrder, Orders, Stops};
+ghost use Rattle.answer.specs.Attended.{ticket_of};
+ghost use Rattle.answer.specs.Decision.{Cannot, HasRoom, IsDecided, MayOrder, Orders, has};
 
 use crate::coming::all_come;
 use crate::fault::{Fault, Reply};
@@ -39,8 +40,7 @@ pub fn decided<R: Wait>(
     ensures { MatchResult result
         (λ order. IsDecided (plain_settings me peers.items
         (max (length clients.now) 1) (max (length clients.now) 1)) clients.now key order)
-        (λ fault. IsNodeFault (plain_settings me peers.items
-        (max (length clients.now) 1) (max (length clients.now) 1)) fault) }
+        (λ fault. fault ≡ Fault.Memory) }
 {
     let journal = fresh_journal(alloc, me, peers, clients.len().max(1))?;
     let mut held = Held::with_room(alloc, clients.len())?;
@@ -80,6 +80,7 @@ fn ordered<R: Wait>(
     held: &mut Held,
 ) -> Result<Order<TicketRecord>, Fault>
     requires few { length clients.now ≤ 65535 }
+    requires room { HasRoom (has held.old) (length clients.now) journal.view }
     requires database { 0 < length journal.view.pools }
     requires calls { all_calls journal.log.totals ≡ 0 }
     requires none { (vec_len held.old.passes ≡ 0) × (vec_len held.old.leases ≡ 0) }
@@ -87,12 +88,12 @@ fn ordered<R: Wait>(
     requires leases { length clients.now ≤ vec_capacity held.old.leases }
     ensures { MatchResult result
         (λ order. MayOrder journal.view clients.now key order)
-        (λ fault. IsReplyFault journal.view fault) }
+        (λ fault. fault ≡ Fault.Memory) }
 {
     let (shared, mut caller) = Shared::new(alloc, journal)?;
     let order = order_behind(rt, &shared, &mut caller, clients, key, held);
     // The calls of this caller led to the journal's state: that is what says which replies the node
-    // may give.
+    // may give, and that it gave none that isn't expected.
     shared.into_journal(caller);
     match order {
         Ok(order) => Ok(order),
@@ -117,7 +118,7 @@ fn order_behind<R: Wait>(
     requires leases { length clients.now ≤ vec_capacity held.old.leases }
     ensures { MatchResult result
         (λ order. Orders caller.old clients.now key order caller.new)
-        (λ reply. Stops caller.old reply caller.new) }
+        (λ _. Cannot (HasRoom (has held.old) (length clients.now)) caller.old caller.new) }
 {
     all_come(rt, shared, caller, clients, held)?;
     let (order, ticket) = apart(shared.cancel(rt, caller, key));
@@ -127,7 +128,8 @@ fn order_behind<R: Wait>(
 
 // What an order says, and its ticket.
 fn apart(order: Order<Ticket>) -> (Order<TicketRecord>, Option<Ticket>)
-    ensures { result.0 ≡ order }
+    ensures order { result.0 ≡ order }
+    ensures ticket { result.1 ≡ ticket_of order }
 {
     match order {
         Order::Serve(ticket, database, key) => (

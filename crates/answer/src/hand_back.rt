@@ -1,6 +1,7 @@
 //! What clients hold, and the ticket of an order, handed back to their node.
-ghost use Rattle.std.specs.Prelude.{◌≡◌, ◌+◌, ◌*◌, ◌≤◌, MatchResult, OnOk, vec_len};
-ghost use Rattle.answer.specs.Decision.{Goes, Stops};
+ghost use Rattle.std.specs.Prelude.{◌≡◌, ◌+◌, ◌*◌, ◌≤◌, [], MatchResult, OnOk, vec_len};
+ghost use Rattle.answer.specs.Attended.{Asked, Rests};
+ghost use Rattle.answer.specs.Decision.{Calls, Cannot, Closes, Goes, IsLast, Leaves, Reports, SomeRest, WasAsked, leases_of};
 
 use crate::fault::Reply;
 use crate::held::{Held, NoStream};
@@ -12,7 +13,7 @@ use std::sync::Wait;
 
 /// The request of a ticket is reported as failed, since nothing was carried. Then each link is
 /// closed, and then each client leaves. Each value is spent by a step of the node. The first reply
-/// that isn't expected ends it.
+/// that isn't expected ends it, but no node to which these clients came gives one.
 pub fn hand_back<R: Wait>(
     rt: &R,
     shared: &Shared<NoStream>,
@@ -24,8 +25,9 @@ pub fn hand_back<R: Wait>(
     requires allowance { 1 + vec_len held.old.leases + 2 * vec_len held.old.passes
         ≤ caller.old.allowance }
     ensures handed { MatchResult result
-        (λ _. Goes caller.old caller.new)
-        (λ reply. Stops caller.old reply caller.new) }
+        (λ _. Calls caller.old caller.new)
+        (λ _. Cannot (Asked held.old.passes.items (leases_of held.old.leases.items) ticket)
+        caller.old caller.new) }
     ensures all { OnOk result ((vec_len held.new.leases ≡ 0) × (vec_len held.new.passes ≡ 0)) }
 {
     report(rt, shared, caller, ticket)?;
@@ -43,8 +45,8 @@ fn report<R: Wait>(
     requires own { caller.old.lock ≡ shared.now }
     requires allowance { 1 ≤ caller.old.allowance }
     ensures reported { MatchResult result
-        (λ _. Goes caller.old caller.new)
-        (λ reply. Stops caller.old reply caller.new) }
+        (λ _. Reports caller.old ticket caller.new)
+        (λ _. Cannot (WasAsked ticket) caller.old caller.new) }
     ensures allowance { OnOk result (caller.old.allowance ≤ caller.new.allowance + 1) }
 {
     match ticket {
@@ -63,8 +65,8 @@ fn close_all<R: Wait>(
     requires own { caller.old.lock ≡ shared.now }
     requires allowance { vec_len leases.old ≤ caller.old.allowance }
     ensures closed { MatchResult result
-        (λ _. Goes caller.old caller.new)
-        (λ reply. Stops caller.old reply caller.new) }
+        (λ _. Closes caller.old (leases_of leases.old.items) [] caller.new)
+        (λ _. Cannot (SomeRest (leases_of leases.old.items)) caller.old caller.new) }
     ensures allowance { OnOk result
         (caller.old.allowance ≤ caller.new.allowance + vec_len leases.old) }
     ensures all { OnOk result (vec_len leases.new ≡ 0) }
@@ -85,8 +87,8 @@ fn leave_all<R: Wait>(
     requires own { caller.old.lock ≡ shared.now }
     requires allowance { 2 * vec_len passes.old ≤ caller.old.allowance }
     ensures left { MatchResult result
-        (λ _. Goes caller.old caller.new)
-        (λ reply. Stops caller.old reply caller.new) }
+        (λ _. Leaves caller.old passes.old.items [] caller.new)
+        (λ _. Cannot (Rests passes.old.items []) caller.old caller.new) }
     ensures all { OnOk result (vec_len passes.new ≡ 0) }
 {
     while let Some(pass) = passes.pop() {
@@ -106,8 +108,8 @@ fn leave_twice<R: Wait>(
     requires own { caller.old.lock ≡ shared.now }
     requires allowance { 2 ≤ caller.old.allowance }
     ensures left { MatchResult result
-        (λ _. Goes caller.old caller.new)
-        (λ reply. Stops caller.old reply caller.new) }
+        (λ _. Goes caller.old pass caller.new)
+        (λ _. Cannot (IsLast pass) caller.old caller.new) }
     ensures allowance { OnOk result (caller.old.allowance ≤ caller.new.allowance + 2) }
 {
     let Some(pass) = leave(rt, shared, caller, pass)? else {

@@ -1,5 +1,5 @@
 //! What the clients of a node hold until it is handed back.
-ghost use Rattle.std.specs.Prelude.{◌≡◌, ◌≤◌, IfOk, vec_capacity, vec_len};
+ghost use Rattle.std.specs.Prelude.{◌≡◌, ◌≤◌, [], IfOk, vec_capacity, vec_len};
 
 use lease::{Lease, Pass};
 use std::alloc::{AllocError, Global};
@@ -20,6 +20,7 @@ impl Held {
     /// Nothing, with room for what this many clients hold.
     pub fn with_room(alloc: Global, clients: usize) -> Result<Held, AllocError>
         ensures none { IfOk result (λ held. (vec_len held.passes ≡ 0) × (vec_len held.leases ≡ 0)) }
+        ensures empty { IfOk result (λ held. (held.passes.items ≡ []) × (held.leases.items ≡ [])) }
         ensures passes { IfOk result (λ held. clients ≤ vec_capacity held.passes) }
         ensures leases { IfOk result (λ held. clients ≤ vec_capacity held.leases) }
     {

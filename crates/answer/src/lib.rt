@@ -10,11 +10,17 @@ mod fault;
 mod file_text;
 mod hand_back;
 mod held;
+mod input;
 mod opener;
 mod outcome;
+mod output;
+mod seed;
 mod steps;
 
 pub use answers::{answer, usage_fault, write_fault};
 pub use check::group_of;
 pub use fault::{Fault, Reply};
+pub use input::Input;
 pub use opener::{Disk, Opener};
+pub use output::Output;
+pub use seed::seed_of;

@@ -1,14 +1,14 @@
 //! `pgpeer world`: what the events of a script bring about.
 ghost use Rattle.std.specs.Prelude.{◌≡◌, ◌⊎◌, IfErr, IfOk, MatchResult, String, string_bytes};
 ghost use Rattle.world_script.specs.Outcome.{outcome};
+ghost use Rattle.answer.specs.Files.{folder_of};
 ghost use Rattle.answer.specs.Scripts.{HasOutcome, IsScriptFault, IsWorldFault, RunsTo, SaysScript};
 
 use crate::fault::Fault;
-use crate::file_text::{file_text, unread};
+use crate::file_text::{NoText, file_text, unread};
 use crate::opener::Opener;
 use ini_config::Group;
 use std::alloc::Global;
-use std::io::ErrorKind;
 use world::{Event, Took, World, run};
 use world_script::{Script, ScriptError, read_script, write_outcome};
 
@@ -17,7 +17,9 @@ pub fn outcome_text<O: Opener>(alloc: Global, opener: &O, file: &str) -> Result<
     ensures outcome { IfOk result
         (λ text. HasOutcome (O.text opener.now file.now) text.items) }
     ensures refused { IfErr result
-        (λ fault. IsWorldFault (O.text opener.now file.now) file.now fault) }
+        (λ fault. IsWorldFault
+        (folder_of (O.text opener.now) (O.opens opener.now) O.Reader.gave)
+        file.now fault) }
 {
     let Script { nodes, events } = script_of(alloc, opener, file)?;
     match Group::check(nodes) {
@@ -54,12 +56,14 @@ fn script_of<O: Opener>(alloc: Global, opener: &O, file: &str) -> Result<Script,
     ensures said { IfOk result (λ script. SaysScript (O.text opener.now file.now)
         script.nodes.items script.events.items) }
     ensures refused { IfErr result
-        (λ fault. IsScriptFault (O.text opener.now file.now) file.now fault) }
+        (λ fault. IsScriptFault
+        (folder_of (O.text opener.now) (O.opens opener.now) O.Reader.gave)
+        file.now fault) }
 {
     let text = match file_text(alloc, opener, file) {
         Ok(text) => text,
-        Err(error) if error.kind() == ErrorKind::OutOfMemory => return Err(Fault::Memory),
-        Err(error) => return Err(unread(alloc, file, &error)),
+        Err(NoText::Memory) => return Err(Fault::Memory),
+        Err(why) => return Err(unread(alloc, file, &why)),
     };
     match read_script(alloc, text.as_str()) {
         Ok(script) => Ok(script),

@@ -40,7 +40,7 @@ pub fn join<R: Wait>(
     requires allowance { 0 < caller.old.allowance }
     ensures { MatchResult result
         (λ pass. CallerStep caller.old (call.Join 0 secret kind.Short (Ok pass)) caller.new)
-        (λ reply. Trips caller.old reply caller.new) }
+        (λ given. Trips caller.old (λ said. call.Join 0 secret kind.Short said) given caller.new) }
 {
     pass_in(shared.join(rt, caller, DATABASE, secret, Kind::Short))
 }
@@ -67,7 +67,7 @@ pub fn acquire<R: Wait>(
     requires allowance { 0 < caller.old.allowance }
     ensures { MatchResult result
         (λ permit. CallerStep caller.old (call.Acquire pass.now (acquire.Open permit)) caller.new)
-        (λ reply. Trips caller.old reply caller.new) }
+        (λ given. Trips caller.old (λ said. call.Acquire pass.now said) given caller.new) }
 {
     permit_in(shared.acquire(rt, caller, pass))
 }
@@ -103,7 +103,7 @@ pub fn up<R: Wait>(
     requires allowance { 0 < caller.old.allowance }
     ensures { MatchResult result
         (λ lease. CallerStep caller.old (call.Up permit key (up.Up lease.details)) caller.new)
-        (λ reply. Trips caller.old reply caller.new) }
+        (λ given. Trips caller.old (λ said. call.Up permit key said) given caller.new) }
 {
     lease_in(shared.up(rt, caller, permit, NoStream, key))
 }
@@ -135,7 +135,7 @@ pub fn report_failed<R: Wait>(
     requires allowance { 0 < caller.old.allowance }
     ensures { MatchResult result
         (λ _. CallerStep caller.old (call.Failed ticket failing.Condemned) caller.new)
-        (λ reply. Trips caller.old reply caller.new) }
+        (λ given. Trips caller.old (λ said. call.Failed ticket said) given caller.new) }
 {
     condemned_in(shared.failed(rt, caller, ticket))
 }
@@ -164,7 +164,7 @@ pub fn close<R: Wait>(
     requires allowance { 0 < caller.old.allowance }
     ensures { MatchResult result
         (λ _. CallerStep caller.old (call.Close lease.details (closing.Closed tt)) caller.new)
-        (λ reply. Trips caller.old reply caller.new) }
+        (λ given. Trips caller.old (λ said. call.Close lease.details said) given caller.new) }
 {
     closed_in(shared.close(rt, caller, lease))
 }
@@ -192,7 +192,7 @@ pub fn leave<R: Wait>(
     requires allowance { 0 < caller.old.allowance }
     ensures { MatchResult result
         (λ again. CallerStep caller.old (call.Leave pass (leave_reply again)) caller.new)
-        (λ reply. Trips caller.old reply caller.new) }
+        (λ given. Trips caller.old (λ said. call.Leave pass said) given caller.new) }
 {
     left_in(shared.leave(rt, caller, pass))
 }

@@ -1,5 +1,5 @@
 use Rattle.std.proofs.Common.{◌≡◌, ◌+◌, ◌≤◌, vec_len}
-use Rattle.answer.specs.Decision.{Goes}
+use Rattle.answer.specs.Decision.{Closes, leases_of}
 use Rattle.answer.proofs.hand_back.close_all.Given as goal
 
 -- the links so far were closed, each by a call
@@ -7,7 +7,7 @@ abbrev pub invariant-loop-lease : goal.invariant-loop-lease
 invariant-loop-lease g l =
     record {
       lock : l.caller.lock ≡ l.shared;
-      goes : Goes l.fn.caller l.caller;
+      closes : Closes l.fn.caller (leases_of l.fn.leases.items) (leases_of l.leases.items) l.caller;
       allowance : l.fn.caller.allowance + vec_len l.leases
           ≤ l.caller.allowance + vec_len l.fn.leases;
     }
