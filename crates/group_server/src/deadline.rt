@@ -8,7 +8,7 @@ use std::time::{Clock, Duration};
 pub struct Deadline(Duration);
 
 impl Deadline {
-    /// The time so many milliseconds from now.
+    /// The time that is `millis` milliseconds from now.
     pub fn after<R: Clock>(rt: &R, millis: u64) -> io::Result<Deadline> {
         let now = rt.monotonic()?;
         Ok(Deadline(now.saturating_add(Duration::from_millis(millis))))

@@ -40,7 +40,7 @@ impl Needs {
         }
     }
 
-    /// How many connections there may be in a process with so many descriptors. Links get as many
+    /// How many connections there may be in a process with this many descriptors. Links get as many
     /// as the pools may have, but no more than half, and cancel requests no more than an eighth.
     pub fn room(self, descriptors: usize) -> Room
         // The process, the links and the cancel requests keep theirs.

@@ -6,7 +6,7 @@ use std::os::fd::RawFd;
 use std::sync::{Mutex, Wait};
 use std::time::{Clock, Duration};
 
-/// The door by which the connections of a process come in: there are only so many at a time, and
+/// The door by which the connections of a process come in: their number is bounded, and
 /// where one more comes, the oldest that is in its first packets is closed. So strangers that say
 /// nothing keep nobody out, and descriptors are left for links and cancel requests.
 #[derive(Drop)]
@@ -31,7 +31,7 @@ impl Doorway {
         arrival.newcomer
     }
 
-    /// Closes the oldest connection in its first packets that has been there for so many
+    /// Closes the oldest connection in its first packets that has been there for `age`
     /// milliseconds, since a thread or a descriptor is wanted.
     pub fn make_room<R: Wait + Clock>(&self, rt: &R, age: u64) {
         let Ok(now) = rt.monotonic() else {

@@ -38,7 +38,7 @@ fn part<M: Machine>(machine: &M, connection: &Connection, is_sending: bool) -> i
     drain(machine, connection, deadline, ENDING_PAUSE_MILLIS)
 }
 
-// Reads the last byte of a cancel request that is settled, or whose sender was told that it isn't.
+// Reads the last byte of a cancel request that is settled, or whose sender got the byte E.
 fn settle<M: Machine>(connection: &Connection, client: &ClientStream<'_, M>) {
     if client.holds_cancel() {
         let mut socket = connection.socket();
@@ -46,7 +46,7 @@ fn settle<M: Machine>(connection: &Connection, client: &ClientStream<'_, M>) {
     }
 }
 
-// Reads what a client sends, until it is silent for so many milliseconds. It fails if the client
+// Reads what a client sends, until it is silent for some milliseconds. It fails if the client
 // has ended the connection, or if the time is over.
 fn drain<M: Machine>(
     machine: &M,

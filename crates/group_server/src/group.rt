@@ -10,6 +10,7 @@ use ini_config::Group;
 use node_threads::Calling;
 use pg_ids::Boot;
 use std::alloc::{AllocError, Global};
+use std::io::Write;
 use std::net::TcpListener;
 use std::sync::Arc;
 use std::{io, thread};
@@ -23,7 +24,7 @@ pub enum ServeError {
     Memory,
     /// A thread can't be started.
     Thread,
-    /// Standard output can't be written to.
+    /// It can't be said that the group listens.
     Output,
 }
 
@@ -119,34 +120,41 @@ impl<H: Host> Listening<H> {
     }
 }
 
-/// Binds the addresses of a group, says `listening PORT` on standard output, and serves clients.
-/// Fails if an address can't be listened at, memory or a thread is refused, or standard output is
-/// closed.
-pub fn serve_group<H: Host + Print>(
+/// Binds the addresses of a group, says `listening PORT` on `out`, and serves clients. Fails if an
+/// address can't be listened at, memory or a thread is refused, or `out` can't be written to.
+pub fn serve_group<H: Host, W: Write>(
     host: &H,
     alloc: Global,
     group: Group,
     front: u16,
     seed: [u8; 32],
     boot: u32,
+    out: &mut W,
 ) -> Result<(), ServeError> {
     match Listening::bind(host, alloc, group, front, seed, boot) {
-        Ok(listening) => say_and_serve(host, alloc, listening, front),
+        Ok(listening) => say_and_serve(host, alloc, listening, front, out),
         Err(error) => Err(error),
     }
 }
 
 // Says that a group listens, and serves its clients.
-fn say_and_serve<H: Host + Print>(
+fn say_and_serve<H: Host, W: Write>(
     host: &H,
     alloc: Global,
     listening: Listening<H>,
     front: u16,
+    out: &mut W,
 ) -> Result<(), ServeError> {
-    if println!(host; "listening {front}").is_err() {
-        return Err(ServeError::Output);
-    }
+    say_listening(out, front)?;
     listening.serve(host, alloc)
+}
+
+/// Says `listening PORT`. Fails if `out` can't be written to.
+pub fn say_listening<W: Write>(out: &mut W, port: u16) -> Result<(), ServeError> {
+    match writeln!(out, "listening {port}") {
+        Ok(()) => Ok(()),
+        Err(_) => Err(ServeError::Output),
+    }
 }
 
 // Writes notices in a thread apart.

@@ -64,8 +64,8 @@ impl Guests {
         }
     }
 
-    /// A connection comes on this socket at this time. Where there is no room, the oldest that is in
-    /// its first packets is closed for it, if there is one.
+    /// A connection comes on this socket at this time. Where there is no room, the oldest that is
+    /// in its first packets is closed for it, if there is one.
     pub fn arrive(&mut self, socket: RawFd, now: Duration) -> Arrival {
         let ousted = if self.is_full() {
             self.oust(Duration::MAX)

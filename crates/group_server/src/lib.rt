@@ -30,7 +30,7 @@ pub use descriptors::{Needs, descriptor_limit};
 pub use dialer::{ClientDialer, Dialer};
 pub use doorway::Doorway;
 pub use first_packet::{Asks, FirstPacket, Next};
-pub use group::{Listening, ServeError, serve_group};
+pub use group::{Listening, ServeError, say_listening, serve_group};
 pub use guests::{Arrival, Guests, Newcomer, Room};
 pub use host::{Host, Machine};
 pub use last_words::find_error;

@@ -25,8 +25,8 @@ pub const WRITE_MILLIS: u64 = 50;
 /// How long a client may go on to send at the end of its connection.
 pub const ENDING_MILLIS: u64 = 5_000;
 
-/// How long it may be silent then, before it is told that nothing more comes, if it was in the midst
-/// of sending.
+/// How long it may be silent then, before its connection is shut down, if it was in the midst of
+/// sending.
 pub const SENDING_PAUSE_MILLIS: u64 = 200;
 
 /// How long it may be silent then, after that.

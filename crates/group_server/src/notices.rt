@@ -73,8 +73,8 @@ impl Notices {
         true
     }
 
-    /// Gives a notice with this text. It is left out where as many wait as may, or where there is no
-    /// memory for it.
+    /// Gives a notice with this text. It is left out where as many wait as may, or where there is
+    /// no memory for it.
     pub fn give<R: Wait, E: Drop>(&self, rt: &R, text: Result<String, E>) {
         self.queue.lock(rt).push(text.ok());
         self.filled.notify_one();

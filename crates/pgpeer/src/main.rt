@@ -1,17 +1,10 @@
-//! The program `pgpeer`: its arguments are handed to `answer`, with the files and the writers, or a
-//! group of nodes or a stand-in server runs.
+//! The program `pgpeer`: its arguments, the files and the writers are handed to `running`.
 #![tactic(auto)]
 
-mod serving;
-mod standing_in;
-
-use crate::serving::serve;
-use crate::standing_in::stand_in;
-use answer::{Disk, Fault, answer, group_of, usage_fault, write_fault};
-use command_line::Running;
-use group_server::ServeError;
+use answer::{Disk, Fault, write_fault};
+use running::execute;
 use std::alloc::{AllocError, Global};
-use std::io::{Eprint, ErrorKind};
+use std::io::{Eprint, ErrorKind, Write};
 use std::net::{Net, TcpListener, TcpStream};
 use std::process::ExitCode;
 use std::sync::Wait;
@@ -28,55 +21,25 @@ fn main(rt: HostRuntime) -> ExitCode {
         return failed(&rt, &Fault::Memory);
     };
     let opener = Disk::new(&rt);
-    let running = match Running::read(alloc, &arguments) {
-        Ok(running) => running,
-        Err(wrong) => return failed(&rt, &usage_fault(alloc, &arguments, wrong)),
-    };
-    let Some(running) = running else {
-        let (mut out, mut err) = (rt.stdout(), rt.stderr());
-        return ExitCode::from(answer(&rt, alloc, &arguments, &opener, &mut out, &mut err));
-    };
-    match run(&rt, alloc, &opener, running) {
-        Ok(()) => ExitCode::from(1),
-        Err(fault) => failed(&rt, &fault),
-    }
+    let (mut out, mut err) = (rt.stdout(), rt.stderr());
+    ExitCode::from(run(&rt, alloc, &arguments, &opener, &mut out, &mut err))
 }
 
-// Runs a group of nodes or a stand-in server, until the process is stopped. It ends only where it
-// can't run, and says why.
+// Does what the arguments ask for. Returns the status that the program ends with.
 fn run<
     H: Net<Listener = TcpListener, Stream = TcpStream>
         + Wait
         + Threads
         + Clock
         + Eprint
-        + Print
         + Copy
         + Send
         + Sync
         + 'static,
->(host: &H, alloc: Global, opener: &Disk<'_>, running: Running<'_>) -> Result<(), Fault> {
-    let ended = match running {
-        Running::Serve(request) => {
-            let group = group_of(alloc, opener, &request.files)?;
-            serve(host, alloc, group, &request)
-        }
-        Running::Stub(request) => stand_in(host, alloc, request.port, request.mode),
-    };
-    match ended {
-        Ok(()) => {}
-        Err(ServeError::Port(port)) => {
-            let _ = eprintln!(host; "cannot listen {port}");
-        }
-        Err(ServeError::Memory) => return Err(Fault::Memory),
-        Err(ServeError::Thread) => {
-            let _ = eprintln!(host; "cannot start a thread");
-        }
-        Err(ServeError::Output) => {
-            let _ = eprintln!(host; "cannot write to standard output");
-        }
-    }
-    Ok(())
+    O: Write,
+    E: Write,
+>(host: &H, alloc: Global, arguments: &[&str], opener: &Disk<'_>, out: &mut O, err: &mut E) -> u8 {
+    execute(host, alloc, arguments, opener, out, err)
 }
 
 // The arguments, without the program's name.

@@ -1,10 +1,10 @@
-//! Stand-in servers: `pgpeer stub` runs one, and `pgpeer serve --stand-in` those that its settings
-//! name.
-use command_line::StubMode;
-use group_server::{Host, ServeError};
+//! Stand-in servers: `stub` runs one, and `serve --stand-in` those that its settings name.
+use command_line::{StubMode, StubRequest};
+use group_server::{Host, ServeError, say_listening};
 use ini_config::Group;
 use pg_ids::DatabaseNo;
 use std::alloc::{AllocError, Global};
+use std::io::Write;
 use std::net::TcpListener;
 use std::sync::Arc;
 use std::thread;
@@ -13,19 +13,17 @@ use stub_server::{Mode, Server, serve};
 // Where stand-in servers listen.
 const ADDRESS: &str = "127.0.0.1";
 
-/// Runs a stand-in server at this port, until the process is stopped. Fails if the port can't be
-/// listened at, memory is refused, or standard output can't be written to.
-pub(crate) fn stand_in<H: Host + Print>(
+/// Runs a stand-in server, until the process is stopped. Fails if its port can't be listened at,
+/// memory is refused, or `out` can't be written to.
+pub(crate) fn stand_in<H: Host, W: Write>(
     host: &H,
     alloc: Global,
-    port: u16,
-    mode: StubMode,
+    request: StubRequest,
+    out: &mut W,
 ) -> Result<(), ServeError> {
-    let listener = listen(host, port)?;
-    let server = new_server(alloc, mode_of(mode))?;
-    if println!(host; "listening {port}").is_err() {
-        return Err(ServeError::Output);
-    }
+    let listener = listen(host, request.port)?;
+    let server = new_server(alloc, mode_of(request.mode))?;
+    say_listening(out, request.port)?;
     serve(host, &server, &listener);
     Ok(())
 }

@@ -1,0 +1,8 @@
+//! The commands that run until the process is stopped.
+#![tactic(auto)]
+
+mod command;
+mod serving;
+mod standing_in;
+
+pub use command::{execute, run};

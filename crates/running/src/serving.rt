@@ -1,0 +1,23 @@
+//! `serve`: a group of nodes serves clients, until the process is stopped.
+use crate::standing_in::stand_in_for_servers;
+use command_line::ServeRequest;
+use group_server::{Host, ServeError, serve_group};
+use ini_config::Group;
+use std::alloc::Global;
+use std::io::Write;
+
+/// Serves the nodes of a group, with stand-in servers where the request asks for them, and secrets
+/// from this seed. It returns only where it can't serve.
+pub(crate) fn serve<H: Host, W: Write>(
+    host: &H,
+    alloc: Global,
+    group: Group,
+    request: &ServeRequest<'_>,
+    seed: [u8; 32],
+    out: &mut W,
+) -> Result<(), ServeError> {
+    if request.stand_in {
+        stand_in_for_servers(host, alloc, &group)?;
+    }
+    serve_group(host, alloc, group, request.front, seed, request.boot, out)
+}
