@@ -35,6 +35,34 @@ impl Until<'_> {
     }
 }
 
+// Whether these bytes stand somewhere among others.
+fn contains(got: &[u8], bytes: &[u8]) -> bool {
+    for start in 0..got.len() {
+        if got.split_at(start).1.starts_with(bytes) {
+            return true;
+        }
+    }
+    false
+}
+
+// How a connection was closed behind these bytes. A client is told of out of memory before its
+// greeting alone, and of a lost server where the stand-in server closed its link.
+fn closed(got: &[u8]) -> &'static str {
+    if !contains(got, b"SFATAL\0") {
+        "the connection was closed"
+    } else if got
+        .split_at(got.len().min(5))
+        .1
+        .starts_with(b"SFATAL\0VFATAL\0C53200\0")
+    {
+        "the connection was closed: out of memory"
+    } else if contains(got, b"SFATAL\0VFATAL\0C08006\0") {
+        "the connection was closed: a server was lost"
+    } else {
+        "the connection was closed by an error"
+    }
+}
+
 // A cancel request for a key, to the node at a port.
 #[derive(Drop)]
 pub(crate) struct Cancel {
@@ -132,7 +160,7 @@ impl Client {
                 return Ok(got);
             }
             if at_end {
-                return Err(Fail::from("the connection was closed"));
+                return Err(Fail::from(closed(got.as_slice())));
             }
         }
         Err(Fail::from("no answer within the limit of turns"))

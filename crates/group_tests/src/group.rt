@@ -78,13 +78,18 @@ fn start_group<R: TestHost>(rt: &R, group: Group, front: u16) -> Result<(), Fail
     let listens = Arc::new(rt.alloc(), AtomicBool::new(false))?;
     let (own, theirs) = (*rt, Arc::try_clone(&listens)?);
     thread::spawn(rt, move || serve_group(&own, group, front, theirs)).map_err(AllocError::from)?;
+    await_listening(rt, &listens)
+}
+
+// Waits until this is so.
+pub(crate) fn await_listening<R: TestHost>(rt: &R, listens: &AtomicBool) -> Result<(), Fail> {
     for _turn in 0..TURNS {
         if listens.load(Ordering::SeqCst) {
             return Ok(());
         }
         thread::sleep(rt, Duration::from_millis(1));
     }
-    Err(Fail::from("the group doesn't listen"))
+    Err(Fail::from("nothing listens"))
 }
 
 // Serves a group, and tells when it listens.

@@ -1,4 +1,4 @@
-//! What a client is told of what its server said at last.
+//! What a client gets of what its server said at last.
 use group_server::find_error;
 use std::process::Abort;
 use std::test::Fail;

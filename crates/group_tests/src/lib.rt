@@ -10,6 +10,8 @@ mod circle;
 #[cfg(test)]
 mod client;
 #[cfg(test)]
+mod commands;
+#[cfg(test)]
 mod condemned;
 #[cfg(test)]
 mod console_client;
@@ -17,6 +19,8 @@ mod console_client;
 mod databases;
 #[cfg(test)]
 mod descriptors;
+#[cfg(test)]
+mod files;
 #[cfg(test)]
 mod first_packets;
 #[cfg(test)]

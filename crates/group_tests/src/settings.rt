@@ -42,6 +42,20 @@ pub(crate) fn group_before(
     Ok(Group::check(nodes)?)
 }
 
+// The texts of the settings of such nodes, one for each.
+pub(crate) fn texts(
+    alloc: Global,
+    ports: &[u16],
+    servers: &[u16],
+    leads: &[&[usize]],
+) -> Result<Vec<String>, AllocError> {
+    let mut texts = Vec::new(alloc);
+    for (place, leads) in leads.iter().enumerate() {
+        texts.push(text(alloc, ports, servers, place, leads)?)?;
+    }
+    Ok(texts)
+}
+
 // The settings of the node at a place.
 fn settings(
     alloc: Global,

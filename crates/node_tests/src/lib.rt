@@ -1,5 +1,5 @@
-//! Tests of a node, of its settings, its lock and its console by public calls alone. What owns a
-//! node is tested here, since each crate that does proves anew how a node is dropped.
+//! Tests of a node, of its refusals, its settings, its lock and its console by public calls alone.
+//! What owns a node is tested here, since each crate that does proves anew how a node is dropped.
 #![tactic(auto)]
 
 #[cfg(test)]
@@ -8,5 +8,7 @@ mod console_rows;
 mod lock;
 #[cfg(test)]
 mod node;
+#[cfg(test)]
+mod refusals;
 #[cfg(test)]
 mod settings;

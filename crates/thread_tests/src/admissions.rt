@@ -250,7 +250,7 @@ fn wait_often<R: Wait + Clock>(rt: &R, entrance: &Entrance<'_>, waits: &Waits, d
     done.store(true, Ordering::SeqCst);
 }
 
-// It is told to ask, until it is done.
+// It is made to ask, until it is done.
 fn tell_often<R: Wait>(rt: &R, admission: &Admission, done: &AtomicBool) {
     for _ in rt.forever() {
         if done.load(Ordering::SeqCst) {
@@ -280,7 +280,7 @@ fn wait_and_tell<R: Threads + Wait + Clock + Sync>(
     );
 }
 
-// A client that is told to ask waits no longer.
+// A client that is made to ask waits no longer.
 #[test]
 fn whoever_is_told_to_ask_asks(rt: HostRuntime) -> Result<(), Fail> {
     let alloc = rt.alloc();

@@ -36,6 +36,8 @@ mod openings;
 #[cfg(test)]
 mod owner;
 #[cfg(test)]
+mod refused;
+#[cfg(test)]
 mod reports;
 #[cfg(test)]
 mod restarts;

@@ -1,7 +1,7 @@
 //! Streams in one thread of which one call may be made to fail, and what connects to them. What
 //! happens to links is logged.
 use crate::log::{Event, Log, written};
-use crate::talk::{Talk, Turn, is_error};
+use crate::talk::{Talk, Turn, is_error, is_out_of_memory};
 use node_threads::Opener;
 use pg_ids::{DatabaseNo, PeerNo};
 use std::alloc::{AllocError, Global};
@@ -53,7 +53,7 @@ struct Seen {
     failed: Option<Side>,
     // Whether the last read of a server ended inside the body of a message.
     is_inside: bool,
-    // Whether the client was told of the failure.
+    // Whether the client has the error of the failure.
     is_told: bool,
     // How often a stream was read or written that should be left alone.
     strays: usize,
@@ -143,7 +143,7 @@ impl Stage {
         self.seen.set(seen);
     }
 
-    // Takes what is written after a call has failed: the one thing that the client is told.
+    // Takes what is written after a call has failed: the one thing that the client gets.
     fn take_told(&self, side: Side, bytes: &[u8]) -> io::Result<usize> {
         let mut seen = self.seen.get();
         let Some(failing) = self.failing.get() else {
@@ -159,7 +159,7 @@ impl Stage {
     }
 
     // Nothing was read or written that shouldn't be, and where a server's call has failed the
-    // client was told, unless it had a part of a message.
+    // client has its error, unless it had a part of a message.
     #[track_caller]
     pub(crate) fn assert_sound(&self, rt: &impl Abort) {
         let seen = self.seen.get();
@@ -183,6 +183,8 @@ fn takes(turn: Turn, bytes: &[u8]) -> bool {
 pub(crate) struct Line {
     talk: Talk,
     side: Side,
+    // Whether it took more than the answer to a request for encryption.
+    is_greeted: bool,
     stage: Arc<Stage, Global>,
 }
 
@@ -196,6 +198,7 @@ impl Line {
         Ok(Line {
             talk: Talk::new(turns),
             side,
+            is_greeted: false,
             stage,
         })
     }
@@ -224,6 +227,7 @@ impl Drop for Line {
         let Line {
             talk: _,
             side: _,
+            is_greeted: _,
             stage: _,
         } = self;
     }
@@ -269,9 +273,18 @@ impl Line {
             }
         }
         match self.talk.write(bytes) {
-            Ok(count) => Ok(count),
+            Ok(count) => {
+                self.is_greeted = self.is_greeted || bytes.len() > 1;
+                Ok(count)
+            }
+            Err(error) if self.may_be_told(bytes) => Err(error),
             Err(_) => self.stage.stray(),
         }
+    }
+
+    // Where memory was refused a client may be told so before its greeting.
+    fn may_be_told(&self, bytes: &[u8]) -> bool {
+        self.side == Side::Client && !self.is_greeted && is_out_of_memory(bytes)
     }
 }
 

@@ -5,7 +5,7 @@ use node_threads::{Desk, Gate, Opener, Point};
 use pg_ids::{DatabaseNo, PeerNo};
 use startup::Packet;
 use std::alloc::Global;
-use std::cell::RefCell;
+use std::cell::{Cell, RefCell};
 use std::io;
 use std::io::{ErrorKind, Read, Write};
 use std::process::Abort;
@@ -40,18 +40,23 @@ pub(crate) enum Event {
 #[derive(Drop)]
 pub(crate) struct Log {
     events: RefCell<Vec<Event>>,
+    // Whether an event isn't among them, since there was no memory for it.
+    is_short: Cell<bool>,
 }
 
 impl Log {
     pub(crate) fn new(alloc: Global) -> Log {
         Log {
             events: RefCell::new(Vec::new(alloc)),
+            is_short: Cell::new(false),
         }
     }
 
     pub(crate) fn add(&self, event: Event) {
         if let Ok(mut events) = self.events.try_borrow_mut() {
-            let _ = events.push(event);
+            if events.push(event).is_err() {
+                self.is_short.set(true);
+            }
         }
     }
 }
@@ -59,6 +64,7 @@ impl Log {
 // Exactly these events were logged, in this order.
 #[track_caller]
 pub(crate) fn assert_logged(rt: &impl Abort, log: &Log, events: &[Event]) {
+    assert!(rt; !log.is_short.get(), "out of memory for the log");
     if let Ok(logged) = log.events.try_borrow() {
         assert_eq!(rt; logged.as_slice(), events);
     } else {

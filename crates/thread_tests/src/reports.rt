@@ -3,7 +3,7 @@ ghost use Rattle.std.specs.Prelude.{◌≡◌, ◌+◌, ◌<◌};
 
 use crate::log::{Event, Log, LoggedDesk, Marks, Reply, Wire, assert_logged};
 use lease::{Lease, LinkPlace, LinkRecord, Permit, PermitRecord, Ticket, TicketRecord};
-use node_threads::{Context, Desk, DeskCall, ListDesk, Open, Point, relay, report};
+use node_threads::{Context, Desk, DeskCall, ListDesk, Open, Point, Requested, relay, report};
 use peer_forward::Outcome;
 use pg_ids::{DatabaseNo, LinkNo, PeerNo};
 use startup::Packet;
@@ -96,15 +96,17 @@ fn assert_reported(
     reply: Reply,
     expected: Outcome,
 ) {
-    let mut desk = LoggedDesk(log);
     let mut requester = Wire::new(log, 16, Reply::End);
+    let mut desk = Requested {
+        desk: LoggedDesk(log),
+        requester: &mut requester,
+    };
     let mut server = Wire::new(log, room, reply);
     let ticket = Ticket::new(ticket_record(peer));
     let gate = Marks(log);
     let outcome = report(
         Context { rt, gate: &gate },
         &mut desk,
-        &mut requester,
         &mut server,
         ticket,
         PACKET,
@@ -145,22 +147,29 @@ fn relays(rt: HostRuntime) -> Result<(), Fail> {
 }
 
 // A request over a stream that fails, whose requester takes nothing, ends so at this desk.
-fn report_failed<R: Wait + Abort>(rt: &R, desk: &mut ListDesk<u64>, log: &Log, peer: PeerNo)
-    requires ready { 0 < desk.old.room }
-    ensures room { desk.new.room + 1 ≡ desk.old.room }
+fn report_failed<R: Wait + Abort>(
+    rt: &R,
+    desk: ListDesk<u64>,
+    log: &Log,
+    peer: PeerNo,
+) -> ListDesk<u64>
+    requires ready { 0 < desk.room }
+    ensures room { result.room + 1 ≡ desk.room }
 {
     let mut requester = Wire::new(log, 0, Reply::End);
+    let requester = &mut requester;
+    let mut desk = Requested { desk, requester };
     let mut server = Wire::new(log, 16, Reply::Fails);
     let outcome = report(
         Context { rt, gate: &Open },
-        desk,
-        &mut requester,
+        &mut desk,
         &mut server,
         Ticket::new(ticket_record(peer)),
         PACKET,
     );
     assert_eq!(rt; outcome, Outcome::Failed);
     assert_logged(rt, log, &[Event::Sent(PACKET), Event::Read]);
+    desk.desk
 }
 
 fn assert_listed(rt: &impl Abort, desk: &ListDesk<u64>, peer: PeerNo) {
@@ -177,8 +186,8 @@ fn assert_listed(rt: &impl Abort, desk: &ListDesk<u64>, peer: PeerNo) {
 #[test]
 fn listed_calls(rt: HostRuntime) -> Result<(), Fail> {
     let peer = PeerNo::new(2).ok_or("no peer 2")?;
-    let mut desk = ListDesk::new(rt.alloc(), 3)?;
-    report_failed(&rt, &mut desk, &Log::new(rt.alloc()), peer);
+    let desk = ListDesk::new(rt.alloc(), 3)?;
+    let mut desk = report_failed(&rt, desk, &Log::new(rt.alloc()), peer);
     desk.release(&rt, lease(peer, 7));
     desk.close(&rt, lease(peer, 8));
     assert_listed(&rt, &desk, peer);

@@ -269,6 +269,7 @@ pub(crate) fn assert_played<R: Threads + Wait + Sync + Abort>(
     };
     let mut caller = run(rt, &stage, caller);
     serve_later(rt, &stage, &mut caller);
+    assert_eq!(rt; trackers.clients.ends().strayed, 0, "strayed");
     assert!(rt; hold.was_let_go());
     trackers.assert_open(rt, scene);
     let counted = assert_calls(rt, &caller, scene.calls);

@@ -35,7 +35,10 @@ fn take_all<R: Wait>(rt: &R, seats: &Seats, requests: Requests, taken: &mut Vec<
         let Some(seat) = seats.take(rt, key(requests.secret), requests.is_own) else {
             return count;
         };
-        let _ = taken.push(seat);
+        if let Err(failed) = taken.push(seat) {
+            seats.give_back(rt, failed.value);
+            return count;
+        }
     }
     1_000
 }
@@ -47,6 +50,15 @@ fn give_back<R: Wait>(rt: &R, seats: &Seats, taken: &mut Vec<Seat>, count: usize
             seats.give_back(rt, seat);
         }
     }
+}
+
+// The rest is given back.
+fn give_all_back<R: Wait>(rt: &R, seats: &Seats, taken: Vec<Seat>) {
+    let mut taken = taken;
+    while let Some(seat) = taken.pop() {
+        seats.give_back(rt, seat);
+    }
+    taken.destroy_empty();
 }
 
 // Half of the seats are for requests of one kind at most, and the rest for another. Then there is
@@ -95,6 +107,7 @@ fn shares(rt: HostRuntime) -> Result<(), Fail> {
     for (first, second) in [(FORWARDS, FIRST), (FIRST, SECOND), (SECOND, FORWARDS)] {
         assert_shared(&rt, &seats, first, second, &mut taken);
     }
+    give_all_back(&rt, &seats, taken);
     Ok(())
 }
 

@@ -92,16 +92,14 @@ fn tell<R: Wait + Abort>(
 ) {
     let dials = Dials::new(stage, story.servers);
     for turns in story.clients {
-        assert!(rt;
-            visit(rt, alloc, calling, &dials, &Open, turns),
-            "{turns:?}"
-        );
+        let done = visit(rt, alloc, calling, &dials, &Open, turns);
+        stage.assert_sound(rt);
+        assert!(rt; done, "{turns:?}");
     }
     for reply in story.restarts {
         assert_eq!(rt; calling.restart(rt), *reply);
     }
     assert_calls(rt, calling.caller(), story.calls);
-    stage.assert_sound(rt);
 }
 
 fn assert_told<R: Wait + Abort>(rt: &R, alloc: Global, story: &Story) -> Result<(), Fail> {

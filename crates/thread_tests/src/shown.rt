@@ -80,7 +80,9 @@ fn assert_shown<R: Wait + Abort>(
     answers: &[&[u8]],
 ) {
     let pieces = [CONSOLE, query, TERMINATE];
-    let mut client = Wire::new(alloc, reads(&pieces));
+    let Ok(mut client) = Wire::new(alloc, reads(&pieces)) else {
+        panic!(rt; "out of memory");
+    };
     serve_connection(rt, alloc, calling, dials, &Open, &mut client);
     let greeted = WELCOME.len().wrapping_add(IDLE.len());
     let taken = client.taken();

@@ -48,14 +48,17 @@ pub(crate) struct Wire<'a> {
     taken: Vec<u8>,
 }
 
+// How many bytes a stream has memory for from the start.
+const ROOM: usize = 4_096;
+
 impl<'a> Wire<'a> {
-    pub(crate) fn new(alloc: Global, script: Script<'a>) -> Wire<'a> {
-        Wire {
+    pub(crate) fn new(alloc: Global, script: Script<'a>) -> Result<Wire<'a>, AllocError> {
+        Ok(Wire {
             script,
             piece: 0,
             offset: 0,
-            taken: Vec::new(alloc),
-        }
+            taken: Vec::with_capacity(alloc, ROOM)?,
+        })
     }
 
     // What it took.
@@ -154,10 +157,10 @@ fn assert_stay<R: Abort + AllocGlobal + Wait>(
     expected: &Expected<'_>,
 ) -> Result<(), Fail> {
     let (mut session, request) = begin(rt)?;
-    let mut client = Wire::new(rt.alloc(), on_client);
+    let mut client = Wire::new(rt.alloc(), on_client)?;
     let mut cutter = Cutter::new(rt.alloc());
     let mut link = Link {
-        stream: Wire::new(rt.alloc(), on_link),
+        stream: Wire::new(rt.alloc(), on_link)?,
         flow: Flow::new(rt.alloc())?,
     };
     let stayed = stay(

@@ -1,4 +1,4 @@
-//! What happens at a node while a call fails: clients, requests, and what they are told.
+//! What happens at a node while a call fails: clients, requests, and what they get.
 use crate::line::Fault;
 use crate::messages::{
     BEGIN, BEGUN, COMMIT, COMMITTED, IDLE, LOGIN, LOWERED, OPEN, QUERY, ROW, STARTUP, TERMINATE,
@@ -16,7 +16,7 @@ pub(crate) struct Story {
     pub(crate) servers: &'static [&'static [Turn]],
     // How a call fails.
     pub(crate) faults: &'static [Fault],
-    // What a client is told after a call of its server, or the connecting, has failed.
+    // What a client gets after a call of its server, or the connecting, has failed.
     pub(crate) told: Turn,
     // Whether a request for the keeper fails in any case.
     pub(crate) fails: bool,
@@ -51,7 +51,7 @@ const GROUP: &[u8] = b"P\0\0\0\x0e\0vacuum\0\0\0\
     E\0\0\0\x09\0\0\0\0\0\
     S\0\0\0\x04";
 
-const GROUP_DONE: &[u8] = b"1\0\0\0\x04\
+pub(crate) const GROUP_DONE: &[u8] = b"1\0\0\0\x04\
     2\0\0\0\x04\
     n\0\0\0\x04\
     C\0\0\0\x0bVACUUM\0";

@@ -123,6 +123,11 @@ impl<'a> Others<'a> {
         self.are_done.get()
     }
 
+    // Whether they came and didn't take all.
+    pub(crate) fn are_behind(&self) -> bool {
+        self.have_come.get() && !self.are_done.get()
+    }
+
     // Who made their calls.
     pub(crate) fn into_calling(self) -> Calling<Line> {
         let Others { calling, .. } = self;

@@ -100,6 +100,11 @@ pub(crate) fn is_error(bytes: &[u8], fields: &[u8]) -> bool {
     bytes.len() > 5 && bytes[0] == b'E' && bytes.split_at(5).1.starts_with(fields)
 }
 
+// Whether these bytes are the error of out of memory.
+pub(crate) fn is_out_of_memory(bytes: &[u8]) -> bool {
+    is_error(bytes, b"SFATAL\0VFATAL\0C53200\0")
+}
+
 impl Read for Talk {
     fn read(&mut self, buffer: &mut [u8]) -> io::Result<usize> {
         let Some(text) = self.gives() else {

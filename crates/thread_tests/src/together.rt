@@ -59,7 +59,6 @@ fn assert_visited(rt: &impl Abort, stage: &Stage, calling: &Calling<Line>, visit
         assert_logged(rt, stage.log(), events);
     }
     assert_calls(rt, calling.caller(), visits.calls);
-    stage.assert_sound(rt);
 }
 
 fn play<R: Wait + Abort>(
@@ -83,7 +82,11 @@ fn play<R: Wait + Abort>(
     }
     let clients = story.others.clients;
     let gate = Others::new(alloc, own, second, &their_dials, clients);
-    assert!(rt; visit_all(rt, alloc, &mut calling, &dials, &gate, story.first.clients));
+    let is_done = visit_all(rt, alloc, &mut calling, &dials, &gate, story.first.clients);
+    theirs.assert_sound(rt);
+    assert!(rt; !gate.are_behind());
+    own.assert_sound(rt);
+    assert!(rt; is_done);
     assert!(rt; gate.are_done() || clients.is_empty());
     assert_visited(rt, own, &calling, &story.first);
     assert_visited(rt, theirs, &gate.into_calling(), &story.others);

@@ -1,5 +1,5 @@
 //! A stream that plays one side of a conversation in any thread, and what becomes of such streams.
-use crate::talk::{Turn, is_error};
+use crate::talk::{Turn, is_error, is_out_of_memory};
 use node_threads::Opener;
 use pg_ids::{DatabaseNo, PeerNo};
 use std::alloc::{AllocError, Global};
@@ -59,6 +59,8 @@ pub(crate) struct Talk {
     turns: &'static [Turn],
     // What is left to take of a turn that began.
     takes: &'static [u8],
+    // Whether it took anything.
+    has_taken: bool,
     tracker: Arc<Tracker, Global>,
 }
 
@@ -71,6 +73,7 @@ impl Drop for Talk {
         let Talk {
             turns: _,
             takes: _,
+            has_taken: _,
             tracker: _,
         } = self;
     }
@@ -87,6 +90,7 @@ impl Talk {
         Ok(Talk {
             turns,
             takes: b"",
+            has_taken: false,
             tracker,
         })
     }
@@ -155,11 +159,14 @@ impl Read for Talk {
 impl Write for Talk {
     fn write(&mut self, bytes: &[u8]) -> io::Result<usize> {
         if self.take(bytes) {
-            Ok(bytes.len())
-        } else {
-            add_one(&self.tracker.strayed);
-            Err(io::Error::from(ErrorKind::BrokenPipe))
+            self.has_taken = true;
+            return Ok(bytes.len());
         }
+        // Where memory was refused a client may be told so before its greeting.
+        if self.has_taken || !is_out_of_memory(bytes) {
+            add_one(&self.tracker.strayed);
+        }
+        Err(io::Error::from(ErrorKind::BrokenPipe))
     }
 
     fn flush(&mut self) -> io::Result<()> {

@@ -50,11 +50,11 @@ fn assert_turn<R: Abort + AllocGlobal + Wait>(
     call: DeskCall,
 ) -> Result<(), Fail> {
     let (mut session, request) = begin(rt)?;
-    let mut client = Wire::new(rt.alloc(), reads(&[]));
+    let mut client = Wire::new(rt.alloc(), reads(&[]))?;
     let mut cutter = Cutter::new(rt.alloc());
     let mut desk = ListDesk::new(rt.alloc(), 1)?;
     let link = Link {
-        stream: Wire::new(rt.alloc(), on_link),
+        stream: Wire::new(rt.alloc(), on_link)?,
         flow: Flow::new(rt.alloc())?,
     };
     let lease = lease_of(record, link);

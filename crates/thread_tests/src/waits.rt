@@ -57,8 +57,8 @@ const COMES: &[Turn] = &[
     Turn::Gives(TERMINATE),
 ];
 
-// A server that serves two queries, and one that serves one. A byte stands behind the last answer of
-// each, so that the link is closed.
+// A server that serves two queries, and one that serves one. A byte stands behind the last answer
+// of each, so that the link is closed.
 const TWO: &[Turn] = &[
     Turn::Takes(STARTUP),
     Turn::Gives(LOGIN),
@@ -137,7 +137,9 @@ fn wait<R: Wait>(rt: &R, scene: Scene<'_>, mut calling: Calling<Talk>) -> Callin
 // Whether the node's console shows a client that waits for a link.
 fn is_waiting<R: Wait>(rt: &R, scene: Scene<'_>, calling: &mut Calling<Talk>) -> bool {
     let pieces = [CONSOLE, SHOW_CLIENTS, TERMINATE];
-    let mut client = Wire::new(scene.alloc, reads(&pieces));
+    let Ok(mut client) = Wire::new(scene.alloc, reads(&pieces)) else {
+        return false;
+    };
     let dialer = scene.dialer(&[]);
     serve_connection(rt, scene.alloc, calling, &dialer, &Open, &mut client);
     let shown = client.taken();

@@ -10,6 +10,7 @@ use std::test::Fail;
 use stub_server::{Mode, Server, serve, serve_connection};
 
 mod holds;
+mod interrupts;
 mod loopback;
 
 const STARTUP: &[u8] = b"\0\0\0\x20\0\x03\0\0user\0ann\0database\0shop\0\0";

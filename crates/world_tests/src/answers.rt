@@ -16,6 +16,7 @@ mod packets;
 mod running;
 mod usage;
 mod worlds;
+mod writers;
 mod wrong_values;
 
 // A request for slot 0 of pooler 2, with secret 1 and hops 3.

@@ -179,6 +179,23 @@ fn total_of_others(rt: HostRuntime) -> Result<(), Fail> {
     Ok(())
 }
 
+// The journal has the three calls of both, of which the first was with this key.
+fn assert_calls_of_both(rt: &impl Abort, journal: &Journal) {
+    assert_eq!(rt; (journal.calls(), journal.tail().count()), (3, 3));
+    assert_eq!(rt; oldest(journal), Some(key()));
+}
+
+// A caller that hasn't everything back gets the journal too, and that has the calls of all.
+#[test]
+fn journal_of_others(rt: HostRuntime) -> Result<(), Fail> {
+    let (shared, mut first) = Shared::new(rt.alloc(), node(rt.alloc(), 1)?)?;
+    let mut part = first.split(&shared).ok_or("a second caller")?;
+    call_by_both(&rt, &shared, &mut first, &mut part);
+    let journal = shared.into_journal(part).ok_or("a lock that is free")?;
+    assert_calls_of_both(&rt, &journal);
+    Ok(())
+}
+
 // The tail is full, and this is the key of its oldest call.
 fn assert_tail(rt: &impl Abort, journal: &Journal, key: AnyKey) {
     assert_eq!(rt;

@@ -240,7 +240,8 @@ fn eight_threads(rt: HostRuntime) -> Result<(), Fail> {
     let (caller, replies) = united(&shared, front, back);
     assert_replies(&rt, &caller, &replies);
     let tally = *caller.tally();
-    assert_journal(&rt, &shared.into_journal(caller), &tally);
+    let journal = shared.into_journal(caller).ok_or("a lock that is free")?;
+    assert_journal(&rt, &journal, &tally);
     Ok(())
 }
 

@@ -26,7 +26,7 @@ fn settings(alloc: Global) -> Result<Settings, Fail> {
     }
 }
 
-// What a client that asks for a link is told.
+// What a client that asks for a link gets.
 #[derive(Clone, Copy, Debug, PartialEq, Eq)]
 enum Told {
     Open,

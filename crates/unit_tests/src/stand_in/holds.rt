@@ -11,7 +11,7 @@ use std::time::{Clock, Duration};
 const TURNS: u32 = 20_000;
 
 // What a client is sent. `ended` is set once it is served.
-fn held<R: Wait>(
+pub(super) fn held<R: Wait>(
     rt: &R,
     server: &Server,
     mut wire: Wire,

@@ -124,9 +124,12 @@ impl Read for Text {
 impl Opener for Files<'_> {
     type Reader = Text;
 
+    ghost use Rattle.std.specs.Prelude.{⊤};
     ghost use Rattle.std.specs.List.{find};
     ghost use Rattle.std.specs.Option.{option_map};
     ghost use Rattle.std.specs.Str.{bytes_eq};
+
+    ghost opens = { λ _ _ _. ⊤ };
 
     ghost text = { λ files name. option_map (λ entry. entry.text.now)
         (find (λ entry. bytes_eq entry.name.now name) files.entries.now) };

@@ -1,5 +1,5 @@
 //! The commands that run until they are stopped: what they are asked for, and what is refused.
-use command_line::{Running, StubMode, usage};
+use command_line::{Running, SeedSource, StubMode, seed_held, usage};
 use std::alloc::Global;
 use std::process::Abort;
 use std::test::Fail;
@@ -20,6 +20,14 @@ fn words_of<'a>(alloc: Global, line: &'a str) -> Result<Vec<&'a str>, Fail> {
     Ok(words)
 }
 
+// These are the bytes 0 to 31.
+#[track_caller]
+fn expect_counting(rt: &impl Abort, seed: &[u8; 32]) {
+    for (at, byte) in seed.iter().enumerate() {
+        assert_eq!(rt; *byte as usize, at);
+    }
+}
+
 // These arguments ask for a group on this port, with the seed, this boot number and these files.
 #[track_caller]
 fn expect_serve<'a>(
@@ -38,13 +46,15 @@ fn expect_serve<'a>(
     assert_eq!(rt; request.boot, boot, "{words:?}");
     assert_eq!(rt; request.stand_in, stand_in, "{words:?}");
     assert_eq!(rt; request.files.as_slice(), files, "{words:?}");
-    for (at, byte) in request.seed.iter().enumerate() {
-        assert_eq!(rt; *byte as usize, at, "{words:?}");
-    }
+    let SeedSource::Bytes(seed) = request.seed else {
+        assert!(rt; false, "{words:?}");
+        return;
+    };
+    expect_counting(rt, &seed);
 }
 
 // The arguments, the port, the boot number, whether stand-in servers run, and the files.
-const SERVED: [(&str, u16, u32, bool, &[&str]); 7] = [
+const SERVED: [(&str, u16, u32, bool, &[&str]); 8] = [
     (
         "serve --front 6432 --seed SEED a.ini",
         6432,
@@ -81,6 +91,13 @@ const SERVED: [(&str, u16, u32, bool, &[&str]); 7] = [
         &["a.ini", "a.ini"],
     ),
     (
+        "serve c.ini --front 6432 a.ini --seed SEED b.ini",
+        6432,
+        0,
+        false,
+        &["c.ini", "a.ini", "b.ini"],
+    ),
+    (
         "serve --stand-in --front 6432 --seed SEED a.ini b.ini",
         6432,
         0,
@@ -103,6 +120,67 @@ fn serve(rt: HostRuntime) -> Result<(), Fail> {
         expect_serve(&rt, &words, front, boot, stand_in, files);
     }
     Ok(())
+}
+
+// These arguments ask for a group whose seed is in this file.
+#[track_caller]
+fn expect_seed_file(rt: &(impl Abort + Alloc<A = Global>), words: &[&str], file: &str) {
+    let Ok(Some(Running::Serve(request))) = Running::read(rt.alloc(), words) else {
+        assert!(rt; false, "{words:?}");
+        return;
+    };
+    let SeedSource::File(name) = request.seed else {
+        assert!(rt; false, "{words:?}");
+        return;
+    };
+    assert_eq!(rt; name, file, "{words:?}");
+}
+
+#[test]
+fn seed_files(rt: HostRuntime) -> Result<(), Fail> {
+    let words = words_of(rt.alloc(), "serve --seed-file seed --front 6432 a.ini")?;
+    expect_seed_file(&rt, &words, "seed");
+    let words = words_of(rt.alloc(), "serve a.ini --front 1 --seed-file=/dev/urandom")?;
+    expect_seed_file(&rt, &words, "/dev/urandom");
+    Ok(())
+}
+
+// The 64 digits of the bytes 0 to 31, with and without a line's end.
+const DIGITS: [&[u8]; 3] = [
+    b"000102030405060708090a0b0c0d0e0f101112131415161718191a1b1c1d1e1f",
+    b"000102030405060708090A0B0C0D0E0F101112131415161718191A1B1C1D1E1F\n",
+    b"000102030405060708090a0b0c0d0e0f101112131415161718191a1b1c1d1e1f\r\n",
+];
+
+// What is no seed.
+const NO_SEEDS: [&[u8]; 8] = [
+    b"",
+    b"0123456789012345678901234567890",
+    b"012345678901234567890123456789012",
+    b"000102030405060708090a0b0c0d0e0f101112131415161718191a1b1c1d1e1",
+    b"000102030405060708090a0b0c0d0e0f101112131415161718191a1b1c1d1e1g",
+    b"000102030405060708090a0b0c0d0e0f101112131415161718191a1b1c1d1e1f0",
+    b"000102030405060708090a0b0c0d0e0f101112131415161718191a1b1c1d1e1f\n\n",
+    b"000102030405060708090a0b0c0d0e0f101112131415161718191a1b1c1d1e1f\r\n\n",
+];
+
+#[test]
+fn contents_of_seed_files(rt: HostRuntime) {
+    for digits in DIGITS {
+        let Some(seed) = seed_held(digits) else {
+            assert!(&rt; false, "{digits:?}");
+            return;
+        };
+        expect_counting(&rt, &seed);
+    }
+    let Some(seed) = seed_held(b"01234567890123456789012345678901") else {
+        assert!(&rt; false);
+        return;
+    };
+    assert_eq!(&rt; &seed, b"01234567890123456789012345678901");
+    for bytes in NO_SEEDS {
+        assert!(&rt; seed_held(bytes).is_none(), "{bytes:?}");
+    }
 }
 
 // These arguments ask for a stand-in server on this port.
@@ -278,8 +356,18 @@ fn missing(rt: HostRuntime) -> Result<(), Fail> {
     Ok(())
 }
 
+#[test]
+fn one_seed(rt: HostRuntime) -> Result<(), Fail> {
+    let words = words_of(
+        rt.alloc(),
+        "serve --front 1 --seed SEED --seed-file seed a.ini",
+    )?;
+    let fault = "the argument '--seed <HEX64>' cannot be used with '--seed-file <FILE>'";
+    expect_wrong(&rt, &words, fault, SERVE)
+}
+
 // The arguments, which of them stands there twice, and the usage.
-const TWICE: [(&str, &str, &str); 5] = [
+const TWICE: [(&str, &str, &str); 6] = [
     (
         "serve --front 1 --front 2 --seed SEED a.ini",
         "--front <PORT>",
@@ -288,6 +376,11 @@ const TWICE: [(&str, &str, &str); 5] = [
     (
         "serve --front 1 --seed SEED --seed SEED a.ini",
         "--seed <HEX64>",
+        SERVE,
+    ),
+    (
+        "serve --front 1 --seed-file a --seed-file b a.ini",
+        "--seed-file <FILE>",
         SERVE,
     ),
     (
@@ -319,6 +412,8 @@ fn twice(rt: HostRuntime) -> Result<(), Fail> {
 fn unexpected(rt: HostRuntime) -> Result<(), Fail> {
     let fault = "unexpected argument '2' found";
     expect_wrong(&rt, &["stub", "1", "2"], fault, STUB)?;
+    let fault = "unexpected value 'x' for '--byte' found; no more were expected";
+    expect_wrong(&rt, &["stub", "--byte=x", "1"], fault, STUB)?;
     let fault =
         "unexpected argument '--me' found\n\n  tip: to pass '--me' as a value, use '-- --me'";
     let words = [
