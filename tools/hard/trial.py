@@ -1,13 +1,16 @@
 """One scenario as it runs: what it found, its folder, its ports, its processes."""
 import collections
 import ctypes
+import glob
 import os
+import pwd
 import random
 import resource
 import shutil
 import signal
 import socket
 import subprocess
+import sys
 import time
 
 from hard.wire import Client, Late, Lost, Refused, wait_until
@@ -32,6 +35,37 @@ def scenario(name, limit=60, slow=False):
 def bind_to_parent():
     """The process ends with the one that starts it."""
     LIBC.prctl(1, signal.SIGKILL, 0, 0, 0)
+
+
+def take_program(options):
+    """Copies the program, so that it stays the same while all this runs, for any user."""
+    path = os.path.abspath(options.program)
+    if not os.path.exists(path):
+        sys.exit(f"{path} isn't there (tools/build makes the program)")
+    subprocess.run([path, "--version"], check=True, stdout=subprocess.DEVNULL)
+    options.program = os.path.join(options.folder, "pgpeer")
+    shutil.copy(path, options.program)
+    os.chmod(options.program, 0o755)
+
+
+def make_template(options):
+    """A server's data folder that each scenario copies."""
+    found = sorted(glob.glob("/usr/lib/postgresql/*/bin")) or [os.path.dirname(shutil.which("initdb") or "")]
+    options.postgres = found[-1]
+    if not os.path.exists(f"{options.postgres}/initdb"):
+        sys.exit("PostgreSQL's server isn't there (Debian: package postgresql)")
+    options.owner = None
+    if os.getuid() == 0:
+        users = {user.pw_name for user in pwd.getpwall()}
+        options.owner = "postgres" if "postgres" in users else "nobody"
+        shutil.chown(options.folder, options.owner)
+    options.template = os.path.join(options.folder, "template")
+    quiet = {"stdout": subprocess.DEVNULL, "stderr": subprocess.DEVNULL, "cwd": "/", "check": True, **as_owner(options)}
+    words = ["-D", options.template, "-U", "postgres", "-A", "trust", "-E", "UTF8", "--locale=C", "--no-sync"]
+    subprocess.run([f"{options.postgres}/initdb", *words], **quiet)
+    single = [f"{options.postgres}/postgres", "--single", "-D", options.template, "-c", "fsync=off", "postgres"]
+    for text in ("create role app login superuser", "create database shop owner app"):
+        subprocess.run(single, input=(text + "\n").encode(), **quiet)
 
 
 class Trial:
@@ -73,8 +107,9 @@ class Postgres:
 
     count = 0
 
-    def __init__(self, trial):
+    def __init__(self, trial, settings=None):
         Postgres.count += 1
+        self.settings = settings or {}
         self.options, self.port, self.process, self.watcher = trial.options, trial.port(), None, None
         self.data = f"{trial.folder}/data{Postgres.count}"
         self.log = open(f"{trial.folder}/server{Postgres.count}.log", "a")
@@ -83,7 +118,7 @@ class Postgres:
 
     def start(self):
         words = {"port": self.port, "listen_addresses": "127.0.0.1", "unix_socket_directories": "",
-                 "fsync": "off", "max_connections": 200, "shared_buffers": "32MB"}
+                 "fsync": "off", "max_connections": 200, "shared_buffers": "32MB", **self.settings}
         command = [f"{self.options.postgres}/postgres", "-D", self.data]
         for name, value in words.items():
             command += ["-c", f"{name}={value}"]
@@ -144,15 +179,16 @@ class Pooler:
     """A process of pgpeer, with one node or more.
 
     `ports` are those of its nodes by their numbers, `peers` those of nodes elsewhere. `limits` are
-    limits of the process by their names (`NOFILE`, ..), `closed` are descriptors that it doesn't get."""
+    limits of the process by their names (`NOFILE`, ..), `closed` are descriptors that it doesn't get,
+    `words` are more arguments of `serve`."""
 
     count = 0
 
     def __init__(self, trial, databases, ports=None, peers=None, pool=4, clients=100, limits=None,
-                 user=None, stderr=None, closed=()):
+                 user=None, stderr=None, closed=(), words=()):
         Pooler.count += 1
         self.trial, self.limits, self.user, self.stderr = trial, limits or {}, user, stderr
-        self.closed = closed
+        self.closed, self.words = closed, words
         self.ports = ports or {1: trial.port()}
         self.port, self.front = next(iter(self.ports.values())), trial.port()
         self.base, self.starts, self.process = f"{trial.folder}/pooler{Pooler.count}", 0, None
@@ -166,7 +202,8 @@ class Pooler:
 
     def command(self):
         return [self.trial.options.program, "serve", "--front", str(self.front), "--seed",
-                os.urandom(32).hex(), "--boot", str(int(time.time()) % 2**31 + self.starts), *self.files]
+                os.urandom(32).hex(), "--boot", str(int(time.time()) % 2**31 + self.starts), *self.words,
+                *self.files]
 
     def before_exec(self):
         bind_to_parent()
