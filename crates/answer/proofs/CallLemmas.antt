@@ -250,7 +250,7 @@ module _ {S : Type 0} (journal : JournalView) (first last : CallerView) (end : O
     (counts : all_calls first.tally ≡ all_calls journal.log.totals)
     (nothing : (first.made ≡ []) × (first.places ≡ []))
     (whole : last.allowance + all_calls last.tally ≡ CALL_LIMIT
-      → IsSomeAnd end (λ j. IsWhole last (journal_view j))) where
+    → IsSomeAnd end (λ j. IsWhole last (journal_view j))) where
   -- a first caller that has all of its lock made calls that led to the journal's view
   replayed : (calls : List Exchange) → Makes first calls last
       → (view : NodeView) × Replay journal.view calls view
@@ -262,8 +262,7 @@ module _ {S : Type 0} (journal : JournalView) (first last : CallerView) (end : O
       let in_order : AllPairs (λ one later. one < later) first.places =
       rw nothing.1 (λ i j d lt within. absurd (omega arith)) in
       let are : is_whole.calls ≡ calls = is_whole.in_order (makes.order in_order) ∙ makes.made
-      ∙ ap (λ made. made ++ calls) nothing.0 in
-      (
+      ∙ ap (λ made. made ++ calls) nothing.0 in (
         found.0.view,
         subst (λ start. Replay start.view calls found.0.view) (makes.start ∙ started)
             (subst (λ all_made. Replay last.start.view all_made found.0.view) are is_whole.replay),

@@ -7,15 +7,10 @@ use Rattle.std.specs.declared.io.ErrorKind.TheVariants as kind
 use Rattle.std.specs.Io.KnownBytes.{Appends, Keeps}
 use Rattle.std.proofs.KnownBytes.{Appends-kept}
 use Rattle.std.proofs.lemmas.List.{drop-drop}
-use Rattle.answer.specs.Printing.{Call, WriteCall, FlushCall, Change, Makes, Prints, GivesUp, AppendsPart, IsWritten, Writes, Stops}
+use Rattle.answer.specs.Printing.{Call, WriteCall, FlushCall, Makes, Prints, GivesUp, AppendsPart, IsWritten, Writes, Stops, change}
 
 module _ {T : Type 0} (wrote : T → List ℕ → Result ℕ Error → T → Type 0)
     (flushed : T → Result ⊤ Error → T → Type 0) (holds : T → Option (List ℕ)) where
-  -- an output before and after
-  abbrev pub change : T → T → Change T
-  change old new =
-      record { wrote = wrote; flushed = flushed; holds = holds; old = old; new = new }
-
   -- calls made after others
   makes_append : (a b c : T) (before after : List Call) → Makes wrote flushed a before b
       → Makes wrote flushed b after c → Makes wrote flushed a (before ++ after) c
@@ -25,7 +20,7 @@ module _ {T : Type 0} (wrote : T → List ℕ → Result ℕ Error → T → Typ
   makes_append a b c (FlushCall result ∷ before) after first more =
       (first.0, first.1, makes_append first.0 b c before after first.2 more)
 
-  pub writes_none : (old : T) (text : List ℕ) → Writes (change old old) text text 0
+  pub writes_none : (old : T) (text : List ℕ) → Writes (change wrote flushed holds old old) text text 0
   writes_none old text = record {
     calls = [];
     made = refl;
@@ -35,10 +30,10 @@ module _ {T : Type 0} (wrote : T → List ℕ → Result ℕ Error → T → Typ
 
   -- one write more, behind which this is left
   writes_one : (old now new : T) (text left after bytes : List ℕ) (result : Result ℕ Error)
-      (count : ℕ) → Writes (change old now) text left count → wrote now bytes result new
+      (count : ℕ) → Writes (change wrote flushed holds old now) text left count → wrote now bytes result new
       → ((status : ℕ) (more : List Call) (r : ℕ) → Prints after status more r
       → Prints left status (WriteCall bytes result ∷ more) r)
-      → Writes (change old new) text after (count + 1)
+      → Writes (change wrote flushed holds old new) text after (count + 1)
   writes_one old now new text left after bytes result count writes call step =
       let one = WriteCall bytes result ∷ [] in
       let many = writes.many in
@@ -60,9 +55,9 @@ module _ {T : Type 0} (wrote : T → List ℕ → Result ℕ Error → T → Typ
   took_some (suc count) left status more r some room is = (room, refl, is)
 
   pub writes_more : (old now new : T) (text bytes : List ℕ) (taken took count : ℕ)
-      → Writes (change old now) text (drop taken text) count → bytes ≡ drop taken text
+      → Writes (change wrote flushed holds old now) text (drop taken text) count → bytes ≡ drop taken text
       → 0 < length bytes → 0 < took → wrote now bytes (Ok took) new
-      → Writes (change old new) text (drop (taken + took) text) (count + 1)
+      → Writes (change wrote flushed holds old new) text (drop (taken + took) text) (count + 1)
   writes_more old now new text bytes taken took count writes same room some call =
       writes_one old now new text (drop taken text) (drop (taken + took) text) bytes (Ok took) count
       writes call
@@ -73,18 +68,18 @@ module _ {T : Type 0} (wrote : T → List ℕ → Result ℕ Error → T → Typ
 
   -- a write that was interrupted is made again
   pub writes_again : (old now new : T) (text left bytes : List ℕ) (error : Error) (count : ℕ)
-      → Writes (change old now) text left count → bytes ≡ left → 0 < length bytes
+      → Writes (change wrote flushed holds old now) text left count → bytes ≡ left → 0 < length bytes
       → error_kind error ≡ kind.Interrupted → wrote now bytes (Err error) new
-      → Writes (change old new) text left (count + 1)
+      → Writes (change wrote flushed holds old new) text left (count + 1)
   writes_again old now new text left bytes error count writes same room again call =
       writes_one old now new text left left bytes (Err error) count writes call
       (λ status more r is. (subst (λ b. 0 < length b) same room, same, inl (again, is)))
 
   -- the last write
   stops_one : (old now new : T) (text left bytes : List ℕ) (result : Result ℕ Error) (count : ℕ)
-      → Writes (change old now) text left count → wrote now bytes result new
+      → Writes (change wrote flushed holds old now) text left count → wrote now bytes result new
       → ((status : ℕ) → Prints left status (WriteCall bytes result ∷ []) 1)
-      → Stops (change old new) text
+      → Stops (change wrote flushed holds old new) text
   stops_one old now new text left bytes result count writes call last = record {
     calls = writes.calls ++ WriteCall bytes result ∷ [];
     made = makes_append old now new writes.calls (WriteCall bytes result ∷ []) writes.made
@@ -94,25 +89,25 @@ module _ {T : Type 0} (wrote : T → List ℕ → Result ℕ Error → T → Typ
 
   -- it took nothing
   pub stops_full : (old now new : T) (text left bytes : List ℕ) (count : ℕ)
-      → Writes (change old now) text left count → bytes ≡ left → 0 < length bytes
-      → wrote now bytes (Ok 0) new → Stops (change old new) text
+      → Writes (change wrote flushed holds old now) text left count → bytes ≡ left → 0 < length bytes
+      → wrote now bytes (Ok 0) new → Stops (change wrote flushed holds old new) text
   stops_full old now new text left bytes count writes same room call =
       stops_one old now new text left bytes (Ok 0) count writes call
       (λ status. (subst (λ b. 0 < length b) same room, same, refl, refl))
 
   -- it failed
   pub stops_failed : (old now new : T) (text left bytes : List ℕ) (error : Error) (count : ℕ)
-      → Writes (change old now) text left count → bytes ≡ left → 0 < length bytes
+      → Writes (change wrote flushed holds old now) text left count → bytes ≡ left → 0 < length bytes
       → error_kind error ≢ kind.Interrupted → wrote now bytes (Err error) new
-      → Stops (change old new) text
+      → Stops (change wrote flushed holds old new) text
   stops_failed old now new text left bytes error count writes same room failed call =
       stops_one old now new text left bytes (Err error) count writes call
       (λ status. (subst (λ b. 0 < length b) same room, same, inr (failed, refl, refl)))
 
   -- so many writes were made
   pub stops_tired : (old now : T) (text left : List ℕ) (count : ℕ)
-      → Writes (change old now) text left count → count ≡ 2 ^ 64 - 1
-      → Stops (change old now) text
+      → Writes (change wrote flushed holds old now) text left count → count ≡ 2 ^ 64 - 1
+      → Stops (change wrote flushed holds old now) text
   stops_tired old now text left count writes all = record {
     calls = writes.calls;
     made = writes.made;
@@ -121,8 +116,8 @@ module _ {T : Type 0} (wrote : T → List ℕ → Result ℕ Error → T → Typ
 
   -- ---- with the flush
 
-  pub written_stopped : (old now : T) (text : List ℕ) (status : ℕ) → Stops (change old now) text
-      → AppendsPart (holds old) (holds now) text → IsWritten (change old now) text status 1
+  pub written_stopped : (old now : T) (text : List ℕ) (status : ℕ) → Stops (change wrote flushed holds old now) text
+      → AppendsPart (holds old) (holds now) text → IsWritten (change wrote flushed holds old now) text status 1
   written_stopped old now text status stops part = record {
     calls = stops.calls;
     made = stops.made;
@@ -136,9 +131,9 @@ module _ {T : Type 0} (wrote : T → List ℕ → Result ℕ Error → T → Typ
       of_status (inr gave_up) = inr gave_up
 
   pub written_flushed : (old now new : T) (text : List ℕ) (status count : ℕ) (done : ⊤)
-      → Writes (change old now) text [] count → Appends (holds old) (holds now) text
+      → Writes (change wrote flushed holds old now) text [] count → Appends (holds old) (holds now) text
       → flushed now (Ok done) new → Keeps (holds now) (holds new)
-      → IsWritten (change old new) text status status
+      → IsWritten (change wrote flushed holds old new) text status status
   written_flushed old now new text status count done writes whole call kept = record {
     calls = writes.calls ++ FlushCall (Ok done) ∷ [];
     made = makes_append old now new writes.calls (FlushCall (Ok done) ∷ []) writes.made
@@ -148,9 +143,9 @@ module _ {T : Type 0} (wrote : T → List ℕ → Result ℕ Error → T → Typ
   }
 
   pub written_unflushed : (old now new : T) (text : List ℕ) (status count : ℕ) (error : Error)
-      → Writes (change old now) text [] count → Appends (holds old) (holds now) text
+      → Writes (change wrote flushed holds old now) text [] count → Appends (holds old) (holds now) text
       → flushed now (Err error) new → Keeps (holds now) (holds new)
-      → IsWritten (change old new) text status 1
+      → IsWritten (change wrote flushed holds old new) text status 1
   written_unflushed old now new text status count error writes whole call kept = record {
     calls = writes.calls ++ FlushCall (Err error) ∷ [];
     made = makes_append old now new writes.calls (FlushCall (Err error) ∷ []) writes.made

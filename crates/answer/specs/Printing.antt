@@ -22,6 +22,12 @@ pub record Change (T : Type 0) : Type 1 where
   pub old : T
   pub new : T
 
+-- the change from one state of an output to another, of which these are known
+abbrev pub change : {T : Type 0} → (T → List ℕ → Result ℕ Error → T → Type 0)
+    → (T → Result ⊤ Error → T → Type 0) → (T → Option (List ℕ)) → T → T → Change T
+change wrote flushed holds old new =
+    record { wrote = wrote; flushed = flushed; holds = holds; old = old; new = new }
+
 -- these calls, in their order, and no others lead from one state of an output to the other
 abbrev pub Makes : {T : Type 0} → (T → List ℕ → Result ℕ Error → T → Type 0)
     → (T → Result ⊤ Error → T → Type 0) → T → List Call → T → Type 0

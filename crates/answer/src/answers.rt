@@ -5,7 +5,7 @@ ghost use Rattle.pg_ids.specs.AnyKey.{IsAnyKey};
 ghost use Rattle.command_line.specs.declared.wrong.Wrong.TheVariants as wrongs;
 ghost use Rattle.answer.specs.declared.fault.Fault.TheVariants.{Memory};
 ghost use Rattle.answer.specs.Answer.{IsAnswer, IsFault, IsOutput, IsUsage, WritesFault};
-ghost use Rattle.answer.specs.Printing.{AppendsPart, Change, IsWritten, Stops, Writes};
+ghost use Rattle.answer.specs.Printing.{AppendsPart, IsWritten, Stops, Writes, change};
 ghost use Rattle.command_line.specs.Request.{asked, asked_in};
 ghost use Rattle.answer.specs.Files.{folder_of};
 ghost use Rattle.answer.specs.Statuses.{status_of};
@@ -36,10 +36,8 @@ pub fn answer<R: Wait, O: Opener, W: Output, E: Output>(
 ) -> u8
     ensures { IsAnswer (folder_of (O.text opener.now) (O.opens opener.now) O.Reader.gave)
         (map (λ argument. argument.now) arguments.now)
-        (record { wrote = W.wrote; flushed = W.flushed; holds = W.holds; old = out.old;
-        new = out.new })
-        (record { wrote = E.wrote; flushed = E.flushed; holds = E.holds; old = err.old;
-        new = err.new })
+        (change W.wrote W.flushed W.holds out.old out.new)
+        (change E.wrote E.flushed E.holds err.old err.new)
         result }
 {
     match output(rt, alloc, arguments, opener) {
@@ -133,13 +131,8 @@ fn part_text(alloc: Global, part: Option<LongPart>) -> Result<String, AllocError
 
 /// Writes a fault, and returns its status, or 1 where it can't be written.
 pub fn write_fault<W: Output>(alloc: Global, writer: &mut W, fault: &Fault) -> u8
-    ensures { WritesFault fault.now (record {
-      wrote = W.wrote;
-      flushed = W.flushed;
-      holds = W.holds;
-      old = writer.old;
-      new = writer.new;
-    }) result }
+    ensures { WritesFault fault.now
+        (change W.wrote W.flushed W.holds writer.old writer.new) result }
 {
     match fault.text(alloc) {
         Ok(text) => write(writer, text.as_bytes(), fault.status()),
@@ -149,13 +142,8 @@ pub fn write_fault<W: Output>(alloc: Global, writer: &mut W, fault: &Fault) -> u
 
 // Writes and flushes the text. Returns the status, or 1 where that fails.
 fn write<W: Output>(writer: &mut W, text: &[u8], status: u8) -> u8
-    ensures { IsWritten (record {
-      wrote = W.wrote;
-      flushed = W.flushed;
-      holds = W.holds;
-      old = writer.old;
-      new = writer.new;
-    }) text.now status result }
+    ensures { IsWritten (change W.wrote W.flushed W.holds writer.old writer.new)
+        text.now status result }
 {
     if !write_whole(writer, text) {
         return 1;
@@ -170,21 +158,10 @@ fn write<W: Output>(writer: &mut W, text: &[u8], status: u8) -> u8
 fn write_whole<W: Output>(writer: &mut W, bytes: &[u8]) -> bool
     ensures whole { result ≡ true → Appends (W.holds writer.old) (W.holds writer.new) bytes.now }
     ensures part { AppendsPart (W.holds writer.old) (W.holds writer.new) bytes.now }
-    ensures writes { result ≡ true → (count : ℕ) × Writes (record {
-      wrote = W.wrote;
-      flushed = W.flushed;
-      holds = W.holds;
-      old = writer.old;
-      new = writer.new;
-    }) bytes.now []
-        count }
-    ensures stops { result ≡ false → Stops (record {
-      wrote = W.wrote;
-      flushed = W.flushed;
-      holds = W.holds;
-      old = writer.old;
-      new = writer.new;
-    }) bytes.now }
+    ensures writes { result ≡ true → (count : ℕ)
+        × Writes (change W.wrote W.flushed W.holds writer.old writer.new) bytes.now [] count }
+    ensures stops { result ≡ false
+        → Stops (change W.wrote W.flushed W.holds writer.old writer.new) bytes.now }
 {
     let mut taken = 0;
     for _ in 0..u64::MAX {

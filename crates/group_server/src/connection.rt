@@ -10,6 +10,8 @@ pub struct Connection {
     socket: TcpStream,
     // The socket of the link that its client has.
     link: Cell<Option<RawFd>>,
+    // Whether it is a cancel request's that got no order.
+    is_given_up: Cell<bool>,
 }
 
 impl Connection {
@@ -18,6 +20,7 @@ impl Connection {
         Connection {
             socket,
             link: Cell::new(None),
+            is_given_up: Cell::new(false),
         }
     }
 
@@ -39,6 +42,16 @@ impl Connection {
     /// Its client has the link with this socket from now on, or none.
     pub fn set_link(&self, link: Option<RawFd>) {
         self.link.set(link);
+    }
+
+    /// Its cancel request gets no order.
+    pub fn give_up(&self) {
+        self.is_given_up.set(true);
+    }
+
+    /// Whether its cancel request got no order.
+    pub fn is_given_up(&self) -> bool {
+        self.is_given_up.get()
     }
 
     /// Whether its client has ended it. It doesn't wait.

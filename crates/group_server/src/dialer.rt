@@ -185,4 +185,8 @@ impl<'a, M: Machine> Opener for ClientDialer<'a, M> {
     fn is_gone(&self) -> bool {
         self.connection.is_gone()
     }
+
+    fn give_up_cancel(&self) {
+        self.connection.give_up();
+    }
 }

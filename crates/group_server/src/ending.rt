@@ -17,8 +17,10 @@ pub fn end<M: Machine>(machine: &M, connection: &Connection, client: &mut Client
         let _ = client.write_all(words.as_slice());
     }
     match client.last_call() {
-        // A cancel request whose byte wasn't taken stays unread, so that the connection is reset.
+        // The last byte of a cancel request stays unread where it got no order, or where its sender
+        // didn't take the byte: so the connection is reset.
         LastCall::Failed => {}
+        LastCall::Read if connection.is_given_up() => {}
         LastCall::Read => settle(connection, client),
         LastCall::Wrote => {
             settle(connection, client);

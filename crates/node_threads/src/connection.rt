@@ -153,6 +153,7 @@ where
 {
     let is_own = key.peer() == calling.node.settings().peer_id();
     let Some(mut seat) = calling.node.seats.take(visit.rt, key, is_own) else {
+        visit.opener.give_up_cancel();
         return;
     };
     if is_own {

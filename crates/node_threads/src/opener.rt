@@ -50,4 +50,8 @@ pub trait Opener {
     fn is_gone(&self) -> bool {
         false
     }
+
+    /// The cancel request of this connection gets no order. Its sender isn't to take it for one
+    /// that was settled: the connection is reset.
+    fn give_up_cancel(&self) {}
 }

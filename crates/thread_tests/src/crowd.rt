@@ -132,9 +132,10 @@ fn assert_closed<R: Threads + Wait + Sync + Abort>(
 ) {
     come(rt, alloc, crowd, &mut callings);
     assert_one_is_closed(rt, callings.as_slice());
-    // Its client was written nothing, and no connection was made for it.
+    // Its client was written nothing, no connection was made for it, and it was given up.
     let ends = crowd.tracker.ends();
     assert_eq!(rt; (ends.made, ends.done, ends.strayed), (257, 257, 0));
+    assert_eq!(rt; ends.given_up, 1);
 }
 
 #[test]

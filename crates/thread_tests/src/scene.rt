@@ -113,6 +113,7 @@ fn all_done(count: u64) -> Ends {
         closed: count,
         done: count,
         strayed: 0,
+        given_up: 0,
     }
 }
 

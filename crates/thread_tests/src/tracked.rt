@@ -8,14 +8,15 @@ use std::io::{ErrorKind, Read, Write};
 use std::sync::atomic::{AtomicU64, Ordering};
 use std::sync::{Arc, Wait};
 
-// How many streams there were: made, closed, closed with all their turns taken, and how often one
-// was written what it doesn't take.
+// How many streams there were: made, closed, closed with all their turns taken; how often one was
+// written what it doesn't take; and how many cancel requests were given up.
 #[derive(Clone, Copy, Debug, PartialEq, Eq)]
 pub(crate) struct Ends {
     pub(crate) made: u64,
     pub(crate) closed: u64,
     pub(crate) done: u64,
     pub(crate) strayed: u64,
+    pub(crate) given_up: u64,
 }
 
 // Counts the ends of streams, in any thread.
@@ -25,6 +26,7 @@ pub(crate) struct Tracker {
     closed: AtomicU64,
     done: AtomicU64,
     strayed: AtomicU64,
+    given_up: AtomicU64,
 }
 
 impl Tracker {
@@ -34,6 +36,7 @@ impl Tracker {
             closed: AtomicU64::new(0),
             done: AtomicU64::new(0),
             strayed: AtomicU64::new(0),
+            given_up: AtomicU64::new(0),
         };
         Ok(Arc::new(alloc, tracker)?)
     }
@@ -44,6 +47,7 @@ impl Tracker {
             closed: self.closed.load(Ordering::SeqCst),
             done: self.done.load(Ordering::SeqCst),
             strayed: self.strayed.load(Ordering::SeqCst),
+            given_up: self.given_up.load(Ordering::SeqCst),
         }
     }
 }
@@ -208,5 +212,9 @@ impl Opener for Dialer<'_> {
 
     fn peer<R: Wait>(&self, _rt: &R, _peer: PeerNo) -> io::Result<Talk> {
         self.dial()
+    }
+
+    fn give_up_cancel(&self) {
+        add_one(&self.tracker.given_up);
     }
 }
