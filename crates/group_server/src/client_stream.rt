@@ -179,9 +179,18 @@ impl<'a, M: Machine> ClientStream<'a, M> {
         let count = self.connection.socket().peek(last)?;
         if count == 1 {
             self.stage = Stage::Cancel;
-            self.come_in()?;
+            self.admit_cancel()?;
         }
         Ok(count)
+    }
+
+    // A cancel request was read. It is given up if the connection was closed for another.
+    fn admit_cancel(&self) -> io::Result<()> {
+        let admitted = self.come_in();
+        if admitted.is_err() {
+            self.connection.give_up();
+        }
+        admitted
     }
 
     // Reads the client's session.

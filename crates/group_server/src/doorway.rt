@@ -58,10 +58,11 @@ impl Doorway {
     }
 }
 
-// Ends both sides of a socket, whose thread then closes it. It is called under the lock, before
-// which no thread closes the socket of a connection in its first packets.
+// Ends the reads of a socket, whose thread then closes it: if something came that wasn't read, as of
+// a cancel request, the connection is reset. It is called under the lock, before which no thread
+// closes the socket of a connection in its first packets.
 fn close(socket: Option<RawFd>) {
     if let Some(socket) = socket {
-        c::shutdown(socket, c::SHUT_RDWR);
+        c::shutdown(socket, c::SHUT_RD);
     }
 }
