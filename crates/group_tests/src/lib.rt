@@ -36,9 +36,17 @@ mod host;
 #[cfg(test)]
 mod last_words;
 #[cfg(test)]
+mod log_lines;
+#[cfg(test)]
+mod login_answers;
+#[cfg(test)]
 mod long_keys;
 #[cfg(test)]
 mod messages;
+#[cfg(test)]
+mod reported;
+#[cfg(test)]
+mod scripted;
 #[cfg(test)]
 mod settings;
 #[cfg(test)]
