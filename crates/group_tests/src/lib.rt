@@ -4,11 +4,15 @@
 #![tactic(auto)]
 
 #[cfg(test)]
+mod caller;
+#[cfg(test)]
 mod cancels;
 #[cfg(test)]
 mod circle;
 #[cfg(test)]
 mod client;
+#[cfg(test)]
+mod client_lines;
 #[cfg(test)]
 mod commands;
 #[cfg(test)]
@@ -35,6 +39,8 @@ mod guests;
 mod host;
 #[cfg(test)]
 mod last_words;
+#[cfg(test)]
+mod link_lines;
 #[cfg(test)]
 mod log_lines;
 #[cfg(test)]
