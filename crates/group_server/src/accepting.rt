@@ -1,11 +1,12 @@
 //! The connections that a listener accepts.
-use crate::client_stream::{ClientStream, Serves};
+use crate::client_stream::{ClientStream, Entry, Serves};
 use crate::crew::Crew;
 use crate::doorway::Doorway;
 use crate::ending::end;
 use crate::guests::Newcomer;
 use crate::limits::{ALONE_MILLIS, FIRST_PACKETS_MILLIS, NEWCOMER_AGE_MILLIS};
-use crate::{Connection, Deadline, Host, Machine, Notice, Notices, Serving};
+use crate::log::{Event, Value};
+use crate::{Connection, Deadline, Host, Log, Machine, Serving};
 use node_threads::Front;
 use std::alloc::{AllocError, Global};
 use std::io::ErrorKind;
@@ -31,7 +32,7 @@ pub struct Acceptor<M: Machine> {
     nodes: Vec<Arc<Serving<M>, Global>>,
     front: Mutex<Front>,
     doorway: Arc<Doorway, Global>,
-    notices: Arc<Notices, Global>,
+    log: Arc<Log, Global>,
     crew: Crew,
 }
 
@@ -41,7 +42,7 @@ impl<M: Machine> Acceptor<M> {
         listener: TcpListener,
         nodes: Vec<Arc<Serving<M>, Global>>,
         doorway: Arc<Doorway, Global>,
-        notices: Arc<Notices, Global>,
+        log: Arc<Log, Global>,
     ) -> Acceptor<M> {
         let front = Mutex::new(Front::new(nodes.len().max(1)));
         Acceptor {
@@ -49,7 +50,7 @@ impl<M: Machine> Acceptor<M> {
             nodes,
             front,
             doorway,
-            notices,
+            log,
             crew: Crew::new(),
         }
     }
@@ -64,7 +65,7 @@ impl<M: Machine> Acceptor<M> {
             Serves::Cancels
         };
         if let Err(error) = self.try_serve(host, alloc, place, socket, serves) {
-            self.give_notice(host, alloc, Notice::Serve, "serve", &error);
+            self.write_error(host, Event::ServeFailed, &error);
         }
     }
 
@@ -112,26 +113,24 @@ impl<M: Machine> Acceptor<M> {
             }
         };
         let deadline = Deadline::after(host, time_of(serves))?;
-        let mut client = ClientStream::new(
-            host,
-            alloc,
-            connection,
-            &self.doorway,
+        let entry = Entry {
+            doorway: &self.doorway,
             newcomer,
             serves,
             deadline,
-        );
+            log: &self.log,
+            node: node.number(),
+        };
+        let mut client = ClientStream::new(host, alloc, connection, entry);
         node.serve(host, alloc, calling, connection, &mut client);
         end(host, connection, &mut client);
         Ok(())
     }
 
-    // Gives notice of what can't be done with a connection.
-    fn give_notice(&self, host: &M, alloc: Global, notice: Notice, what: &str, error: &io::Error) {
-        if self.notices.may_give(host, notice) {
-            let text = format!(in alloc; "cannot {what} a connection: {error}");
-            self.notices.give(host, text);
-        }
+    // Writes to the log why something can't be done.
+    fn write_error(&self, host: &M, event: Event, error: &io::Error) {
+        self.log
+            .write(host, None, event, &[("error", Value::Error(error))]);
     }
 }
 
@@ -151,10 +150,7 @@ pub fn keep_accepting<H: Host>(host: &H, alloc: Global, acceptor: &Arc<Acceptor<
             node.stock(host, alloc, acceptor.crew.fewest());
         }
         if let Err(error) = start(host, alloc, acceptor) {
-            if acceptor.notices.may_give(host, Notice::Serve) {
-                let text = format!(in alloc; "cannot start a thread: {error}");
-                acceptor.notices.give(host, text);
-            }
+            acceptor.write_error(host, Event::ThreadFailed, &error);
             acceptor.doorway.make_room(host, NEWCOMER_AGE_MILLIS);
             thread::sleep(host, Duration::from_millis(REST));
         }
@@ -191,7 +187,7 @@ fn accept<M: Machine>(host: &M, alloc: Global, acceptor: &Acceptor<M>) {
                 }
             }
             Err(error) => {
-                acceptor.give_notice(host, alloc, Notice::Accept, "accept", &error);
+                acceptor.write_error(host, Event::AcceptFailed, &error);
                 acceptor.doorway.make_room(host, NEWCOMER_AGE_MILLIS);
                 thread::sleep(host, Duration::from_millis(REST));
             }

@@ -7,12 +7,31 @@ use crate::guests::Newcomer;
 use crate::last_words::last_words;
 use crate::limits::LOOK_MILLIS;
 use crate::link_stream::is_pause;
+use crate::log::{Event, Value};
+use crate::login_answer::{HEAD, field_of};
 use crate::poll::{is_ended, wait_readable};
-use crate::{Connection, Deadline, Machine};
+use crate::{Connection, Deadline, Log, Machine};
 use std::alloc::Global;
 use std::io;
 use std::io::{ErrorKind, Read, Write};
 use std::time::Duration;
+
+/// With what a connection is served.
+#[derive(Clone, Copy)]
+pub struct Entry<'a> {
+    /// The door by which it came in.
+    pub doorway: &'a Doorway,
+    /// Its place there.
+    pub newcomer: Newcomer,
+    /// Whether a session is served, or nothing but a cancel request.
+    pub serves: Serves,
+    /// Until when its first packets have to come.
+    pub deadline: Deadline,
+    /// The log.
+    pub log: &'a Log,
+    /// The number of the node that serves it.
+    pub node: u16,
+}
 
 /// A client's side of its connection. The first packets have a deadline; after that a read waits
 /// for as long as the client likes, but where the client has a link, no longer than its server
@@ -22,11 +41,10 @@ pub struct ClientStream<'a, M: Machine> {
     machine: &'a M,
     alloc: Global,
     connection: &'a Connection,
-    doorway: &'a Doorway,
-    newcomer: Newcomer,
+    entry: Entry<'a>,
     stage: Stage,
-    // Whether a session is served, or nothing but a cancel request.
-    serves: Serves,
+    // Whether the client is logged in, or was refused.
+    is_answered: bool,
     // Whether a read of the socket returns after a while.
     reads_briefly: bool,
     // What the last call was.
@@ -74,19 +92,15 @@ impl<'a, M: Machine> ClientStream<'a, M> {
         machine: &'a M,
         alloc: Global,
         connection: &'a Connection,
-        doorway: &'a Doorway,
-        newcomer: Newcomer,
-        serves: Serves,
-        deadline: Deadline,
+        entry: Entry<'a>,
     ) -> ClientStream<'a, M> {
         ClientStream {
             machine,
             alloc,
             connection,
-            doorway,
-            newcomer,
-            stage: Stage::First(FirstPacket::new(), deadline),
-            serves,
+            entry,
+            stage: Stage::First(FirstPacket::new(), entry.deadline),
+            is_answered: false,
             reads_briefly: false,
             last: LastCall::Read,
             is_sending: false,
@@ -148,7 +162,7 @@ impl<'a, M: Machine> ClientStream<'a, M> {
     // Looks at what the first packets ask for. It fails if that isn't served, or if the connection
     // was closed for another.
     fn see(&mut self, packet: FirstPacket) -> io::Result<()> {
-        if packet.asks() == Asks::Session && self.serves == Serves::Cancels {
+        if packet.asks() == Asks::Session && self.entry.serves == Serves::Cancels {
             return Err(io::Error::from(ErrorKind::ConnectionRefused));
         }
         if packet.next() == Next::Done {
@@ -160,7 +174,11 @@ impl<'a, M: Machine> ClientStream<'a, M> {
 
     // The first packets were read. It fails if the connection was closed for another.
     fn come_in(&self) -> io::Result<()> {
-        if self.doorway.come_in(self.machine, self.newcomer) {
+        if self
+            .entry
+            .doorway
+            .come_in(self.machine, self.entry.newcomer)
+        {
             Ok(())
         } else {
             Err(io::Error::from(ErrorKind::ConnectionAborted))
@@ -219,6 +237,9 @@ impl<'a, M: Machine> ClientStream<'a, M> {
         match self.connection.link() {
             Some(link) if is_ended(link) => {
                 self.words = last_words(self.alloc, link).ok();
+                if let Some(words) = &self.words {
+                    self.write_error(Event::LinkLost, words.as_slice());
+                }
                 Err(io::Error::from(ErrorKind::ConnectionAborted))
             }
             Some(_) => Ok(()),
@@ -226,6 +247,42 @@ impl<'a, M: Machine> ClientStream<'a, M> {
                 self.reads_briefly = false;
                 self.connection.socket().set_read_timeout(None)
             }
+        }
+    }
+
+    // Looks at the first that is written to a client: its login, or the error by which it is
+    // refused.
+    #[inline(never)]
+    fn look_at_answer(&mut self, bytes: &[u8]) {
+        match (bytes.first(), self.holds_cancel()) {
+            (Some(b'R'), false) => self.is_answered = true,
+            (Some(b'E'), false) => {
+                self.is_answered = true;
+                self.write_error(Event::ClientRefused, bytes);
+            }
+            _ => {}
+        }
+    }
+
+    // Writes this ErrorResponse to the log.
+    fn write_error(&self, event: Event, error: &[u8]) {
+        let body = error.get(HEAD..).unwrap_or(&[]);
+        let code = Value::Bytes(field_of(body, b'C').unwrap_or(&[]));
+        let message = Value::Bytes(field_of(body, b'M').unwrap_or(&[]));
+        let fields = [
+            ("client", self.client()),
+            ("code", code),
+            ("message", message),
+        ];
+        let node = Some(self.entry.node);
+        self.entry.log.write(self.machine, node, event, &fields);
+    }
+
+    // Where the client is.
+    fn client(&self) -> Value<'static> {
+        match self.connection.socket().peer_addr() {
+            Ok(address) => Value::Peer(address),
+            Err(_) => Value::Text("-"),
         }
     }
 
@@ -276,6 +333,9 @@ impl<'a, M: Machine> Read for ClientStream<'a, M> {
 
 impl<'a, M: Machine> Write for ClientStream<'a, M> {
     fn write(&mut self, bytes: &[u8]) -> io::Result<usize> {
+        if !self.is_answered {
+            self.look_at_answer(bytes);
+        }
         let mut socket = self.connection.socket();
         match socket.write(bytes) {
             Ok(count) => {

@@ -1,11 +1,15 @@
 //! Connections to a node's servers and peers.
 use crate::connecting::connect;
 use crate::limits::{CANCEL_CONNECT_MILLIS, CANCEL_END_MILLIS, LOGIN_MILLIS};
-use crate::{Connection, Deadline, LinkStream, Machine, Notice, Notices};
+use crate::log::{Event, Field, Value};
+use crate::looks::Looks;
+use crate::origin::Origin;
+use crate::stub::Reports;
+use crate::{Connection, Deadline, LinkStream, Log, Machine};
 use ini_config::{Database, Group, Peer, Settings};
 use node_threads::Opener;
 use pg_ids::{DatabaseNo, PeerNo};
-use std::alloc::Global;
+use std::alloc::{AllocError, Global};
 use std::io;
 use std::io::ErrorKind;
 use std::sync::{Arc, Wait};
@@ -17,7 +21,8 @@ pub struct Dialer<M: Machine> {
     alloc: Global,
     group: Arc<Group, Global>,
     place: usize,
-    notices: Arc<Notices, Global>,
+    log: Arc<Log, Global>,
+    reports: Arc<Reports, Global>,
 }
 
 /// What connects a node to its servers and peers for the client of one connection.
@@ -28,20 +33,22 @@ pub struct ClientDialer<'a, M: Machine> {
 }
 
 impl<M: Machine> Dialer<M> {
-    /// The dialer of the node at this place of the group.
+    /// The dialer of the node at this place of the group, whose clients are told these reports.
     pub fn new(
         machine: M,
         alloc: Global,
         group: Arc<Group, Global>,
         place: usize,
-        notices: Arc<Notices, Global>,
+        log: Arc<Log, Global>,
+        reports: Arc<Reports, Global>,
     ) -> Dialer<M> {
         Dialer {
             machine,
             alloc,
             group,
             place,
-            notices,
+            log,
+            reports,
         }
     }
 
@@ -53,75 +60,90 @@ impl<M: Machine> Dialer<M> {
         }
     }
 
+    /// The number of its node.
+    pub fn number(&self) -> u16 {
+        match self.group.get(self.place) {
+            Some(settings) => settings.peer_id().get(),
+            None => 0,
+        }
+    }
+
     fn settings(&self) -> io::Result<&Settings> {
         self.group
             .get(self.place)
             .ok_or(io::Error::from(ErrorKind::NotFound))
     }
 
-    // Connects to a server for a link, and gives notice where that fails.
+    // Connects to the server of a database for a link. The deadline is for the login, too.
     fn open_link(&self, settings: &Settings, entry: &Database<'_>) -> io::Result<LinkStream<M>> {
-        let link = self.try_open_link(entry);
-        self.give_server_notice(settings, entry, &link);
-        link
-    }
-
-    // The deadline is for the login, too.
-    fn try_open_link(&self, entry: &Database<'_>) -> io::Result<LinkStream<M>> {
+        let fields = server_fields(entry);
         let deadline = Deadline::after(&self.machine, LOGIN_MILLIS)?;
-        let socket = connect(&self.machine, entry.host, entry.port, deadline)?;
-        LinkStream::new(self.machine, self.alloc, socket, deadline)
+        let socket = match connect(&self.machine, entry.host, entry.port, deadline) {
+            Ok(socket) => socket,
+            Err(error) => {
+                self.write_error(settings, Event::LinkConnectFailed, &fields, &error);
+                return Err(error);
+            }
+        };
+        let origin = self.origin(settings, &fields)?;
+        let looks = Looks::of_link(self.alloc, origin, &self.reports)?;
+        LinkStream::new(self.machine, self.alloc, socket, deadline, looks)
     }
 
-    // Connects to this address for a cancel request.
-    fn open_cancel(&self, host: &str, port: u16) -> io::Result<LinkStream<M>> {
+    // Connects to this address, which these fields name, for a cancel request.
+    fn open_cancel(
+        &self,
+        settings: &Settings,
+        host: &str,
+        port: u16,
+        fields: &[Field<'_>],
+    ) -> io::Result<LinkStream<M>> {
         let deadline = Deadline::after(&self.machine, CANCEL_CONNECT_MILLIS)?;
-        let socket = connect(&self.machine, host, port, deadline)?;
+        let socket = match connect(&self.machine, host, port, deadline) {
+            Ok(socket) => socket,
+            Err(error) => {
+                self.write_error(settings, Event::CancelConnectFailed, fields, &error);
+                return Err(error);
+            }
+        };
         let end = Deadline::after(&self.machine, CANCEL_END_MILLIS)?;
-        LinkStream::new(self.machine, self.alloc, socket, end)
+        let looks = Looks::of_cancel(self.origin(settings, fields)?);
+        LinkStream::new(self.machine, self.alloc, socket, end, looks)
     }
 
-    // Gives notice where a connection to a server couldn't be made.
-    fn give_server_notice(
-        &self,
-        settings: &Settings,
-        entry: &Database<'_>,
-        opened: &io::Result<LinkStream<M>>,
-    ) {
-        let Err(error) = opened else {
-            return;
-        };
-        if self.notices.may_give(&self.machine, Notice::Server) {
-            let node = settings.peer_id().get();
-            let text = format!(in self.alloc;
-                "node {node}: cannot connect to {}:{} for database {}: {error}",
-                entry.host, entry.port, entry.name
-            );
-            self.notices.give(&self.machine, text);
-        }
+    // A connection of the node with these settings that these fields name.
+    fn origin(&self, settings: &Settings, fields: &[Field<'_>]) -> Result<Origin, AllocError> {
+        let node = settings.peer_id().get();
+        Origin::new(self.alloc, &self.log, node, fields)
     }
 
-    // Gives notice where a connection to a peer couldn't be made.
-    fn give_peer_notice(
+    // Writes to the log why what these fields name can't be connected to.
+    fn write_error(
         &self,
         settings: &Settings,
-        entry: &Peer<'_>,
-        opened: &io::Result<LinkStream<M>>,
+        event: Event,
+        fields: &[Field<'_>],
+        error: &io::Error,
     ) {
-        let Err(error) = opened else {
-            return;
-        };
-        if self.notices.may_give(&self.machine, Notice::Peer) {
-            let node = settings.peer_id().get();
-            let text = format!(in self.alloc;
-                "node {node}: cannot connect to {}:{} for peer {}: {error}",
-                entry.host,
-                entry.port,
-                entry.number.get()
-            );
-            self.notices.give(&self.machine, text);
+        if let Ok(origin) = self.origin(settings, fields) {
+            origin.write_error(&self.machine, event, error);
         }
     }
+}
+
+// The fields that name the server of a database.
+fn server_fields<'a>(entry: &Database<'a>) -> [Field<'a>; 2] {
+    let server = Value::Address(entry.host, entry.port);
+    [("database", Value::Text(entry.name)), ("server", server)]
+}
+
+// The fields that name a peer.
+fn peer_fields<'a>(entry: &Peer<'a>) -> [Field<'a>; 2] {
+    let number = Value::Number(u64::from(entry.number.get()));
+    [
+        ("peer", number),
+        ("address", Value::Address(entry.host, entry.port)),
+    ]
 }
 
 impl<'a, M: Machine> Opener for ClientDialer<'a, M> {
@@ -149,9 +171,9 @@ impl<'a, M: Machine> Opener for ClientDialer<'a, M> {
         let Some(entry) = settings.database(database) else {
             return Err(io::Error::from(ErrorKind::NotFound));
         };
-        let opened = self.dialer.open_cancel(entry.host, entry.port);
-        self.dialer.give_server_notice(settings, &entry, &opened);
-        opened
+        let fields = server_fields(&entry);
+        self.dialer
+            .open_cancel(settings, entry.host, entry.port, &fields)
     }
 
     fn peer<R: Wait>(&self, _rt: &R, peer: PeerNo) -> io::Result<LinkStream<M>> {
@@ -159,9 +181,10 @@ impl<'a, M: Machine> Opener for ClientDialer<'a, M> {
         for place in 0..settings.peer_count() {
             match settings.peer(place) {
                 Some(entry) if entry.number == peer => {
-                    let opened = self.dialer.open_cancel(entry.host, entry.port);
-                    self.dialer.give_peer_notice(settings, &entry, &opened);
-                    return opened;
+                    let fields = peer_fields(&entry);
+                    return self
+                        .dialer
+                        .open_cancel(settings, entry.host, entry.port, &fields);
                 }
                 _ => {}
             }

@@ -5,7 +5,9 @@ ghost use Rattle.std.specs.Arc.{arc_value};
 use crate::accepting::{Acceptor, keep_accepting};
 use crate::descriptors::{Needs, descriptor_limit};
 use crate::doorway::Doorway;
-use crate::{Dialer, Host, Notices, Serving};
+use crate::options::{ServeOptions, copy_of, write_start};
+use crate::stub::Reports;
+use crate::{Dialer, Host, Log, Serving};
 use ini_config::Group;
 use node_threads::Calling;
 use pg_ids::Boot;
@@ -15,11 +17,22 @@ use std::net::TcpListener;
 use std::sync::Arc;
 use std::{io, thread};
 
+/// An address that can't be listened at.
+#[derive(Debug, Drop)]
+pub struct Unbound {
+    /// The address.
+    pub address: String,
+    /// Its port.
+    pub port: u16,
+    /// Why.
+    pub error: io::Error,
+}
+
 /// Why a group can't serve.
-#[derive(Clone, Copy, Debug, PartialEq, Eq)]
+#[derive(Debug, Drop)]
 pub enum ServeError {
-    /// This port can't be listened at.
-    Port(u16),
+    /// This address can't be listened at.
+    Address(Unbound),
     /// Memory was refused.
     Memory,
     /// A thread can't be started.
@@ -45,7 +58,7 @@ pub struct Listening<H: Host> {
     front: TcpListener,
     nodes: Vec<ListeningNode<H>>,
     doorway: Arc<Doorway, Global>,
-    notices: Arc<Notices, Global>,
+    log: Arc<Log, Global>,
 }
 
 // A node whose own address is bound.
@@ -56,19 +69,17 @@ struct ListeningNode<H: Host> {
 }
 
 impl<H: Host> Listening<H> {
-    /// Binds port `front` of 127.0.0.1 and the address of each node. The nodes have no clients and
-    /// no links, and boot with this number.
+    /// Binds the port of 127.0.0.1 that all nodes share, and the address of each node. The nodes
+    /// have no clients and no links.
     pub fn bind(
         host: &H,
         alloc: Global,
         group: Group,
-        front: u16,
-        seed: [u8; 32],
-        boot: u32,
+        options: &ServeOptions<'_>,
     ) -> Result<Listening<H>, ServeError> {
-        let front = listen(host, "127.0.0.1", front)?;
+        let front = listen(host, alloc, "127.0.0.1", options.front)?;
         let listeners = listen_at_each(host, alloc, &group)?;
-        Ok(Listening::new(host, alloc, group, front, listeners, seed, boot)?)
+        Ok(Listening::new(host, alloc, group, options, front, listeners)?)
     }
 
     // The group with these listeners, one for each node.
@@ -76,20 +87,29 @@ impl<H: Host> Listening<H> {
         host: &H,
         alloc: Global,
         group: Group,
+        options: &ServeOptions<'_>,
         front: TcpListener,
         listeners: Vec<TcpListener>,
-        seed: [u8; 32],
-        boot: u32,
     ) -> Result<Listening<H>, AllocError> {
         let room = Needs::of(&group).room(descriptor_limit());
         let doorway = Arc::new(alloc, Doorway::new(alloc, room))?;
+        let log = Arc::new(alloc, Log::new(alloc))?;
+        write_start(host, alloc, &log, &group, options)?;
         let group = Arc::new(alloc, group)?;
-        let notices = Arc::new(alloc, Notices::new(alloc))?;
+        let reports = Arc::new(alloc, copy_of(alloc, options.reports)?)?;
         let mut nodes = Vec::with_capacity(alloc, listeners.len())?;
         let mut place = 0;
         for listener in listeners {
             if place < group.len() {
-                let serving = serving_at(host, alloc, &group, &notices, place, seed, boot)?;
+                let dialer = Dialer::new(
+                    *host,
+                    alloc,
+                    Arc::try_clone(&group)?,
+                    place,
+                    Arc::try_clone(&log)?,
+                    Arc::try_clone(&reports)?,
+                );
+                let serving = serving_at(alloc, &group, place, options, dialer)?;
                 nodes.push(ListeningNode { listener, serving })?;
                 place += 1;
             }
@@ -98,7 +118,7 @@ impl<H: Host> Listening<H> {
             front,
             nodes,
             doorway,
-            notices,
+            log,
         })
     }
 
@@ -109,11 +129,11 @@ impl<H: Host> Listening<H> {
             front,
             nodes,
             doorway,
-            notices,
+            log,
         } = self;
-        write_notices_apart(host, &notices)?;
-        let all = accept_at_each(host, alloc, nodes, &doorway, &notices)?;
-        let acceptor = Acceptor::new(front, all, doorway, notices);
+        write_log_apart(host, &log)?;
+        let all = accept_at_each(host, alloc, nodes, &doorway, &log)?;
+        let acceptor = Acceptor::new(front, all, doorway, log);
         let acceptor = Arc::new(alloc, acceptor).map_err(AllocError::from)?;
         keep_accepting(host, alloc, &acceptor);
         Ok(())
@@ -126,13 +146,11 @@ pub fn serve_group<H: Host, W: Write>(
     host: &H,
     alloc: Global,
     group: Group,
-    front: u16,
-    seed: [u8; 32],
-    boot: u32,
+    options: &ServeOptions<'_>,
     out: &mut W,
 ) -> Result<(), ServeError> {
-    match Listening::bind(host, alloc, group, front, seed, boot) {
-        Ok(listening) => say_and_serve(host, alloc, listening, front, out),
+    match Listening::bind(host, alloc, group, options) {
+        Ok(listening) => say_and_serve(host, alloc, listening, options.front, out),
         Err(error) => Err(error),
     }
 }
@@ -157,13 +175,10 @@ pub fn say_listening<W: Write>(out: &mut W, port: u16) -> Result<(), ServeError>
     }
 }
 
-// Writes notices in a thread apart.
-fn write_notices_apart<H: Host>(
-    host: &H,
-    notices: &Arc<Notices, Global>,
-) -> Result<(), ServeError> {
+// Writes the lines of the log in a thread apart.
+fn write_log_apart<H: Host>(host: &H, log: &Arc<Log, Global>) -> Result<(), ServeError> {
     let own = *host;
-    let theirs = Arc::try_clone(notices)?;
+    let theirs = Arc::try_clone(log)?;
     match thread::Builder::new().spawn(host, move || theirs.write_all(&own)) {
         Ok(_) => Ok(()),
         Err(_) => Err(ServeError::Thread),
@@ -172,24 +187,16 @@ fn write_notices_apart<H: Host>(
 
 // The node at a place of the group, without clients and links.
 fn serving_at<H: Host>(
-    host: &H,
     alloc: Global,
     group: &Arc<Group, Global>,
-    notices: &Arc<Notices, Global>,
     place: usize,
-    seed: [u8; 32],
-    boot: u32,
+    options: &ServeOptions<'_>,
+    dialer: Dialer<H>,
 ) -> Result<Arc<Serving<H>, Global>, AllocError>
     requires { place < length (arc_value group.now) }
 {
-    let dialer = Dialer::new(
-        *host,
-        alloc,
-        Arc::try_clone(group)?,
-        place,
-        Arc::try_clone(notices)?,
-    );
-    let first = Calling::new(alloc, group, place, seed, Boot((boot as u64) << 32))?;
+    let boot = Boot((options.boot as u64) << 32);
+    let first = Calling::new(alloc, group, place, options.seed, boot)?;
     let first = Box::new(alloc, first)?;
     Ok(Arc::new(alloc, Serving::new(alloc, first, dialer))?)
 }
@@ -200,11 +207,11 @@ fn accept_at_each<H: Host>(
     alloc: Global,
     nodes: Vec<ListeningNode<H>>,
     doorway: &Arc<Doorway, Global>,
-    notices: &Arc<Notices, Global>,
+    log: &Arc<Log, Global>,
 ) -> Result<Vec<Arc<Serving<H>, Global>>, ServeError> {
     let mut all = Vec::with_capacity(alloc, nodes.len())?;
     for node in nodes {
-        let Ok(()) = all.push(accept_at(host, alloc, node, doorway, notices)?) else {
+        let Ok(()) = all.push(accept_at(host, alloc, node, doorway, log)?) else {
             return Err(ServeError::Memory);
         };
     }
@@ -217,11 +224,11 @@ fn accept_at<H: Host>(
     alloc: Global,
     node: ListeningNode<H>,
     doorway: &Arc<Doorway, Global>,
-    notices: &Arc<Notices, Global>,
+    log: &Arc<Log, Global>,
 ) -> Result<Arc<Serving<H>, Global>, ServeError> {
     let ListeningNode { listener, serving } = node;
     let kept = Arc::try_clone(&serving)?;
-    let acceptor = acceptor_of(alloc, serving, listener, doorway, notices)?;
+    let acceptor = acceptor_of(alloc, serving, listener, doorway, log)?;
     let own = *host;
     match thread::Builder::new().spawn(host, move || keep_accepting(&own, alloc, &acceptor)) {
         Ok(_) => Ok(kept),
@@ -235,13 +242,13 @@ fn acceptor_of<H: Host>(
     serving: Arc<Serving<H>, Global>,
     listener: TcpListener,
     doorway: &Arc<Doorway, Global>,
-    notices: &Arc<Notices, Global>,
+    log: &Arc<Log, Global>,
 ) -> Result<Arc<Acceptor<H>, Global>, AllocError> {
     let mut nodes = Vec::with_capacity(alloc, 1)?;
     nodes.push(serving)?;
     let doorway = Arc::try_clone(doorway)?;
-    let notices = Arc::try_clone(notices)?;
-    let acceptor = Acceptor::new(listener, nodes, doorway, notices);
+    let log = Arc::try_clone(log)?;
+    let acceptor = Acceptor::new(listener, nodes, doorway, log);
     Ok(Arc::new(alloc, acceptor)?)
 }
 
@@ -253,7 +260,7 @@ fn listen_at_each<H: Host>(
 ) -> Result<Vec<TcpListener>, ServeError> {
     let mut listeners = Vec::new(alloc);
     for settings in group.nodes() {
-        let listener = listen(host, settings.listen_addr(), settings.listen_port())?;
+        let listener = listen(host, alloc, settings.listen_addr(), settings.listen_port())?;
         let Ok(()) = listeners.push(listener) else {
             return Err(ServeError::Memory);
         };
@@ -261,9 +268,19 @@ fn listen_at_each<H: Host>(
     Ok(listeners)
 }
 
-fn listen<H: Host>(host: &H, address: &str, port: u16) -> Result<TcpListener, ServeError> {
+/// Listens at this address.
+pub fn listen<H: Host>(
+    host: &H,
+    alloc: Global,
+    address: &str,
+    port: u16,
+) -> Result<TcpListener, ServeError> {
     match TcpListener::bind(host, (address, port)) {
         Ok(listener) => Ok(listener),
-        Err(_) => Err(ServeError::Port(port)),
+        Err(error) => Err(ServeError::Address(Unbound {
+            address: String::from_str(alloc, address)?,
+            port,
+            error,
+        })),
     }
 }

@@ -45,5 +45,11 @@ pub const SPARE_CONNECTIONS: usize = 8;
 /// How old a connection is at least that is closed because no thread can be started.
 pub const NEWCOMER_AGE_MILLIS: u64 = 1_000;
 
-/// How many notices wait to be written, at most.
-pub const NOTICES_KEPT: usize = 64;
+/// How many lines of the log wait to be written, at most.
+pub const LINES_KEPT: usize = 128;
+
+/// How many lines of the log of one kind are written in a second, at most.
+pub const LINES_A_SECOND: u32 = 10;
+
+/// How many characters of a value stand in a line of the log, at most.
+pub const LONGEST_VALUE: usize = 500;

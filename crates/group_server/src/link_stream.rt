@@ -2,6 +2,7 @@
 ghost use Rattle.std.specs.Io.{ReadsAtMost, WritesAtMost};
 
 use crate::limits::{LOOK_MILLIS, WRITE_MILLIS};
+use crate::looks::Looks;
 use crate::poll::{is_ended, is_quiet, wait_both};
 use crate::{Deadline, Machine};
 use bytes::BytesMut;
@@ -33,6 +34,8 @@ struct Inside<M: Machine> {
     client: Option<RawFd>,
     // What was handed over to be written and isn't written yet.
     unwritten: BytesMut,
+    // What is looked at in what comes.
+    looks: Looks,
 }
 
 impl<M: Machine> LinkStream<M> {
@@ -42,6 +45,7 @@ impl<M: Machine> LinkStream<M> {
         alloc: Global,
         socket: TcpStream,
         deadline: Deadline,
+        looks: Looks,
     ) -> io::Result<LinkStream<M>> {
         socket.set_nodelay(true)?;
         socket.set_read_timeout(Some(Duration::from_millis(LOOK_MILLIS)))?;
@@ -53,21 +57,31 @@ impl<M: Machine> LinkStream<M> {
             deadline: Some(deadline),
             client: None,
             unwritten: BytesMut::new(alloc),
+            looks,
         };
         Ok(LinkStream {
             inside: Box::new(alloc, inside)?,
         })
     }
 
-    /// Whether nothing came on it, its other side hasn't ended it, and all is written.
+    /// Whether nothing came on it, its other side hasn't ended it, all is written, and its server
+    /// reports nothing else than clients are told. Where it isn't, the log says so.
     pub fn is_quiet(&self) -> bool {
-        self.inside.unwritten.is_empty() && is_quiet(self.descriptor())
+        let inside = &self.inside;
+        let is_quiet = inside.unwritten.is_empty()
+            && !inside.looks.differs()
+            && is_quiet(self.descriptor());
+        if !is_quiet {
+            inside.looks.close(&inside.machine);
+        }
+        is_quiet
     }
 
     /// It is the link of the client with this socket from now on, and has no deadline any more.
     pub fn attach(&mut self, client: RawFd) {
         self.inside.deadline = None;
         self.inside.client = Some(client);
+        self.inside.looks.attach();
     }
 
     /// The descriptor of its socket.
@@ -91,6 +105,47 @@ impl<M: Machine> Inside<M> {
         match self.client {
             Some(client) if is_ended(client) => Err(io::Error::from(ErrorKind::ConnectionAborted)),
             _ => Ok(()),
+        }
+    }
+
+    // Reads when something comes.
+    fn read(&mut self, buffer: &mut [u8]) -> io::Result<usize>
+        ensures bound { ReadsAtMost result buffer.new }
+    {
+        for _ in 0..u64::MAX {
+            if self.deadline.is_some() {
+                self.keep_deadline()?;
+            }
+            match self.read_once(buffer) {
+                Ok(count) => return Ok(count),
+                Err(error) if is_pause(&error) => self.look_at_client()?,
+                Err(error) => return Err(error),
+            }
+        }
+        Err(io::Error::from(ErrorKind::TimedOut))
+    }
+
+    // Looks at what came of a read. It fails where the read failed, or where the login of a link is
+    // to fail.
+    #[inline(never)]
+    fn look(&mut self, buffer: &[u8], read: io::Result<usize>) -> io::Result<usize>
+        requires { ReadsAtMost read buffer.now }
+        ensures bound { ReadsAtMost result buffer.now }
+    {
+        match read {
+            Ok(0) => {
+                self.looks.end(&self.machine);
+                Ok(0)
+            }
+            Ok(count) => {
+                let bytes = buffer.get(..count).unwrap_or(&[]);
+                self.looks.look(&self.machine, bytes)?;
+                Ok(count)
+            }
+            Err(error) => {
+                self.looks.fail(&self.machine, &error);
+                Err(error)
+            }
         }
     }
 
@@ -159,23 +214,22 @@ impl<M: Machine> Inside<M> {
 
 impl<M: Machine> Read for LinkStream<M> {
     fn read(&mut self, buffer: &mut [u8]) -> io::Result<usize> {
-        for _ in 0..u64::MAX {
-            if self.inside.deadline.is_some() {
-                self.inside.keep_deadline()?;
-            }
-            match self.inside.read_once(buffer) {
-                Ok(count) => return Ok(count),
-                Err(error) if is_pause(&error) => self.inside.look_at_client()?,
-                Err(error) => return Err(error),
-            }
+        let result = self.inside.read(buffer);
+        if self.inside.looks.is_blind() && matches!(&result, Ok(1..)) {
+            return result;
         }
-        Err(io::Error::from(ErrorKind::TimedOut))
+        self.inside.look(buffer, result)
     }
 }
 
 impl<M: Machine> Write for LinkStream<M> {
     fn write(&mut self, bytes: &[u8]) -> io::Result<usize> {
-        self.inside.write(bytes)
+        let result = self.inside.write(bytes);
+        if let Err(error) = &result {
+            let inside = &mut *self.inside;
+            inside.looks.fail(&inside.machine, error);
+        }
+        result
     }
 
     fn flush(&mut self) -> io::Result<()> {

@@ -26,6 +26,11 @@ impl<M: Machine> Serving<M> {
         }
     }
 
+    /// The node's number.
+    pub fn number(&self) -> u16 {
+        self.dialer.number()
+    }
+
     /// A caller of the node for one more connection, if one is free or can be made.
     pub fn take<R: Wait>(&self, rt: &R, alloc: Global) -> Option<Box<Calling<LinkStream<M>>>> {
         if let Some(calling) = self.free.lock(rt).pop() {

@@ -113,15 +113,34 @@ impl Client {
     ) -> Result<(Client, Vec<u8>), Fail> {
         let mut client = Client::connect(rt, port)?;
         client.send(startup)?;
-        let key = client.greeted(rt, length)?;
+        let key = client.greeted(rt, b"", length)?;
         Ok((client, key))
     }
 
-    // Reads the greeting of a login, and returns its key, which has this length.
-    fn greeted<R: TestHost>(&mut self, rt: &R, length: usize) -> Result<Vec<u8>, Fail> {
+    // A client of the database `shop` that is logged in, and whose login has these messages before
+    // its key.
+    pub(crate) fn log_in_told<R: TestHost>(
+        rt: &R,
+        port: u16,
+        told: &[u8],
+    ) -> Result<(Client, Vec<u8>), Fail> {
+        let mut client = Client::connect(rt, port)?;
+        client.send(STARTUP)?;
+        let key = client.greeted(rt, told, 8)?;
+        Ok((client, key))
+    }
+
+    // Reads the greeting of a login, which has these messages before its key, and returns the key,
+    // which has this length.
+    fn greeted<R: TestHost>(
+        &mut self,
+        rt: &R,
+        told: &[u8],
+        length: usize,
+    ) -> Result<Vec<u8>, Fail> {
         let head = if length == 8 { KEY } else { LONG_KEY };
         let got = self.read(rt, Until::Bytes(IDLE), None)?;
-        let start = joined(rt.alloc(), &[GREETING, head])?;
+        let start = joined(rt.alloc(), &[GREETING, told, head])?;
         let rest = got
             .as_slice()
             .strip_prefix(start.as_slice())

@@ -1,10 +1,10 @@
 //! The addresses of a group: its own, and one of each node.
 use crate::client::Client;
-use crate::group::{ANY_PORT, Running, THREE, free_ports};
+use crate::group::{ANY_PORT, Running, THREE, free_ports, options};
 use crate::host::TestHost;
 use crate::messages::{HI, IDLE};
 use crate::settings::group;
-use group_server::Listening;
+use group_server::{Listening, Reports};
 use std::net::{TcpListener, TcpStream};
 use std::test::Fail;
 use stub_server::Mode;
@@ -47,7 +47,8 @@ fn addresses(rt: HostRuntime) -> Result<(), Fail> {
     }
     let (front, own) = (ports[0], ports[1]);
     let group = group(rt.alloc(), &[own], 1, &[&[]])?;
-    let Ok(_listening) = Listening::bind(&rt, rt.alloc(), group, front, [0; 32], 0) else {
+    let reports = Reports::new(rt.alloc());
+    let Ok(_listening) = Listening::bind(&rt, rt.alloc(), group, &options(front, &reports)) else {
         return Err(Fail::from("an address can't be bound"));
     };
     TcpStream::connect(&rt, ("127.0.0.1", front))?;

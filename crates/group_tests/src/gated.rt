@@ -2,7 +2,7 @@
 use crate::group::ANY_PORT;
 use crate::host::TestHost;
 use crate::settings::group;
-use group_server::{Connection, Dialer, LinkStream, Machine, Notices};
+use group_server::{Connection, Dialer, LinkStream, Log, Machine, Reports};
 use ini_config::Group;
 use node_threads::{Calling, Gate, Point, serve_connection};
 use pg_ids::Boot;
@@ -68,8 +68,9 @@ fn gated<R: TestHost>(
     group: &Arc<Group, Global>,
     gate: &Arc<Barrier, Global>,
 ) -> Result<Arc<Node<R>, Global>, AllocError> {
-    let notices = Arc::new(rt.alloc(), Notices::new(rt.alloc()))?;
-    let dialer = Dialer::new(*rt, rt.alloc(), Arc::try_clone(group)?, 0, notices);
+    let log = Arc::new(rt.alloc(), Log::new(rt.alloc()))?;
+    let reports = Arc::new(rt.alloc(), Reports::new(rt.alloc()))?;
+    let dialer = Dialer::new(*rt, rt.alloc(), Arc::try_clone(group)?, 0, log, reports);
     let gate = Arc::try_clone(gate)?;
     Ok(Arc::new(rt.alloc(), Node { dialer, gate })?)
 }

@@ -1,8 +1,9 @@
 //! A group of nodes that serves in threads of its own, before a stand-in server.
 use crate::client::TURNS;
 use crate::host::TestHost;
+use crate::reported::reports_of;
 use crate::settings::group_before;
-use group_server::Listening;
+use group_server::{Listening, Reports, ServeOptions};
 use ini_config::Group;
 use std::alloc::{AllocError, Global};
 use std::net::TcpListener;
@@ -51,10 +52,20 @@ impl Running {
         servers: &[u16],
         leads: &[&[usize]],
     ) -> Result<Running, Fail> {
+        Running::start_telling(rt, servers, leads, &[])
+    }
+
+    // Starts such nodes, whose clients are told these parameters beside those of every login.
+    pub(crate) fn start_telling<R: TestHost>(
+        rt: &R,
+        servers: &[u16],
+        leads: &[&[usize]],
+        told: &'static [(&'static str, &'static str)],
+    ) -> Result<Running, Fail> {
         let mut nodes = free_ports(rt, leads.len().saturating_add(1))?;
         let front = nodes.pop().ok_or("no port for the group")?;
         let group = group_before(rt.alloc(), nodes.as_slice(), servers, leads)?;
-        start_group(rt, group, front)?;
+        start_group(rt, group, front, told)?;
         Ok(Running { nodes, front })
     }
 
@@ -74,10 +85,17 @@ impl Running {
 }
 
 // The group serves in a thread of its own. It listens when this returns.
-fn start_group<R: TestHost>(rt: &R, group: Group, front: u16) -> Result<(), Fail> {
+fn start_group<R: TestHost>(
+    rt: &R,
+    group: Group,
+    front: u16,
+    told: &'static [(&'static str, &'static str)],
+) -> Result<(), Fail> {
     let listens = Arc::new(rt.alloc(), AtomicBool::new(false))?;
     let (own, theirs) = (*rt, Arc::try_clone(&listens)?);
-    thread::spawn(rt, move || serve_group(&own, group, front, theirs)).map_err(AllocError::from)?;
+    thread::spawn(rt, move || serve_group(&own, group, front, told, theirs)).map_err(
+        AllocError::from,
+    )?;
     await_listening(rt, &listens)
 }
 
@@ -93,10 +111,31 @@ pub(crate) fn await_listening<R: TestHost>(rt: &R, listens: &AtomicBool) -> Resu
 }
 
 // Serves a group, and tells when it listens.
-fn serve_group<R: TestHost>(rt: &R, group: Group, front: u16, listens: Arc<AtomicBool, Global>) {
-    if let Ok(listening) = Listening::bind(rt, rt.alloc(), group, front, [0; 32], BOOT) {
+fn serve_group<R: TestHost>(
+    rt: &R,
+    group: Group,
+    front: u16,
+    told: &[(&str, &str)],
+    listens: Arc<AtomicBool, Global>,
+) {
+    let Ok(reports) = reports_of(rt.alloc(), told) else {
+        return;
+    };
+    let options = options(front, &reports);
+    if let Ok(listening) = Listening::bind(rt, rt.alloc(), group, &options) {
         listens.store(true, Ordering::SeqCst);
         let _ = listening.serve(rt, rt.alloc());
+    }
+}
+
+// What a group of this port is served with, whose clients are told these reports.
+pub(crate) const fn options(front: u16, reports: &Reports) -> ServeOptions<'_> {
+    ServeOptions {
+        version: "0",
+        front,
+        seed: [0; 32],
+        boot: BOOT,
+        reports,
     }
 }
 

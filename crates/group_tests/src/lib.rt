@@ -4,11 +4,15 @@
 #![tactic(auto)]
 
 #[cfg(test)]
+mod caller;
+#[cfg(test)]
 mod cancels;
 #[cfg(test)]
 mod circle;
 #[cfg(test)]
 mod client;
+#[cfg(test)]
+mod client_lines;
 #[cfg(test)]
 mod commands;
 #[cfg(test)]
@@ -36,9 +40,19 @@ mod host;
 #[cfg(test)]
 mod last_words;
 #[cfg(test)]
+mod link_lines;
+#[cfg(test)]
+mod log_lines;
+#[cfg(test)]
+mod login_answers;
+#[cfg(test)]
 mod long_keys;
 #[cfg(test)]
 mod messages;
+#[cfg(test)]
+mod reported;
+#[cfg(test)]
+mod scripted;
 #[cfg(test)]
 mod settings;
 #[cfg(test)]

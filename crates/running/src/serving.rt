@@ -1,7 +1,7 @@
 //! `serve`: a group of nodes serves clients, until the process is stopped.
 use crate::standing_in::stand_in_for_servers;
-use command_line::ServeRequest;
-use group_server::{Host, ServeError, serve_group};
+use command_line::{ServeRequest, version};
+use group_server::{Host, Reports, ServeError, ServeOptions, serve_group};
 use ini_config::Group;
 use std::alloc::Global;
 use std::io::Write;
@@ -19,5 +19,22 @@ pub(crate) fn serve<H: Host, W: Write>(
     if request.stand_in {
         stand_in_for_servers(host, alloc, &group)?;
     }
-    serve_group(host, alloc, group, request.front, seed, request.boot, out)
+    let version = version(alloc)?;
+    let options = ServeOptions {
+        version: number_in(version.as_str()),
+        front: request.front,
+        seed,
+        boot: request.boot,
+        reports: &Reports::new(alloc),
+    };
+    serve_group(host, alloc, group, &options, out)
+}
+
+// The number in a text that names the program and its version.
+fn number_in(version: &str) -> &str {
+    let version = version.trim_end();
+    match version.rsplit_once(' ') {
+        Some((_, number)) => number,
+        None => version,
+    }
 }

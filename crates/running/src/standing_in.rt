@@ -1,6 +1,6 @@
 //! Stand-in servers: `stub` runs one, and `serve --stand-in` those that its settings name.
 use command_line::{StubMode, StubRequest};
-use group_server::{Host, ServeError, say_listening};
+use group_server::{Host, ServeError, listen, say_listening};
 use ini_config::Group;
 use pg_ids::DatabaseNo;
 use std::alloc::{AllocError, Global};
@@ -21,7 +21,7 @@ pub(crate) fn stand_in<H: Host, W: Write>(
     request: StubRequest,
     out: &mut W,
 ) -> Result<(), ServeError> {
-    let listener = listen(host, request.port)?;
+    let listener = listen(host, alloc, ADDRESS, request.port)?;
     let server = new_server(alloc, mode_of(request.mode))?;
     say_listening(out, request.port)?;
     serve(host, &server, &listener);
@@ -37,7 +37,7 @@ pub(crate) fn stand_in_for_servers<H: Host>(
     group: &Group,
 ) -> Result<(), ServeError> {
     for port in server_ports(alloc, group)? {
-        let listener = listen(host, port)?;
+        let listener = listen(host, alloc, ADDRESS, port)?;
         start(host, alloc, listener)?;
     }
     Ok(())
@@ -67,13 +67,6 @@ fn server_ports(alloc: Global, group: &Group) -> Result<Vec<u16>, AllocError> {
         }
     }
     Ok(ports)
-}
-
-fn listen<H: Host>(host: &H, port: u16) -> Result<TcpListener, ServeError> {
-    match TcpListener::bind(host, (ADDRESS, port)) {
-        Ok(listener) => Ok(listener),
-        Err(_) => Err(ServeError::Port(port)),
-    }
 }
 
 fn new_server(alloc: Global, mode: Mode) -> Result<Arc<Server, Global>, AllocError> {

@@ -1,0 +1,202 @@
+//! The log: what happens while a group serves, for its operator.
+mod event;
+mod line;
+
+use crate::limits::LINES_KEPT;
+use event::{EVENTS, KINDS};
+pub use event::{Event, Level};
+use line::left_out_line;
+pub use line::{Field, Value, line_of, put_fields};
+use std::alloc::Global;
+use std::collections::VecDeque;
+use std::io::Eprint;
+use std::sync::{Condvar, CondvarTimeouts, Mutex, Wait};
+use std::time::{Clock, Duration};
+
+// How many milliseconds it takes to count lines of a kind.
+const SECOND: u64 = 1_000;
+
+/// The log of a process. Its lines wait to be written by a thread of their own, so that nobody else
+/// waits for standard error. In a second no more lines of a kind are written than its limit; then
+/// one says how many were left out.
+#[derive(Drop)]
+pub struct Log {
+    alloc: Global,
+    queue: Mutex<Queue>,
+    filled: Condvar,
+}
+
+// The lines that wait to be written, and the counts of each kind.
+#[derive(Drop)]
+struct Queue {
+    lines: VecDeque<String>,
+    counts: [Counts; EVENTS],
+}
+
+// How many lines of a kind there were of late.
+#[derive(Clone, Copy)]
+struct Counts {
+    // When the second began in which lines are counted, if there was a line.
+    began: Option<Duration>,
+    given: u32,
+    left_out: u64,
+}
+
+impl Log {
+    /// No line was written.
+    pub fn new(alloc: Global) -> Log {
+        let none = Counts {
+            began: None,
+            given: 0,
+            left_out: 0,
+        };
+        Log {
+            alloc,
+            queue: Mutex::new(Queue {
+                lines: VecDeque::new(alloc),
+                counts: [none; EVENTS],
+            }),
+            filled: Condvar::new(),
+        }
+    }
+
+    /// Writes the line of an event at a node, or at none, with these fields. It is left out where
+    /// its kind is at its limit, where as many lines wait as may, or where there is no memory for
+    /// it.
+    pub fn write<R: Wait + Clock>(
+        &self,
+        rt: &R,
+        node: Option<u16>,
+        event: Event,
+        fields: &[Field<'_>],
+    ) {
+        self.write_of(rt, node, event, "", fields);
+    }
+
+    /// The same, with fields before these that are written already, each behind a blank.
+    pub fn write_of<R: Wait + Clock>(
+        &self,
+        rt: &R,
+        node: Option<u16>,
+        event: Event,
+        names: &str,
+        fields: &[Field<'_>],
+    ) {
+        let Ok(now) = rt.monotonic() else {
+            return;
+        };
+        if self.queue.lock(rt).may_write(event, now) {
+            let line = line_of(rt, self.alloc, node, event, names, fields);
+            self.queue.lock(rt).push(event, line.ok());
+        }
+        self.filled.notify_one();
+    }
+
+    // Waits for a line, or, if some were left out, no longer than a second.
+    fn wait<R: Wait + Clock>(&self, rt: &R) {
+        let queue = self.queue.lock(rt);
+        if queue.is_short() {
+            let _ = self
+                .filled
+                .wait_timeout_while(rt, queue, second(), |queue| queue.lines.is_empty());
+        } else {
+            let _ = self.filled.wait_while(
+                rt,
+                queue,
+                |queue| queue.lines.is_empty() && !queue.is_short(),
+            );
+        }
+    }
+
+    /// Takes the next line, if there is one: one that waits, or one that says how many of a kind
+    /// were left out in a second that is over.
+    pub fn next<R: Wait + Clock>(&self, rt: &R) -> Option<String> {
+        let Ok(now) = rt.monotonic() else {
+            return None;
+        };
+        let mut queue = self.queue.lock(rt);
+        if let Some(line) = queue.lines.pop_front() {
+            return Some(line);
+        }
+        let (event, count) = queue.take_left_out(now)?;
+        left_out_line(rt, self.alloc, event, count).ok()
+    }
+
+    /// Writes the lines to standard error as they come, for as long as the process runs. Nobody
+    /// else waits where it can't be written to.
+    pub fn write_all<R: Wait + Clock + Eprint>(&self, rt: &R) {
+        for _ in rt.forever() {
+            self.wait(rt);
+            if let Some(line) = self.next(rt) {
+                let _ = eprintln!(rt; "{line}");
+            }
+        }
+    }
+}
+
+impl Queue {
+    // Whether a line of this kind may be written now. Then it counts as written.
+    fn may_write(&mut self, event: Event, now: Duration) -> bool {
+        let counts = &mut self.counts[event.place()];
+        if counts.is_over(now) {
+            counts.began = Some(now);
+            counts.given = 0;
+        }
+        if counts.given < event.limit() {
+            counts.given += 1;
+            return true;
+        }
+        counts.left_out = counts.left_out.saturating_add(1);
+        false
+    }
+
+    // Puts a line at the end, if there was memory for it and there is room. It counts as left out
+    // otherwise.
+    fn push(&mut self, event: Event, line: Option<String>) {
+        if !self.keep(line) {
+            let counts = &mut self.counts[event.place()];
+            counts.left_out = counts.left_out.saturating_add(1);
+        }
+    }
+
+    // Puts a line at the end. Returns whether there was room and memory for it.
+    fn keep(&mut self, line: Option<String>) -> bool {
+        match line {
+            Some(line) => self.lines.len() < LINES_KEPT && self.lines.push_back(line).is_ok(),
+            None => false,
+        }
+    }
+
+    // Whether lines were left out.
+    fn is_short(&self) -> bool {
+        self.counts.iter().any(|counts| counts.left_out > 0)
+    }
+
+    // A kind of which lines were left out, and how many, once its second is over. From then on none
+    // counts as left out.
+    fn take_left_out(&mut self, now: Duration) -> Option<(Event, u64)> {
+        for event in KINDS {
+            let counts = &mut self.counts[event.place()];
+            if counts.left_out > 0 && counts.is_over(now) {
+                let count = counts.left_out;
+                counts.left_out = 0;
+                return Some((event, count));
+            }
+        }
+        None
+    }
+}
+
+impl Counts {
+    // Whether the second is over in which lines are counted.
+    fn is_over(&self, now: Duration) -> bool {
+        match self.began {
+            Some(began) => now.saturating_sub(began) >= second(),
+            None => true,
+        }
+    }
+}
+
+fn second() -> Duration {
+    Duration::from_millis(SECOND)
+}

@@ -1,0 +1,81 @@
+//! What a group is served with.
+use crate::log::{Event, Log, Value, put_fields};
+use crate::stub::Reports;
+use ini_config::{Group, Settings};
+use std::alloc::{AllocError, Global};
+use std::sync::Wait;
+use std::time::Clock;
+
+/// What a group is served with.
+#[derive(Clone, Copy)]
+pub struct ServeOptions<'a> {
+    /// The program's version.
+    pub version: &'a str,
+    /// The port of 127.0.0.1 that all nodes share.
+    pub front: u16,
+    /// What the secrets of keys are made from.
+    pub seed: [u8; 32],
+    /// The number of this start.
+    pub boot: u32,
+    /// The parameters that logins report beside those that every login has.
+    pub reports: &'a Reports,
+}
+
+/// Writes to the log that a group has begun to listen, and where its nodes do.
+pub fn write_start<R: Wait + Clock>(
+    rt: &R,
+    alloc: Global,
+    log: &Log,
+    group: &Group,
+    options: &ServeOptions<'_>,
+) -> Result<(), AllocError> {
+    let mut names = String::new(alloc);
+    let front = Value::Address("127.0.0.1", options.front);
+    let boot = Value::Number(u64::from(options.boot));
+    let version = Value::Text(options.version);
+    let fields = [("version", version), ("front", front), ("boot", boot)];
+    put_fields(alloc, &mut names, &fields)?;
+    let reports = reports_text(alloc, options.reports)?;
+    let fields = [("reports", Value::Text(reports.as_str()))];
+    log.write_of(rt, None, Event::Started, names.as_str(), &fields);
+    for settings in group.nodes() {
+        write_node(rt, log, settings);
+    }
+    Ok(())
+}
+
+// Writes where a node listens.
+fn write_node<R: Wait + Clock>(rt: &R, log: &Log, settings: &Settings) {
+    let address = Value::Address(settings.listen_addr(), settings.listen_port());
+    let node = settings.peer_id().get();
+    log.write(rt, Some(node), Event::NodeListens, &[("address", address)]);
+}
+
+// The names and values of reports, each pair behind the other.
+fn reports_text(alloc: Global, reports: &Reports) -> Result<String, AllocError> {
+    let mut text = String::new(alloc);
+    for place in 0..reports.len() {
+        if let Some(report) = reports.get(place) {
+            if place > 0 {
+                text.push(' ')?;
+            }
+            text.push_str(report.name)?;
+            text.push('=')?;
+            text.push_str(report.value)?;
+        }
+    }
+    Ok(text)
+}
+
+/// The same reports, in memory of their own.
+pub fn copy_of(alloc: Global, reports: &Reports) -> Result<Reports, AllocError> {
+    let mut copy = Reports::new(alloc);
+    for place in 0..reports.len() {
+        if let Some(report) = reports.get(place) {
+            if copy.add(report.name, report.value).is_err() {
+                return Err(AllocError);
+            }
+        }
+    }
+    Ok(copy)
+}
