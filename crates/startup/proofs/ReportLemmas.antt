@@ -84,16 +84,21 @@ accepted reports name value none =
     let fourth = passes _ Twice _ third.1 in
     let last = passes _ TooLong _ fourth.1 in
     let named = or_parts (is_empty name) (has_zero name) first.0 in
+    let total = ltb-false 8000 (length_with reports name value) last.0 in
     record {
       is = record {
         named = not_empty name named.0;
         name = no_zero name named.1;
         value = no_zero value second.0;
         free = third.0;
+        short = below total;
       };
       fresh = fourth.0;
-      short = ltb-false 8000 _ last.0;
+      short = total;
     }
+  where
+    below : length (statuses reports) + length (parameter_status name value) ≤ 8000 → length (parameter_status name value) ≤ 8000
+    below total = omega arith
 
 all_more : {A : Type 0} (P : A → Type 0) (xs : List A) (x : A) → AllByRecursion P xs → P x → AllByRecursion P (xs ++ x ∷ [])
 all_more P [] x all p = (p, tt)

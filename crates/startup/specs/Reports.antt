@@ -43,6 +43,7 @@ pub record IsReport (report : Report) : Type 0 where
   pub name : HasNoZero report.name
   pub value : HasNoZero report.value
   pub free : is_fixed report.name ≡ false
+  pub short : length (parameter_status report.name report.value) ≤ 8000
 
 -- no name is reported twice
 abbrev pub AreReportedOnce : List Report → Type 0

@@ -143,7 +143,7 @@ impl Reports {
     /// The one at this place, counted from 0.
     pub fn get(&self, place: usize) -> Option<Report<'_>>
         ensures found { option_map lent result ≡ slice_get self.now place }
-        // Neither its name nor its value has a zero byte.
+        // Neither its name nor its value has a zero byte, and its message is short.
         ensures formed { IfSome result (λ report. IsReport (lent report)) }
     {
         Some(self.stored.get(place)?.lend())
