@@ -1,3 +1,6 @@
 pub mod BodyLemmas
 pub mod HeadLemmas
 pub mod StageLemmas
+pub mod ValueLemmas
+pub mod MessageLemmas
+pub mod WatchLemmas

@@ -6,3 +6,4 @@ pub mod ParameterLemmas
 pub mod SessionLemmas
 pub mod RequestLemmas
 pub mod NameLemmas
+pub mod ReportLemmas

@@ -10,3 +10,5 @@ pub mod Names
 pub mod Numbers
 pub mod ErrorCode
 pub mod Replies
+pub mod Reports
+pub mod Stored

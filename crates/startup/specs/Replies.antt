@@ -1,7 +1,7 @@
 -- What a pooler writes to a client: the reply to a login, and ErrorResponse (PostgreSQL manual,
 -- "Message Formats" and "Error and Notice Message Fields"; which parameters a login reports is
 -- own).
-use Rattle.std.specs.Prelude.{ℕ, ◌+◌, ◌≤◌, List, [], ◌∷◌, ◌++◌, length, codes, Option, Some, None}
+use Rattle.std.specs.Prelude.{ℕ, ◌+◌, ◌≤◌, List, [], ◌∷◌, ◌++◌, length, codes, flat_map, Option, Some, None}
 use Rattle.byteorder.specs.Endian.{big_bytes}
 use Rattle.startup.specs.StartupMessage.{HasNoZero}
 use Rattle.pg_ids.specs.Key.{key_bytes}
@@ -35,13 +35,30 @@ backend_key_data (Some (Long key part)) = message 75 (key_bytes key ++ long_part
 abbrev pub ready_for_query : List ℕ
 ready_for_query = message 90 (73 ∷ [])
 
--- what a client reads once it is logged in
-abbrev pub login : Option AnyKey → List ℕ
-login key =
+-- what every login begins with: AuthenticationOk, and three parameters
+abbrev pub login_start : List ℕ
+login_start =
     authentication_ok ++ parameter_status (codes "server_version") (codes "16")
     ++ parameter_status (codes "server_encoding") (codes "UTF8")
     ++ parameter_status (codes "client_encoding") (codes "UTF8")
-    ++ backend_key_data key ++ ready_for_query
+
+-- what a client reads once it is logged in
+abbrev pub login : Option AnyKey → List ℕ
+login key = login_start ++ backend_key_data key ++ ready_for_query
+
+-- a parameter that logins report beside those, and its value
+pub record Report : Type 0 where
+  pub name : List ℕ
+  pub value : List ℕ
+
+-- the messages that report parameters, in order
+abbrev pub statuses : List Report → List ℕ
+statuses reports = flat_map (λ report. parameter_status report.name report.value) reports
+
+-- what a client reads once it is logged in, where logins report these parameters
+abbrev pub login_reporting : List Report → Option AnyKey → List ℕ
+login_reporting reports key =
+    login_start ++ statuses reports ++ backend_key_data key ++ ready_for_query
 
 -- a field of an ErrorResponse: its type byte and its text
 abbrev pub error_field : ℕ → List ℕ → List ℕ

@@ -1,14 +1,15 @@
 //! What a pooler writes to a client before and about its session.
 ghost use Rattle.std.specs.Prelude.{◌≡◌, ◌+◌, ◌*◌, ◌≤◌, ◌∷◌, ◌++◌, length, OnOk, OnErr, IsOkUnless};
 ghost use Rattle.startup.specs.ErrorCode.{severity_text};
-ghost use Rattle.startup.specs.Replies.{login, error_fields, error_response, IsFieldText};
+ghost use Rattle.startup.specs.Replies.{login_reporting, error_fields, error_response, IsFieldText};
 
 use crate::append::append;
 use crate::error_code::Severity;
+use crate::reports::Reports;
 use crate::startup_error::StartupError;
 use pg_ids::AnyKey;
 
-// AuthenticationOk and the three parameters that a login reports.
+// AuthenticationOk and the three parameters that every login reports.
 const GREETING: &[u8; 84] = b"R\0\0\0\x08\0\0\0\0\
     S\0\0\0\x16server_version\016\0\
     S\0\0\0\x19server_encoding\0UTF8\0\
@@ -22,25 +23,35 @@ const LONG_KEY_DATA: &[u8; 5] = b"K\0\0\0\x1c";
 const READY: &[u8; 6] = b"Z\0\0\0\x05I";
 
 /// Puts a login's messages at the end of the buffer, with BackendKeyData where the client has a key
-/// (PostgreSQL manual, "Start-up"; the parameters are own). The only error is `Memory`.
-pub fn write_login(key: Option<AnyKey>, out: &mut Vec<u8>) -> Result<(), StartupError>
-    ensures ok { OnOk result (out.new.items ≡ out.old.items ++ login key) }
+/// (PostgreSQL manual, "Start-up"; which parameters are reported is own). The only error is
+/// `Memory`.
+pub fn write_login(
+    key: Option<AnyKey>,
+    reports: &Reports,
+    out: &mut Vec<u8>,
+) -> Result<(), StartupError>
+    ensures ok { OnOk result (out.new.items ≡ out.old.items ++ login_reporting reports.now key) }
     ensures err { OnErr result (out.new.items ≡ out.old.items) }
     ensures memory { IsOkUnless result StartupError.Memory }
 {
+    let messages = reports.messages();
     match key {
-        Some(AnyKey::Short(key)) => append(out, &[GREETING, KEY_DATA, &key.to_bytes(), READY]),
+        Some(AnyKey::Short(key)) => append(
+            out,
+            &[GREETING, messages, KEY_DATA, &key.to_bytes(), READY],
+        ),
         Some(AnyKey::Long(key, part)) => append(
             out,
             &[
                 GREETING,
+                messages,
                 LONG_KEY_DATA,
                 &key.to_bytes(),
                 &part.to_bytes(),
                 READY,
             ],
         ),
-        None => append(out, &[GREETING, READY]),
+        None => append(out, &[GREETING, messages, READY]),
     }
 }
 

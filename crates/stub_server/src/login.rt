@@ -4,7 +4,7 @@ ghost use Rattle.stub_server.specs.Login.{server_key, IsLogin};
 
 use byteorder::{BigEndian, ByteOrder};
 use pg_ids::{AnyKey, ClientKey, ServerKey};
-use startup::write_login;
+use startup::{Reports, write_login};
 use std::alloc::{AllocError, Global};
 
 // What a client's secret key is above its process ID.
@@ -29,7 +29,7 @@ pub fn login_text(alloc: Global, key: ServerKey) -> Result<Vec<u8>, AllocError>
 {
     let client = ClientKey::from_bytes(key.to_bytes());
     let mut out = Vec::new(alloc);
-    match write_login(Some(AnyKey::Short(client)), &mut out) {
+    match write_login(Some(AnyKey::Short(client)), &Reports::new(alloc), &mut out) {
         Ok(()) => Ok(out),
         Err(_) => Err(AllocError),
     }
