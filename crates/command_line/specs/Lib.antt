@@ -5,4 +5,5 @@ pub mod Numbers
 pub mod Clients
 pub mod Request
 pub mod Seeds
+pub mod ReportTexts
 pub mod Running

@@ -5,7 +5,7 @@ use Rattle.std.specs.Str.{bytes_eq}
 use Rattle.command_line.specs.declared.command_name.CommandName.{CommandName}
 use Rattle.command_line.specs.declared.command_name.CommandName.TheVariants as command
 use Rattle.command_line.specs.declared.option_name.OptionName.{OptionName}
-use Rattle.command_line.specs.declared.option_name.OptionName.TheVariants.{Me, Peers, Live, Front, Seed, SeedFile, Boot, StandIn, Byte}
+use Rattle.command_line.specs.declared.option_name.OptionName.TheVariants.{Me, Peers, Live, Front, Seed, SeedFile, Boot, StandIn, Report, Byte}
 
 -- the options of each command, by their names
 abbrev pub decide_options : List (List ℕ × OptionName)
@@ -14,7 +14,8 @@ decide_options = (codes "--me", Me) ∷ (codes "--peers", Peers) ∷ (codes "--l
 abbrev pub serve_options : List (List ℕ × OptionName)
 serve_options = (codes "--front", Front)
     ∷ (codes "--seed", Seed) ∷ (codes "--seed-file", SeedFile)
-    ∷ (codes "--boot", Boot) ∷ (codes "--stand-in", StandIn) ∷ []
+    ∷ (codes "--boot", Boot) ∷ (codes "--stand-in", StandIn)
+    ∷ (codes "--report", Report) ∷ []
 
 abbrev pub stub_options : List (List ℕ × OptionName)
 stub_options = (codes "--byte", Byte) ∷ []
@@ -41,6 +42,7 @@ has_value Seed = true
 has_value SeedFile = true
 has_value Boot = true
 has_value StandIn = false
+has_value Report = true
 has_value Byte = false
 
 -- whether both are one option
@@ -53,5 +55,6 @@ same_option Seed Seed = true
 same_option SeedFile SeedFile = true
 same_option Boot Boot = true
 same_option StandIn StandIn = true
+same_option Report Report = true
 same_option Byte Byte = true
 same_option some other = false

@@ -4,8 +4,10 @@ use Rattle.std.specs.Option.{option_map}
 use Rattle.command_line.specs.Arguments.{Text, Given, given_by_all, values_of, asks_help}
 use Rattle.command_line.specs.Numbers.{◌>>=◌, only_one, at_most_one, one_or_more, number_from}
 use Rattle.command_line.specs.Request.{command_named}
+use Rattle.startup.specs.Replies.{Report}
+use Rattle.command_line.specs.ReportTexts.{reports_of}
 use Rattle.command_line.specs.Seeds.{SeedText, SeedSource, one_of, source_of, source_in}
-use Rattle.command_line.specs.declared.option_name.OptionName.TheVariants.{Front, Seed, SeedFile, Boot, StandIn, Byte}
+use Rattle.command_line.specs.declared.option_name.OptionName.TheVariants.{Front, Seed, SeedFile, Boot, StandIn, Report as ReportOption, Byte}
 use Rattle.command_line.specs.declared.command_name.CommandName.{CommandName}
 use Rattle.command_line.specs.declared.command_name.CommandName.TheVariants as command
 use Rattle.command_line.specs.declared.serve_request.ServeRequest.{ServeRequest}
@@ -15,12 +17,15 @@ use Rattle.command_line.specs.declared.stub_request.StubMode.TheVariants as mode
 use Rattle.command_line.specs.declared.running.Running.{Running}
 use Rattle.command_line.specs.declared.running.Running.TheVariants as running
 
--- a group: the port at which it listens, what secrets are drawn from, the number of the start, whether stand-in servers run, and the settings files in their order
+-- a group: the port at which it listens, what secrets are drawn from, the number of the start,
+-- whether stand-in servers run, what logins report beside the parameters that each of them reports,
+-- and the settings files in their order
 pub record Served : Type 0 where
   pub front : ℕ
   pub seed : SeedSource
   pub boot : ℕ
   pub stand_in : Bool
+  pub reports : List Report
   pub files : List Text
 
 -- a stand-in server: its port, and what it does before it ends a cancel connection
@@ -42,15 +47,23 @@ boot_of None = Some 0
 boot_of (Some text) = number_from 0 4294967295 text
 
 -- a group by its texts
-abbrev pub served_by : Text → SeedText → Option Text → Bool → List Text → Option Served
-served_by front_text seed_text boot_text stand_in files = do
+abbrev pub served_by : Text → SeedText → Option Text → Bool → List Report → List Text
+    → Option Served
+served_by front_text seed_text boot_text stand_in reports files = do
   front ← port_of front_text
   seed ← source_of seed_text
   boot ← boot_of boot_text
-  Some (record { front = front; seed = seed; boot = boot; stand_in = stand_in; files = files })
+  Some (record {
+    front = front;
+    seed = seed;
+    boot = boot;
+    stand_in = stand_in;
+    reports = reports;
+    files = files;
+  })
 
 -- `serve` wants the port once, the seed or its file once, the number of the start and `--stand-in` at
--- most once, and files, one or more
+-- most once, files, one or more, and parameters that logins may report, any number of them
 abbrev pub serve_asked : Given → Option Served
 serve_asked given = do
   front ← only_one (values_of Front given)
@@ -60,7 +73,8 @@ serve_asked given = do
   boot ← at_most_one (values_of Boot given)
   stand_in ← at_most_one (values_of StandIn given)
   files ← one_or_more given.plain
-  served_by front seed boot (is_some stand_in) files
+  reports ← reports_of (values_of ReportOption given)
+  served_by front seed boot (is_some stand_in) reports files
 
 -- what a stand-in server does, by whether `--byte` is given
 abbrev pub mode_of : Option Text → StubMode
@@ -120,6 +134,7 @@ served_in request = record {
   seed = source_in request.seed;
   boot = request.boot;
   stand_in = request.stand_in;
+  reports = request.reports;
   files = map (λ file. file.now) request.files.items;
 }
 

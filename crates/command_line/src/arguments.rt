@@ -230,8 +230,8 @@ impl<'a> Given<'a> {
         Ok(())
     }
 
-    // The values of an option, in order.
-    fn values(&self, alloc: Global, name: OptionName) -> Result<Vec<&'a str>, AllocError>
+    /// The values of an option, in order.
+    pub fn values(&self, alloc: Global, name: OptionName) -> Result<Vec<&'a str>, AllocError>
         ensures { IfOk result (λ values. map (λ value. value.now) values.items
             ≡ values_of name (given_in self.now)) }
     {

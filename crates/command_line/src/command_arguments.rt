@@ -14,6 +14,8 @@ pub enum Form {
     Value(&'static str),
     /// The same, but not beside the argument with this other name, which stands in its place.
     ValueUnless(&'static str, &'static str),
+    /// By its name, and then its value, any number of times.
+    Repeated(&'static str),
     /// By its name alone.
     Flag,
 }
@@ -56,6 +58,12 @@ pub fn parsed_argument<'a>(alloc: Global, argument: Argument) -> Result<Arg<'a>,
             .long(argument.name)
             .value_name(value)
             .conflicts_with(other),
+        Form::Repeated(value) => Ok(
+            parsed
+                .long(argument.name)
+                .value_name(value)
+                .action(ArgAction::Append),
+        ),
         Form::Flag => Ok(parsed.long(argument.name).action(ArgAction::SetTrue)),
     }
 }
@@ -151,6 +159,14 @@ where it isn't given: give another one at each start",
         help: "\
 Run a stand-in server at each port of 127.0.0.1 that the settings
 name as a server's address, for trials without PostgreSQL",
+    },
+    Argument {
+        name: "report",
+        form: Form::Repeated("NAME=VALUE"),
+        required: false,
+        help: "\
+Report this parameter to clients at each login, as PostgreSQL does
+of its own: give it once for each parameter",
     },
     Argument {
         name: "FILE",

@@ -124,7 +124,7 @@ fn serve_usage<'a>(usage: Usage) -> &'a str {
         Usage::Whole => {
             "\
 pgpeer serve --front <PORT> (--seed <HEX64> | --seed-file <FILE>)
-                    [--boot <N>] [--stand-in] <FILE>..."
+                    [--boot <N>] [--stand-in] [--report <NAME=VALUE>]... <FILE>..."
         }
         Usage::Short => {
             "pgpeer serve --front <PORT> --seed <HEX64> [--boot <N>] [--stand-in] <FILE>..."

@@ -12,6 +12,7 @@ mod live_client;
 mod option_name;
 mod peers;
 mod port;
+mod reports;
 mod request;
 mod running;
 mod seed;

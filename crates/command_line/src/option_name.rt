@@ -25,6 +25,8 @@ pub enum OptionName {
     Boot,
     /// Whether stand-in servers run, of `serve`.
     StandIn,
+    /// A parameter that logins report, of `serve`.
+    Report,
     /// Whether a byte is written before a cancel connection is ended, of `stub`.
     Byte,
 }
@@ -78,6 +80,7 @@ fn serve_option(name: &str) -> Option<OptionName>
         "--seed-file" => Some(OptionName::SeedFile),
         "--boot" => Some(OptionName::Boot),
         "--stand-in" => Some(OptionName::StandIn),
+        "--report" => Some(OptionName::Report),
         _ => None,
     }
 }

@@ -2,6 +2,7 @@
 ghost use Rattle.std.specs.Prelude.{◌<◌, length};
 
 use crate::seed::SeedSource;
+use startup::Reports;
 
 /// A group of poolers, or some of its nodes, that serve clients.
 #[derive(Drop)]
@@ -14,6 +15,8 @@ pub struct ServeRequest<'a> {
     pub boot: u32,
     /// Whether stand-in servers run at those of the settings' server addresses that are 127.0.0.1.
     pub stand_in: bool,
+    /// What logins report beside the parameters that each of them reports.
+    pub reports: Reports,
     /// The names of the settings files, one for each node of this process.
     pub files: Vec<&'a str>,
     ghost listens: { 0 < front },

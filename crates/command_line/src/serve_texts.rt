@@ -1,18 +1,21 @@
 //! What the arguments of `serve` give, read.
 ghost use Rattle.std.specs.Prelude.{◌≡◌, ◌<◌, Some, length, map};
 ghost use Rattle.std.specs.Option.{option_map};
-ghost use Rattle.command_line.specs.Arguments.{given_in};
+ghost use Rattle.command_line.specs.Arguments.{given_in, values_of};
 ghost use Rattle.command_line.specs.Finds.{Finds, Reads};
+ghost use Rattle.command_line.specs.ReportTexts.{reports_of};
 ghost use Rattle.command_line.specs.Running.{boot_of, serve_asked, served_by, served_in};
 ghost use Rattle.command_line.specs.Seeds.{text_in};
 
 use crate::arguments::Given;
 use crate::option_name::OptionName;
 use crate::port::port_of;
+use crate::reports::reports_of;
 use crate::seed::SeedText;
 use crate::serve_request::ServeRequest;
 use crate::wrong::{Place, Wrong};
 use ini_config::number_in;
+use startup::Reports;
 use std::alloc::Global;
 
 /// The group that is asked for.
@@ -28,7 +31,17 @@ pub fn read_serve<'a>(alloc: Global, given: Given<'a>) -> Result<ServeRequest<'a
     if given.plain.is_empty() {
         return Err(Wrong::Form);
     }
-    read_texts(front, seed, boot, stand_in.is_some(), given.plain)
+    let reports = reports_in(alloc, &given)?;
+    read_texts(front, seed, boot, stand_in.is_some(), reports, given.plain)
+}
+
+// The parameters that logins are to report.
+fn reports_in<'a>(alloc: Global, given: &Given<'a>) -> Result<Reports, Wrong<'a>>
+    ensures { Finds (λ reports. reports) result
+        (reports_of (values_of OptionName.Report (given_in given.now))) }
+{
+    let texts = given.values(alloc, OptionName::Report)?;
+    reports_of(alloc, &texts)
 }
 
 // The group that these texts and files name.
@@ -37,11 +50,12 @@ fn read_texts<'a>(
     seed: SeedText<'a>,
     boot: Option<&'a str>,
     stand_in: bool,
+    reports: Reports,
     files: Vec<&'a str>,
 ) -> Result<ServeRequest<'a>, Wrong<'a>>
     requires { 0 < length files.items }
     ensures { Reads served_in result (served_by front.now (text_in seed.entry)
-        (option_map (λ text. text.now) boot.entry) stand_in
+        (option_map (λ text. text.now) boot.entry) stand_in reports
         (map (λ file. file.now) files.entry.items)) }
 {
     let front = port_of(Place::Front, front)?;
@@ -52,6 +66,7 @@ fn read_texts<'a>(
         seed,
         boot,
         stand_in,
+        reports,
         files,
     })
 }

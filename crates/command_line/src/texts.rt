@@ -103,6 +103,9 @@ fn command_of(place: Place) -> CommandName {
     match place {
         Place::Key => CommandName::Key,
         Place::Front | Place::Seed | Place::SeedFile | Place::Boot => CommandName::Serve,
+        Place::Report | Place::ReportFixed | Place::ReportAgain | Place::ReportTooLong => {
+            CommandName::Serve
+        }
         Place::Port => CommandName::Stub,
         _ => CommandName::Decide,
     }
@@ -144,6 +147,9 @@ fn argument(place: Place) -> &'static str {
         Place::Seed => "--seed <HEX64>",
         Place::SeedFile => "--seed-file <FILE>",
         Place::Boot => "--boot <N>",
+        Place::Report | Place::ReportFixed | Place::ReportAgain | Place::ReportTooLong => {
+            "--report <NAME=VALUE>"
+        }
         Place::Port => "<PORT>",
     }
 }
@@ -164,5 +170,9 @@ fn expected(place: Place) -> &'static str {
         Place::Seed => "expected 64 hexadecimal digits",
         Place::SeedFile => "expected 32 bytes or 64 hexadecimal digits in the file",
         Place::Boot => "expected a number from 0 to 4294967295",
+        Place::Report => "expected a name, '=' and a value, without zero bytes",
+        Place::ReportFixed => "every login reports UTF8 for it",
+        Place::ReportAgain => "the name is there twice",
+        Place::ReportTooLong => "expected at most 8000 bytes in all",
     }
 }

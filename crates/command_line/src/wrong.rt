@@ -33,6 +33,14 @@ pub enum Place {
     SeedFile,
     /// The number of a start of `serve`.
     Boot,
+    /// A parameter that logins are to report, of `serve`.
+    Report,
+    /// One of which each login reports something fixed.
+    ReportFixed,
+    /// One that was given before.
+    ReportAgain,
+    /// One with which they are too long together.
+    ReportTooLong,
     /// The port of `stub`.
     Port,
 }

@@ -130,24 +130,26 @@ const SERVE: &str = "\
 Serve clients and cancel requests as a group of poolers, until stopped
 
 Usage: pgpeer serve --front <PORT> (--seed <HEX64> | --seed-file <FILE>)
-                    [--boot <N>] [--stand-in] <FILE>...
+                    [--boot <N>] [--stand-in] [--report <NAME=VALUE>]... <FILE>...
 
 Arguments:
   <FILE>...  Settings files, one for each pooler of this process
 
 Options:
-      --front <PORT>      The port at which clients and cancel requests come in, 1 to 65535
-      --seed <HEX64>      What the secrets of keys are drawn from, 32 bytes in 64 hexadecimal
-                          digits: give another one at each start, which nobody can guess. Every
-                          user of the machine can read it in the list of processes
-      --seed-file <FILE>  In place of --seed, a file that holds 32 bytes, or 64 hexadecimal
-                          digits and perhaps a line's end. With /dev/urandom each start has
-                          another seed
-      --boot <N>          The number of this start, part of longer keys, 0 to 4294967295 and 0
-                          where it isn't given: give another one at each start
-      --stand-in          Run a stand-in server at each port of 127.0.0.1 that the settings
-                          name as a server's address, for trials without PostgreSQL
-  -h, --help              Print help
+      --front <PORT>         The port at which clients and cancel requests come in, 1 to 65535
+      --seed <HEX64>         What the secrets of keys are drawn from, 32 bytes in 64 hexadecimal
+                             digits: give another one at each start, which nobody can guess. Every
+                             user of the machine can read it in the list of processes
+      --seed-file <FILE>     In place of --seed, a file that holds 32 bytes, or 64 hexadecimal
+                             digits and perhaps a line's end. With /dev/urandom each start has
+                             another seed
+      --boot <N>             The number of this start, part of longer keys, 0 to 4294967295 and 0
+                             where it isn't given: give another one at each start
+      --stand-in             Run a stand-in server at each port of 127.0.0.1 that the settings
+                             name as a server's address, for trials without PostgreSQL
+      --report <NAME=VALUE>  Report this parameter to clients at each login, as PostgreSQL does
+                             of its own: give it once for each parameter
+  -h, --help                 Print help
 
 One file is a pooler of a group whose others run elsewhere. Several files are several poolers of a
 group in one process.
