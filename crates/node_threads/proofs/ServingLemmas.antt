@@ -34,8 +34,7 @@ use Rattle.node_threads.specs.Desks.{Tells}
 use Rattle.node_threads.specs.Balance.{Moves, nothing, a_pass, a_lease}
 use Rattle.node_threads.specs.Leasing.{hand_of, OfLease, WasAnswered, IsDenied, IsAnswer}
 use Rattle.node_threads.specs.Serving.{Greets, TellsCancelled, Fate, Carried, Spoilt, Cancelled, Refused, Dropped, end_of, EndsByError, EndsWith, Gets, Carries, Comes, IsRequest, IsLeft, Serves, Requests, GreetedSession, Stays, Joins, ServesClient, ComesOf}
-use Rattle.peer_forward.proofs.CallLemmas.{Makes-append}
-use Rattle.node_threads.proofs.CallLists.{Wrote-append, WroteSome-append}
+use Rattle.peer_forward.proofs.CallLemmas.{Makes-append, Wrote-append, WroteSome-append}
 use Rattle.node_threads.proofs.Told.{said-counted}
 
 -- a text was written, whole or not

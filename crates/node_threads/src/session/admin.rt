@@ -3,9 +3,9 @@ ghost use Rattle.std.specs.Prelude.{◌≡◌};
 
 use crate::Calling;
 use crate::login::refuse;
-use crate::stream::{read_some, write_whole};
+use crate::stream::read_some;
 use console::{rows, rows_without_view};
-use peer_forward::{ReadCalls, WriteCalls};
+use peer_forward::{ReadCalls, WriteCalls, write_whole};
 use pg_frames::{Cutter, Frame, FrameError, put_frame};
 use startup::{ErrorCode, write_login};
 use std::alloc::{AllocError, Global};
