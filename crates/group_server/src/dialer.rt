@@ -4,11 +4,11 @@ use crate::limits::{CANCEL_CONNECT_MILLIS, CANCEL_END_MILLIS, LOGIN_MILLIS};
 use crate::log::{Event, Field, Value};
 use crate::looks::Looks;
 use crate::origin::Origin;
-use crate::stub::Reports;
 use crate::{Connection, Deadline, LinkStream, Log, Machine};
 use ini_config::{Database, Group, Peer, Settings};
 use node_threads::Opener;
 use pg_ids::{DatabaseNo, PeerNo};
+use startup::Reports;
 use std::alloc::{AllocError, Global};
 use std::io;
 use std::io::ErrorKind;
@@ -58,6 +58,11 @@ impl<M: Machine> Dialer<M> {
             dialer: self,
             connection,
         }
+    }
+
+    /// The parameters that clients are told beside those of every login.
+    pub fn reports(&self) -> &Reports {
+        &self.reports
     }
 
     /// The number of its node.

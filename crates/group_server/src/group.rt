@@ -6,7 +6,6 @@ use crate::accepting::{Acceptor, keep_accepting};
 use crate::descriptors::{Needs, descriptor_limit};
 use crate::doorway::Doorway;
 use crate::options::{ServeOptions, copy_of, write_start};
-use crate::stub::Reports;
 use crate::{Dialer, Host, Log, Serving};
 use ini_config::Group;
 use node_threads::Calling;

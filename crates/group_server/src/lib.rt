@@ -26,7 +26,6 @@ mod options;
 mod origin;
 mod poll;
 mod serving;
-mod stub;
 
 pub use client_stream::{ClientStream, Entry, LastCall, Serves};
 pub use connection::Connection;
@@ -46,4 +45,3 @@ pub use looks::Looks;
 pub use options::ServeOptions;
 pub use origin::Origin;
 pub use serving::Serving;
-pub use stub::{Difference, Report, Reports, Watch};

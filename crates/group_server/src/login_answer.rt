@@ -52,12 +52,17 @@ impl LoginAnswer {
         }
     }
 
-    /// Why the server refuses the login, if it does.
+    /// Why the server refuses the login, if it does. An error is known by its type, before it is
+    /// whole.
     pub fn refusal(&self) -> Option<Refusal> {
+        let [kind, ..] = self.head;
+        if self.read == HEAD && kind == b'E' {
+            return Some(Refusal::Error);
+        }
         self.refusal
     }
 
-    /// A field of its ErrorResponse.
+    /// A field of its ErrorResponse, if it came.
     pub fn field(&self, kind: u8) -> Option<&[u8]> {
         field_of(self.body(), kind)
     }

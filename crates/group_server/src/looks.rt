@@ -2,7 +2,8 @@
 use crate::log::Event;
 use crate::login_answer::LoginAnswer;
 use crate::origin::Origin;
-use crate::stub::{Reports, Watch};
+use link_state::Watch;
+use startup::Reports;
 use std::alloc::{AllocError, Global};
 use std::io;
 use std::io::ErrorKind;

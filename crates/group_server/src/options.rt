@@ -1,7 +1,7 @@
 //! What a group is served with.
 use crate::log::{Event, Log, Value, put_fields};
-use crate::stub::Reports;
 use ini_config::{Group, Settings};
+use startup::Reports;
 use std::alloc::{AllocError, Global};
 use std::sync::Wait;
 use std::time::Clock;

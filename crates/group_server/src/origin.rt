@@ -1,7 +1,7 @@
 //! To whom a link or a connection for a cancel request leads, as the log names it.
 use crate::log::{Event, Field, Log, Value, put_fields};
 use crate::login_answer::{LoginAnswer, Refusal};
-use crate::stub::Difference;
+use link_state::Difference;
 use std::alloc::{AllocError, Global};
 use std::io;
 use std::sync::{Arc, Wait};

@@ -77,7 +77,8 @@ impl<M: Machine> Serving<M> {
         client: &mut ClientStream<'_, M>,
     ) {
         let opener = self.dialer.on_behalf(connection);
-        serve_connection(rt, alloc, &mut calling, &opener, &Open, client);
+        let reports = self.dialer.reports();
+        serve_connection(rt, alloc, &mut calling, &opener, &Open, reports, client);
         self.give_back(rt, calling);
     }
 

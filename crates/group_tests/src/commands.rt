@@ -80,6 +80,25 @@ fn files_are_served(rt: HostRuntime) -> Result<(), Fail> {
     expect_three(&rt, &nodes, front)
 }
 
+// A node whose clients are told a parameter that the arguments name. Its server reports none of this
+// name, so links are used.
+#[test]
+fn parameters_are_reported(rt: HostRuntime) -> Result<(), Fail> {
+    let ports = free_ports(&rt, 3)?;
+    if ports.len() < 3 {
+        return Err(Fail::from("no ports"));
+    }
+    let (front, node, server) = (ports[0], ports[1], ports[2]);
+    let line = format!(in rt.alloc();
+        "serve --front {front} --seed {SEED} --stand-in --report TimeZone=Europe/Berlin one.ini"
+    )?;
+    let texts = texts(rt.alloc(), &[node], &[server], &[&[]])?;
+    start(&rt, Command { line, texts }, front)?;
+    let told = b"S\0\0\0\x1bTimeZone\0Europe/Berlin\0";
+    let (mut client, _key) = Client::log_in_told(&rt, node, told)?;
+    client.expect_answer(&rt, "echo hi", &[HI, IDLE])
+}
+
 // A stand-in server writes this to a requester before it ends its connection, and answers queries.
 fn expect_stand_in<R: TestHost>(rt: &R, port: u16, last: &[u8]) -> Result<(), Fail> {
     Cancel::new(rt, port, b"\0\0\0\x01\0\x0f\x42\x41")?

@@ -2,10 +2,11 @@
 use crate::group::ANY_PORT;
 use crate::host::TestHost;
 use crate::settings::group;
-use group_server::{Connection, Dialer, LinkStream, Log, Machine, Reports};
+use group_server::{Connection, Dialer, LinkStream, Log, Machine};
 use ini_config::Group;
 use node_threads::{Calling, Gate, Point, serve_connection};
 use pg_ids::Boot;
+use startup::Reports;
 use std::alloc::{AllocError, Global};
 use std::net::{TcpListener, TcpStream};
 use std::sync::{Arc, Condvar, Mutex, Wait};
@@ -135,6 +136,7 @@ fn serve<R: TestHost>(
         &mut calling,
         &opener,
         &*node.gate,
+        node.dialer.reports(),
         &mut client,
     );
 }

@@ -43,15 +43,23 @@ fn a_refusal_is_found(rt: HostRuntime) {
     expect_answer(&rt, &[SASL], Some(Refusal::Asks(10)));
 }
 
-// Until it is whole an error isn't told.
+// Once its type and length came an error is a refusal. Its fields are found once they came.
 #[test]
-fn a_refusal_is_whole(rt: HostRuntime) {
+fn an_error_in_parts(rt: HostRuntime) {
     let mut answer = LoginAnswer::new();
-    let (most, last) = ERROR.split_at(ERROR.len() - 1);
-    answer.read(most);
-    assert_eq!(&rt; answer.refusal(), None);
-    answer.read(last);
+    let (head, body) = ERROR.split_at(5);
+    let (severity, rest) = body.split_at(15);
+    for byte in head {
+        assert_eq!(&rt; answer.refusal(), None);
+        answer.read(&[*byte]);
+    }
     assert_eq!(&rt; answer.refusal(), Some(Refusal::Error));
+    answer.read(severity);
+    assert_eq!(&rt; answer.field(b'V'), Some(b"FATAL".as_slice()));
+    assert_eq!(&rt; answer.field(b'C'), None);
+    answer.read(rest);
+    assert_eq!(&rt; answer.refusal(), Some(Refusal::Error));
+    assert_eq!(&rt; answer.field(b'C'), Some(b"53300".as_slice()));
 }
 
 // A length that is too small ends a message, and isn't read as a large one.

@@ -4,12 +4,15 @@ use crate::group::Running;
 use crate::host::TestHost;
 use crate::messages::IDLE;
 use crate::scripted::{Script, start};
-use group_server::Reports;
+use startup::Reports;
 use std::alloc::{AllocError, Global};
 use std::test::Fail;
 
 // What clients are told beside what every login tells, and its ParameterStatus.
-pub(crate) const TOLD: &[(&str, &str)] = &[("standard_conforming_strings", "on"), ("TimeZone", "UTC")];
+pub(crate) const TOLD: &[(&str, &str)] = &[
+    ("standard_conforming_strings", "on"),
+    ("TimeZone", "UTC"),
+];
 
 const TOLD_MESSAGES: &[u8] = b"S\0\0\0\x23standard_conforming_strings\0on\0\
     S\0\0\0\x11TimeZone\0UTC\0";

@@ -4,6 +4,7 @@ use Rattle.pg_ids.specs.declared.any_key.AnyKey.{AnyKey}
 use Rattle.pg_ids.specs.declared.any_key.Kind.{Kind}
 use Rattle.ini_config.specs.Node.{NodeSettings}
 use Rattle.locked_node.specs.Lock.{CallerView}
+use Rattle.startup.specs.Replies.{Report}
 use Rattle.peer_forward.specs.Calls.{Effect}
 use Rattle.peer_forward.specs.declared.verdict.Verdict.{Verdict}
 use Rattle.stat_board.specs.Seats.{SeatView}
@@ -21,17 +22,21 @@ place_is group read settings name found place was is of same =
     let one : read ≡ settings = ap (λ o. unwrap_or o read) (sym was ∙ is) in
     ap (λ (s : NodeSettings). place_of name s.databases) (sym one) ∙ sym of ∙ same
 
--- the database at this place has it
+-- the database at this place has it, and these are the parameters that logins report
 pub serves_some : {T C : Type 0} (wrote gave : Effect T) (wrote' gave' : Effect C) (a b : C)
-    (place : Option ℕ) (database secret : ℕ) (kind : Kind) (kept left : List ℕ)
-    (old new : CallerView) → place ≡ Some database
+    (reports same : List Report) (place : Option ℕ) (database secret : ℕ) (kind : Kind)
+    (kept left : List ℕ) (old new : CallerView) → reports ≡ same → place ≡ Some database
     → SomeCalls wrote' gave' a b
-    (λ calls. ServesClient wrote gave database secret kind kept calls left old new)
-    → SomeCalls wrote' gave' a b (λ calls. ServesAt wrote gave place kind kept calls left old new)
-serves_some wrote gave wrote' gave' a b place database secret kind kept left old new is serves =
-    subst (λ (p : Option ℕ). SomeCalls wrote' gave' a b
-    (λ calls. ServesAt wrote gave p kind kept calls left old new)) (sym is)
-    (serves.0, serves.1, (secret, serves.2))
+    (λ calls. ServesClient wrote gave reports database secret kind kept calls left old new)
+    → SomeCalls wrote' gave' a b
+    (λ calls. ServesAt wrote gave same place kind kept calls left old new)
+serves_some wrote gave wrote' gave' a b reports same place database secret kind kept left old new
+    are is serves =
+    subst (λ (rs : List Report). SomeCalls wrote' gave' a b
+    (λ calls. ServesAt wrote gave rs place kind kept calls left old new)) are
+    (subst (λ (p : Option ℕ). SomeCalls wrote' gave' a b
+    (λ calls. ServesAt wrote gave reports p kind kept calls left old new)) (sym is)
+    (serves.0, serves.1, (secret, serves.2)))
 
 -- a cancel request that was served over an opener that is another
 pub serves_cancel_same : {T X : Type 0} (wrote gave : Effect T) (cancels reaches : X → Opens T)

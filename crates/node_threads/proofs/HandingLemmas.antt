@@ -22,7 +22,7 @@ use Rattle.node_threads.specs.declared.session.place.Handed.{Handed}
 use Rattle.node_threads.specs.declared.session.place.Handed.TheVariants.{More}
 use Rattle.node_threads.specs.Replying.{IsPassedOn}
 use Rattle.node_threads.specs.Progress.{asking, IsShown, HandedOut, HandedLast, HandedUnfit, HandsOut, KeepsSession, HeadMeans, PieceMeans, after_part, after_tail}
-use Rattle.node_threads.proofs.CallLists.{each-append}
+use Rattle.peer_forward.proofs.CallLemmas.{each-append}
 
 none_some : (n : ℕ) → None ≡ Some n → ⊥
 none_some n e = cc

@@ -23,8 +23,8 @@ use Rattle.node_threads.specs.declared.login.place.Taken.TheVariants.{More, Done
 use Rattle.node_threads.specs.declared.login.place.Mark.TheVariants.{Part}
 use Rattle.node_threads.specs.StreamCalls.{SomeCalls, Wrote, Read}
 use Rattle.node_threads.specs.LoggingIn.{ReadsLogin, LogsIn, IsOpen, OfEach, IsAt, HasCome, IsDone, Takes, TakesBody, Handed, frame_of, mark_of, after_tail}
-use Rattle.peer_forward.proofs.CallLemmas.{Makes-append}
-use Rattle.node_threads.proofs.CallLists.{Read-append, Read-nothing, each-append}
+use Rattle.peer_forward.proofs.CallLemmas.{Makes-append, each-append}
+use Rattle.node_threads.proofs.CallLists.{Read-append, Read-nothing}
 use Rattle.node_threads.proofs.HandingLemmas.{text_is, texts-push}
 
 none_some : (n : ℕ) → None ≡ Some n → ⊥

@@ -26,22 +26,8 @@ use Rattle.node_threads.specs.declared.login.first_packets.Opened.{Opened}
 use Rattle.node_threads.specs.declared.login.first_packets.Opened.TheVariants.{Session, Cancel, Over}
 use Rattle.node_threads.specs.StreamCalls.{given, IsDone, IsWrite, IsFailedWrite, IsRead, Wrote, WroteSome, Read, SomeCalls}
 use Rattle.node_threads.specs.Opening.{Negotiation, Ssl, Gss, packet_of, Asks, Negotiated, WritesError, IsRefusedFor, EndsBy, Ends, Opens, Begins, IsSession}
-use Rattle.peer_forward.proofs.CallLemmas.{Makes-append}
-use Rattle.node_threads.proofs.CallLists.{taken-append, given-append, each-append}
-
--- a call that failed took nothing
-failed_took_nothing : (call : Call) → IsFailedWrite call → taken (call ∷ []) ≡ []
-failed_took_nothing (WriteCall bytes (Ok count)) none =
-    ap (λ (n : ℕ). take n bytes ++ []) none
-failed_took_nothing (WriteCall bytes (Err error)) failed = refl
-failed_took_nothing (ReadCall buffer result) failed = absurd failed
-
--- what was taken before the call that failed is all that was taken
-taken_is : (calls writes : List Call) (last : Call) → calls ≡ writes ++ last ∷ []
-    → IsFailedWrite last → taken calls ≡ taken writes
-taken_is calls writes last all failed =
-    ap taken all ∙ taken-append writes (last ∷ [])
-    ∙ ap (λ xs. taken writes ++ xs) (failed_took_nothing last failed) ∙ append-nil (taken writes)
+use Rattle.peer_forward.proofs.CallLemmas.{Makes-append, taken-append, each-append, taken_is}
+use Rattle.node_threads.proofs.CallLists.{given-append}
 
 -- where less than one byte was taken, none was
 pub took_nothing : (byte : ℕ) (calls : List Call) → WroteSome (byte ∷ []) calls

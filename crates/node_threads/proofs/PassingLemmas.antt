@@ -9,8 +9,8 @@ use Rattle.node_threads.specs.declared.session.outcome.Stayed.{Stayed}
 use Rattle.node_threads.specs.StreamCalls.{SomeCalls, Wrote, Read}
 use Rattle.node_threads.specs.Replying.{ReplyEnd, Ready, Unclear, Unfit, Faulty, Lost, Cut, Untold, ReadsReply, WritesReply}
 use Rattle.node_threads.specs.Progress.{HandedOut, HandedLast, HandedUnfit, Finishes, EndsHere, GoesOn}
-use Rattle.peer_forward.proofs.CallLemmas.{Makes-append}
-use Rattle.node_threads.proofs.CallLists.{Read-append, Read-nothing, ReadToEnd-append, Wrote-append, Wrote-nothing, WroteSome-append}
+use Rattle.peer_forward.proofs.CallLemmas.{Makes-append, Wrote-append, WroteSome-append}
+use Rattle.node_threads.proofs.CallLists.{Read-append, Read-nothing, ReadToEnd-append, Wrote-nothing}
 use Rattle.node_threads.proofs.EndLemmas.{enough}
 use Rattle.node_threads.proofs.StoppingLemmas.{Unfinished, unfinished_none, unfinished_more, CanEnd, can_end, stops_after}
 

@@ -13,6 +13,7 @@ use Rattle.node_core.specs.declared.refusal.JoinRefusal.{JoinRefusal}
 use Rattle.node_core.specs.declared.exchange.Exchange.TheVariants as step
 use Rattle.locked_node.specs.Lock.{CallerView, Counted}
 use Rattle.peer_forward.specs.Calls.{Call, Effect, Makes}
+use Rattle.startup.specs.Replies.{Report}
 use Rattle.startup.specs.declared.error_code.ErrorCode.{ErrorCode}
 use Rattle.startup.specs.declared.error_code.ErrorCode.TheVariants.{TooManyConnections, OutOfMemory, ConnectionFailure, QueryCanceled}
 use Rattle.startup.specs.declared.error_code.Severity.TheVariants.{Error}
@@ -34,8 +35,7 @@ use Rattle.node_threads.specs.Desks.{Tells}
 use Rattle.node_threads.specs.Balance.{Moves, nothing, a_pass, a_lease}
 use Rattle.node_threads.specs.Leasing.{hand_of, OfLease, WasAnswered, IsDenied, IsAnswer}
 use Rattle.node_threads.specs.Serving.{Greets, TellsCancelled, Fate, Carried, Spoilt, Cancelled, Refused, Dropped, end_of, EndsByError, EndsWith, Gets, Carries, Comes, IsRequest, IsLeft, Serves, Requests, GreetedSession, Stays, Joins, ServesClient, ComesOf}
-use Rattle.peer_forward.proofs.CallLemmas.{Makes-append}
-use Rattle.node_threads.proofs.CallLists.{Wrote-append, WroteSome-append}
+use Rattle.peer_forward.proofs.CallLemmas.{Makes-append, Wrote-append, WroteSome-append}
 use Rattle.node_threads.proofs.Told.{said-counted}
 
 -- a text was written, whole or not
@@ -358,20 +358,21 @@ requests_more wrote gave pass database (head ∷ others) kept calls behind first
 
 -- A session of a client that took its greeting, so far.
 pub record Serving {T C : Type 0} (wrote gave : Effect T) (wrote' gave' : Effect C)
-    (pass : PassRecord) (database : ℕ) (kept : List ℕ) (client client' : C) (left : List ℕ)
-    (old new : CallerView) : Type 0 where
+    (reports : List Report) (pass : PassRecord) (database : ℕ) (kept : List ℕ) (client client' : C)
+    (left : List ℕ) (old new : CallerView) : Type 0 where
   pub greeting : List Call
   pub served : List Call
   pub made : Makes wrote' gave' client (greeting ++ served) client'
-  pub greets : Greets pass.key None greeting
+  pub greets : Greets reports pass.key None greeting
   pub each : List (List Call)
   pub requests : Requests wrote gave pass database each kept served left old new
 
 pub serving_start : {T C : Type 0} (wrote gave : Effect T) (wrote' gave' : Effect C)
-    (pass : PassRecord) (database : ℕ) (kept : List ℕ) (client client' : C) (old : CallerView)
-    → SomeCalls wrote' gave' client client' (Greets pass.key None)
-    → Serving wrote gave wrote' gave' pass database kept client client' kept old old
-serving_start wrote gave wrote' gave' pass database kept client client' old greets = record {
+    (reports : List Report) (pass : PassRecord) (database : ℕ) (kept : List ℕ) (client client' : C)
+    (old : CallerView)
+    → SomeCalls wrote' gave' client client' (Greets reports pass.key None)
+    → Serving wrote gave wrote' gave' reports pass database kept client client' kept old old
+serving_start wrote gave wrote' gave' reports pass database kept client client' old greets = record {
   greeting = greets.0;
   served = [];
   made = subst (λ xs. Makes wrote' gave' client xs client') (sym (append-nil greets.0)) greets.1;
@@ -381,14 +382,14 @@ serving_start wrote gave wrote' gave' pass database kept client client' old gree
 }
 
 pub serving_more : {T C : Type 0} (wrote gave : Effect T) (wrote' gave' : Effect C)
-    (pass : PassRecord) (database : ℕ) (kept : List ℕ) (client client' client'' : C)
-    (behind left : List ℕ) (old between new : CallerView)
-    → Serving wrote gave wrote' gave' pass database kept client client' behind old between
+    (reports : List Report) (pass : PassRecord) (database : ℕ) (kept : List ℕ)
+    (client client' client'' : C) (behind left : List ℕ) (old between new : CallerView)
+    → Serving wrote gave wrote' gave' reports pass database kept client client' behind old between
     → SomeCalls wrote' gave' client' client''
     (λ calls. Serves wrote gave pass database None behind calls left between new)
-    → Serving wrote gave wrote' gave' pass database kept client client'' left old new
-serving_more wrote gave wrote' gave' pass database kept client client' client'' behind left old
-    between new so_far one = record {
+    → Serving wrote gave wrote' gave' reports pass database kept client client'' left old new
+serving_more wrote gave wrote' gave' reports pass database kept client client' client'' behind left
+    old between new so_far one = record {
       greeting = so_far.greeting;
       served = so_far.served ++ one.0;
       made = subst (λ xs. Makes wrote' gave' client xs client'')
@@ -402,15 +403,15 @@ serving_more wrote gave wrote' gave' pass database kept client client' client'' 
     }
 
 pub serving_ends : {T C : Type 0} (wrote gave : Effect T) (wrote' gave' : Effect C)
-    (pass : PassRecord) (database : ℕ) (kept : List ℕ) (client client' client'' : C)
-    (behind left reply : List ℕ) (old between new : CallerView)
-    → Serving wrote gave wrote' gave' pass database kept client client' behind old between
+    (reports : List Report) (pass : PassRecord) (database : ℕ) (kept : List ℕ)
+    (client client' client'' : C) (behind left reply : List ℕ) (old between new : CallerView)
+    → Serving wrote gave wrote' gave' reports pass database kept client client' behind old between
     → SomeCalls wrote' gave' client' client''
     (λ calls. Serves wrote gave pass database (Some reply) behind calls left between new)
     → SomeCalls wrote' gave' client client''
-    (λ calls. Stays wrote gave pass database reply kept calls left old new)
-serving_ends wrote gave wrote' gave' pass database kept client client' client'' behind left reply old
-    between new so_far last = (
+    (λ calls. Stays wrote gave reports pass database reply kept calls left old new)
+serving_ends wrote gave wrote' gave' reports pass database kept client client' client'' behind left
+    reply old between new so_far last = (
       so_far.greeting ++ (so_far.served ++ last.0),
       subst (λ xs. Makes wrote' gave' client xs client'')
           (append_assoc so_far.greeting so_far.served last.0)
@@ -432,35 +433,38 @@ serving_ends wrote gave wrote' gave' pass database kept client client' client'' 
 
 -- a client that isn't greeted
 pub stays_unmade : {T C : Type 0} (wrote gave : Effect T) (wrote' gave' : Effect C) (client : C)
-    (pass : PassRecord) (database : ℕ) (reply kept : List ℕ) (old : CallerView)
+    (reports : List Report) (pass : PassRecord) (database : ℕ) (reply kept : List ℕ)
+    (old : CallerView)
     → IsError OutOfMemory reply
     → SomeCalls wrote' gave' client client
-    (λ calls. Stays wrote gave pass database reply kept calls kept old old)
-stays_unmade wrote gave wrote' gave' client pass database reply kept old error =
+    (λ calls. Stays wrote gave reports pass database reply kept calls kept old old)
+stays_unmade wrote gave wrote' gave' client reports pass database reply kept old error =
     ([], refl, inr (inl (error, refl), refl, refl))
 
 pub stays_ungreeted : {T C : Type 0} (wrote gave : Effect T) (wrote' gave' : Effect C)
-    (client client' : C) (pass : PassRecord) (database : ℕ) (reply kept : List ℕ)
-    (old : CallerView) → SomeCalls wrote' gave' client client' (Greets pass.key (Some reply))
+    (client client' : C) (reports : List Report) (pass : PassRecord) (database : ℕ)
+    (reply kept : List ℕ)
+    (old : CallerView) → SomeCalls wrote' gave' client client'
+    (Greets reports pass.key (Some reply))
     → SomeCalls wrote' gave' client client'
-    (λ calls. Stays wrote gave pass database reply kept calls kept old old)
-stays_ungreeted wrote gave wrote' gave' client client' pass database reply kept old greets =
+    (λ calls. Stays wrote gave reports pass database reply kept calls kept old old)
+stays_ungreeted wrote gave wrote' gave' client client' reports pass database reply kept old greets =
     (greets.0, greets.1, inr (greets.2, refl, refl))
 
 -- a client that got a slot
 pub client_served : {T C : Type 0} (wrote gave : Effect T) (wrote' gave' : Effect C) (a b c : C)
-    (database secret : ℕ) (kind : Kind) (pass : PassRecord) (reply text kept left : List ℕ)
-    (old joined done new : CallerView) (whole : Bool)
+    (reports : List Report) (database secret : ℕ) (kind : Kind) (pass : PassRecord)
+    (reply text kept left : List ℕ) (old joined done new : CallerView) (whole : Bool)
     → Joins database secret kind (Ok pass) old joined
     → SomeCalls wrote' gave' a b
-    (λ calls. Stays wrote gave pass database reply kept calls left joined done)
+    (λ calls. Stays wrote gave reports pass database reply kept calls left joined done)
     → Moves a_pass done nothing new → text ≡ reply
     → (whole ≡ true → SomeCalls wrote' gave' b c (Wrote text))
     → (whole ≡ false → SomeCalls wrote' gave' b c (WroteSome text))
     → SomeCalls wrote' gave' a c
-    (λ calls. ServesClient wrote gave database secret kind kept calls left old new)
-client_served wrote gave wrote' gave' a b c database secret kind pass reply text kept left old joined
-    done new whole joins stays leaves is did some =
+    (λ calls. ServesClient wrote gave reports database secret kind kept calls left old new)
+client_served wrote gave wrote' gave' a b c reports database secret kind pass reply text kept left
+    old joined done new whole joins stays leaves is did some =
     let said = sends_same wrote' gave' b c text reply is (sends wrote' gave' b c text whole did some) in (
       stays.0 ++ said.0,
       Makes-append wrote' gave' a b c stays.0 said.0 stays.1 said.1,
@@ -481,34 +485,37 @@ client_served wrote gave wrote' gave' a b c database secret kind pass reply text
 
 -- a client that got none
 pub client_refused : {T C : Type 0} (wrote gave : Effect T) (wrote' gave' : Effect C) (a b : C)
-    (database secret : ℕ) (kind : Kind) (answer : Result PassRecord JoinRefusal) (kept : List ℕ)
+    (reports : List Report) (database secret : ℕ) (kind : Kind)
+    (answer : Result PassRecord JoinRefusal) (kept : List ℕ)
     (old new : CallerView) → ((pass : PassRecord) → answer ≡ Ok pass → ⊥)
     → Joins database secret kind answer old new
     → SomeCalls wrote' gave' a b (SendsError TooManyConnections)
     → SomeCalls wrote' gave' a b
-    (λ calls. ServesClient wrote gave database secret kind kept calls kept old new)
-client_refused wrote gave wrote' gave' a b database secret kind (Ok pass) kept old new none joins said =
+    (λ calls. ServesClient wrote gave reports database secret kind kept calls kept old new)
+client_refused wrote gave wrote' gave' a b reports database secret kind (Ok pass) kept old new none
+    joins said =
     absurd (none pass refl)
-client_refused wrote gave wrote' gave' a b database secret kind (Err refusal) kept old new none joins
-    said = (said.0, said.1, inr (refusal, joins, said.2, refl))
+client_refused wrote gave wrote' gave' a b reports database secret kind (Err refusal) kept old new
+    none joins said = (said.0, said.1, inr (refusal, joins, said.2, refl))
 
 -- the session goes on with a request more, and is as at its start
 pub serving_next : {T C : Type 0} (wrote gave : Effect T) (wrote' gave' : Effect C)
-    (pass : PassRecord) (database : ℕ) (kept : List ℕ) (client client' client'' : C)
+    (reports : List Report) (pass : PassRecord) (database : ℕ) (kept : List ℕ)
+    (client client' client'' : C)
     (behind left : List ℕ) (old between new : CallerView) (session next : Session)
     (result : Option (List ℕ)) → session ≡ begun database → result ≡ None
     → (result ≡ None → next ≡ begun session.database)
-    → Serving wrote gave wrote' gave' pass database kept client client' behind old between
+    → Serving wrote gave wrote' gave' reports pass database kept client client' behind old between
     → SomeCalls wrote' gave' client' client''
     (λ calls. Serves wrote gave pass session.database result behind calls left between new)
     → (next ≡ begun database)
-    × Serving wrote gave wrote' gave' pass database kept client client'' left old new
-serving_next wrote gave wrote' gave' pass database kept client client' client'' behind left old
-    between new session next result is none after so_far one =
+    × Serving wrote gave wrote' gave' reports pass database kept client client'' left old new
+serving_next wrote gave wrote' gave' reports pass database kept client client' client'' behind left
+    old between new session next result is none after so_far one =
     let same : session.database ≡ database = ap (λ (s : Session). s.database) is in (
       after none ∙ ap begun same,
-      serving_more wrote gave wrote' gave' pass database kept client client' client'' behind left old
-          between new so_far
+      serving_more wrote gave wrote' gave' reports pass database kept client client' client'' behind
+          left old between new so_far
           (subst (λ (r : Option (List ℕ)). SomeCalls wrote' gave' client' client''
           (λ calls. Serves wrote gave pass database r behind calls left between new)) none
           (subst (λ d. SomeCalls wrote' gave' client' client''
@@ -517,19 +524,20 @@ serving_next wrote gave wrote' gave' pass database kept client client' client'' 
 
 -- the session ends
 pub serving_last : {T C : Type 0} (wrote gave : Effect T) (wrote' gave' : Effect C)
-    (pass : PassRecord) (database : ℕ) (kept : List ℕ) (client client' client'' : C)
+    (reports : List Report) (pass : PassRecord) (database : ℕ) (kept : List ℕ)
+    (client client' client'' : C)
     (behind left : List ℕ) (old between new : CallerView) (session : Session)
     (result : Option (List ℕ)) (reply : List ℕ) → session ≡ begun database → result ≡ Some reply
-    → Serving wrote gave wrote' gave' pass database kept client client' behind old between
+    → Serving wrote gave wrote' gave' reports pass database kept client client' behind old between
     → SomeCalls wrote' gave' client' client''
     (λ calls. Serves wrote gave pass session.database result behind calls left between new)
     → SomeCalls wrote' gave' client client''
-    (λ calls. Stays wrote gave pass database reply kept calls left old new)
-serving_last wrote gave wrote' gave' pass database kept client client' client'' behind left old
-    between new session result reply is some so_far last =
+    (λ calls. Stays wrote gave reports pass database reply kept calls left old new)
+serving_last wrote gave wrote' gave' reports pass database kept client client' client'' behind left
+    old between new session result reply is some so_far last =
     let same : session.database ≡ database = ap (λ (s : Session). s.database) is in
-    serving_ends wrote gave wrote' gave' pass database kept client client' client'' behind left reply
-    old between new so_far
+    serving_ends wrote gave wrote' gave' reports pass database kept client client' client'' behind
+    left reply old between new so_far
     (subst (λ (r : Option (List ℕ)). SomeCalls wrote' gave' client' client''
     (λ calls. Serves wrote gave pass database r behind calls left between new)) some
     (subst (λ d. SomeCalls wrote' gave' client' client''
@@ -537,11 +545,12 @@ serving_last wrote gave wrote' gave' pass database kept client client' client'' 
 
 -- a client that is greeted
 pub serving_greeted : {T C : Type 0} (wrote gave : Effect T) (wrote' gave' : Effect C)
-    (pass : PassRecord) (database : ℕ) (kept : List ℕ) (client client' : C) (old : CallerView)
-    (result : Option (List ℕ)) → result ≡ None
-    → SomeCalls wrote' gave' client client' (Greets pass.key result)
-    → Serving wrote gave wrote' gave' pass database kept client client' kept old old
-serving_greeted wrote gave wrote' gave' pass database kept client client' old result none greets =
-    serving_start wrote gave wrote' gave' pass database kept client client' old
-    (subst (λ (r : Option (List ℕ)). SomeCalls wrote' gave' client client' (Greets pass.key r)) none
-    greets)
+    (reports : List Report) (pass : PassRecord) (database : ℕ) (kept : List ℕ) (client client' : C)
+    (old : CallerView) (result : Option (List ℕ)) → result ≡ None
+    → SomeCalls wrote' gave' client client' (Greets reports pass.key result)
+    → Serving wrote gave wrote' gave' reports pass database kept client client' kept old old
+serving_greeted wrote gave wrote' gave' reports pass database kept client client' old result none
+    greets =
+    serving_start wrote gave wrote' gave' reports pass database kept client client' old
+    (subst (λ (r : Option (List ℕ)). SomeCalls wrote' gave' client client'
+    (Greets reports pass.key r)) none greets)

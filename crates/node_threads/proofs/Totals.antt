@@ -10,7 +10,8 @@ use Rattle.node_threads.specs.StreamCalls.{given, IsWrite, IsFailedWrite, IsRead
 use Rattle.node_threads.specs.Asking.{Leaving, Says, Faulty, Silent, NoMemory, Leaves}
 use Rattle.node_threads.specs.Replying.{ReplyEnd, Ready, Unclear, Unfit, Faulty as FaultyEnd, Lost, Cut, Untold, passed_on, ReadsReply, WritesReply, EndsStay}
 use Rattle.node_threads.specs.Stay.{Round, asked, IsRound, Ending, Unsent, Replied, Deserted, Ends, Runs, IsWritten, SessionGoesOn, IsRefusedMemory, to_link, told_in, told_at, to_client, left_by, asked_at, asked_for, Stay}
-use Rattle.node_threads.proofs.CallLists.{taken-append, given-append}
+use Rattle.peer_forward.proofs.CallLemmas.{taken-append, taken_is}
+use Rattle.node_threads.proofs.CallLists.{given-append}
 
 -- reads write nothing, and writes read nothing
 taken-reads : (calls : List Call) → AllByRecursion IsRead calls → taken calls ≡ []
@@ -32,12 +33,6 @@ given-failed_write (WriteCall bytes result) failed = refl
 given-failed_write (ReadCall buffer result) failed = absurd failed
 
 -- a failed call moves nothing
-taken-failed_write : (call : Call) → IsFailedWrite call → taken (call ∷ []) ≡ []
-taken-failed_write (WriteCall bytes (Ok count)) failed =
-    ap (λ n. take n bytes ++ []) failed
-taken-failed_write (WriteCall bytes (Err error)) failed = refl
-taken-failed_write (ReadCall buffer result) failed = refl
-
 given-failed_read : (call : Call) → IsFailedRead call → given (call ∷ []) ≡ []
 given-failed_read (ReadCall buffer (Ok count)) failed =
     ap (λ n. take n buffer ++ []) failed.0
@@ -97,9 +92,7 @@ written_some text calls some = record {
   rest = some.left;
   beginning = some.beginning
       ∙ ap (λ xs. xs ++ some.left)
-      (sym (ap taken some.all ∙ taken-append some.writes (some.last ∷ [])
-      ∙ ap (λ xs. taken some.writes ++ xs) (taken-failed_write some.last some.failed)
-      ∙ append-nil (taken some.writes)));
+      (sym (taken_is calls some.writes some.last some.all some.failed));
   whole = λ done. absurd (not_done some.last some.failed (last_done some.writes some.last
       (subst (AllByRecursion IsDone) some.all done)));
 }

@@ -1,6 +1,6 @@
 -- A connection from its first packets to its end (own; PostgreSQL manual, "Message Flow").
--- `ServesConnection`: they lead to a session on the database that they name, to the console, or to a
--- cancel request.
+-- `ServesConnection`: they lead to a session on the database that they name, to the console, or to
+-- a cancel request.
 use Rattle.std.specs.Prelude.{◌≡◌, ◌⊎◌, ℕ, List, codes, string_bytes, position, true, false, Option, Some, None}
 use Rattle.std.specs.Str.{bytes_eq}
 use Rattle.pg_ids.specs.declared.any_key.Kind.{Kind}
@@ -9,10 +9,11 @@ use Rattle.locked_node.specs.Lock.{CallerView}
 use Rattle.peer_forward.specs.Calls.{Call, Effect}
 use Rattle.peer_forward.specs.Finishing.{Finishes}
 use Rattle.stat_board.specs.Seats.{SeatView}
-use Rattle.startup.specs.declared.error_code.ErrorCode.TheVariants.{InvalidCatalogName}
+use Rattle.startup.specs.Replies.{Report, login_reporting}
+use Rattle.startup.specs.declared.error_code.ErrorCode.TheVariants.{InvalidCatalogName, OutOfMemory}
 use Rattle.node_threads.specs.declared.login.first_packets.Opened.{Opened}
 use Rattle.node_threads.specs.declared.login.first_packets.Opened.TheVariants.{Session, Cancel, Over}
-use Rattle.node_threads.specs.StreamCalls.{SomeCalls}
+use Rattle.node_threads.specs.StreamCalls.{SomeCalls, Wrote, WroteSome}
 use Rattle.node_threads.specs.Asking.{SendsError}
 use Rattle.node_threads.specs.Opening.{Opens}
 use Rattle.node_threads.specs.Cancelling.{Carries, ServesCancel}
@@ -28,36 +29,49 @@ place_of name databases = position (λ d. bytes_eq name d.name) databases
 
 -- A session was served on the database at this place, with a key of this kind, or refused where
 -- there is none.
-abbrev pub ServesAt : {T : Type 0} → Effect T → Effect T → Option ℕ → Kind → List ℕ → List Call
-    → List ℕ → CallerView → CallerView → Type 0
-ServesAt wrote gave None kind kept calls left old new =
+abbrev pub ServesAt : {T : Type 0} → Effect T → Effect T → List Report → Option ℕ → Kind → List ℕ
+    → List Call → List ℕ → CallerView → CallerView → Type 0
+ServesAt wrote gave reports None kind kept calls left old new =
     SendsError InvalidCatalogName calls × (left ≡ kept) × (new ≡ old)
-ServesAt wrote gave (Some database) kind kept calls left old new =
-    (secret : ℕ) × ServesClient wrote gave database secret kind kept calls left old new
+ServesAt wrote gave reports (Some database) kind kept calls left old new =
+    (secret : ℕ) × ServesClient wrote gave reports database secret kind kept calls left old new
+
+-- The console greets its client before anything else: the client took all messages of a login
+-- without a key that reports these parameters; or the connection ends with them, of which it didn't
+-- take all, or with an error, since memory for them was refused.
+abbrev pub GreetsConsole : {C : Type 0} → Effect C → Effect C → List Report → C → C → Type 0
+GreetsConsole {C} wrote gave reports old new =
+    ((greeted : C) × SomeCalls wrote gave old greeted (Wrote (login_reporting reports None)))
+    ⊎ SomeCalls wrote gave old new
+    (λ calls. WroteSome (login_reporting reports None) calls ⊎ SendsError OutOfMemory calls)
 
 -- What the first packets lead to, behind which this was read of the client. A cancel request for
 -- which no seat is free is given up without an order.
 abbrev pub ServesOpened : {T C : Type 0} → Effect T → Effect T → Effect C → Effect C → Carries
-    → Carries → List DatabaseSettings → Opened → List ℕ → C → C → CallerView → CallerView → Type 0
-ServesOpened wrote gave wrote' gave' ToServer ToPeer databases (Session name kind) behind client
-    client' old new =
-    ((bytes_eq (string_bytes name) console_name ≡ true) × (new ≡ old))
+    → Carries → List Report → List DatabaseSettings → Opened → List ℕ → C → C → CallerView
+    → CallerView → Type 0
+ServesOpened wrote gave wrote' gave' ToServer ToPeer reports databases (Session name kind) behind
+    client client' old new =
+    ((bytes_eq (string_bytes name) console_name ≡ true) × (new ≡ old)
+    × GreetsConsole wrote' gave' reports client client')
     ⊎ ((bytes_eq (string_bytes name) console_name ≡ false) × (left : List ℕ)
-    × SomeCalls wrote' gave' client client' (λ calls. ServesAt wrote gave
+    × SomeCalls wrote' gave' client client' (λ calls. ServesAt wrote gave reports
     (place_of (string_bytes name) databases) kind behind calls left old new))
-ServesOpened wrote gave wrote' gave' ToServer ToPeer databases (Cancel key) behind client client'
-    old new =
+ServesOpened wrote gave wrote' gave' ToServer ToPeer reports databases (Cancel key) behind client
+    client' old new =
     ((client' ≡ client) × (new ≡ old))
     ⊎ ((seat next : SeatView) × ServesCancel ToServer ToPeer key old new seat next
     (λ verdict. Finishes wrote' client verdict client'))
-ServesOpened wrote gave wrote' gave' ToServer ToPeer databases Over behind client client' old new =
+ServesOpened wrote gave wrote' gave' ToServer ToPeer reports databases Over behind client client'
+    old new =
     (client' ≡ client) × (new ≡ old)
 
 -- The first packets were read, and then what they lead to was served.
 abbrev pub ServesConnection : {T C : Type 0} → Effect T → Effect T → Effect C → Effect C → Carries
-    → Carries → List DatabaseSettings → C → C → CallerView → CallerView → Type 0
-ServesConnection {T} {C} wrote gave wrote' gave' ToServer ToPeer databases client client' old new =
+    → Carries → List Report → List DatabaseSettings → C → C → CallerView → CallerView → Type 0
+ServesConnection {T} {C} wrote gave wrote' gave' ToServer ToPeer reports databases client client'
+    old new =
     (opened : Opened) × (behind : List ℕ) × (next : C)
     × SomeCalls wrote' gave' client next (λ calls. Opens calls opened behind)
-    × ServesOpened wrote gave wrote' gave' ToServer ToPeer databases opened behind next client'
-    old new
+    × ServesOpened wrote gave wrote' gave' ToServer ToPeer reports databases opened behind next
+    client' old new

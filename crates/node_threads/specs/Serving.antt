@@ -14,7 +14,7 @@ use Rattle.node_core.specs.declared.refusal.JoinRefusal.TheVariants as join
 use Rattle.node_core.specs.declared.exchange.Exchange.TheVariants as step
 use Rattle.locked_node.specs.Lock.{CallerView, Counted}
 use Rattle.peer_forward.specs.Calls.{Call, Effect}
-use Rattle.startup.specs.Replies.{login}
+use Rattle.startup.specs.Replies.{Report, login_reporting}
 use Rattle.startup.specs.declared.error_code.ErrorCode.{ErrorCode}
 use Rattle.startup.specs.declared.error_code.ErrorCode.TheVariants.{TooManyConnections, OutOfMemory, ConnectionFailure, QueryCanceled}
 use Rattle.startup.specs.declared.error_code.Severity.TheVariants.{Error}
@@ -34,12 +34,12 @@ use Rattle.node_threads.specs.Desks.{Tells}
 use Rattle.node_threads.specs.Leasing.{WasAnswered, IsGiven, IsDenied}
 use Rattle.node_threads.specs.Balance.{Moves, nothing, a_pass, a_lease}
 
--- The client of this key is greeted: it took all messages of a login; or the session ends, and this
--- is written then.
-abbrev pub Greets : AnyKey → Option (List ℕ) → List Call → Type 0
-Greets key None calls = Wrote (login (Some key)) calls
-Greets key (Some reply) calls = (IsError OutOfMemory reply × (calls ≡ []))
-    ⊎ (WroteSome (login (Some key)) calls × (reply ≡ []))
+-- The client of this key is greeted: it took all messages of a login that reports these
+-- parameters; or the session ends, and this is written then.
+abbrev pub Greets : List Report → AnyKey → Option (List ℕ) → List Call → Type 0
+Greets reports key None calls = Wrote (login_reporting reports (Some key)) calls
+Greets reports key (Some reply) calls = (IsError OutOfMemory reply × (calls ≡ []))
+    ⊎ (WroteSome (login_reporting reports (Some key)) calls × (reply ≡ []))
 
 -- what a client reads whose wait for a link was cancelled
 abbrev pub cancelled_text : List ℕ
@@ -157,13 +157,14 @@ Requests wrote gave pass database (first ∷ others) kept calls left old new =
 
 -- A session of a client with a pass, which took its greeting, up to its end, at which this is to be
 -- written.
-pub record GreetedSession {T : Type 0} (wrote gave : Effect T) (pass : PassRecord) (database : ℕ)
-    (reply kept : List ℕ) (calls : List Call) (left : List ℕ) (old new : CallerView) : Type 0 where
+pub record GreetedSession {T : Type 0} (wrote gave : Effect T) (reports : List Report)
+    (pass : PassRecord) (database : ℕ) (reply kept : List ℕ) (calls : List Call) (left : List ℕ)
+    (old new : CallerView) : Type 0 where
   pub greeting : List Call
   pub served : List Call
   pub last : List Call
   pub calls_are : calls ≡ greeting ++ (served ++ last)
-  pub greets : Greets pass.key None greeting
+  pub greets : Greets reports pass.key None greeting
   pub each : List (List Call)
   pub behind : List ℕ
   pub between : CallerView
@@ -171,11 +172,11 @@ pub record GreetedSession {T : Type 0} (wrote gave : Effect T) (pass : PassRecor
   pub ends : Serves wrote gave pass database (Some reply) behind last left between new
 
 -- the session of a client with a pass, whether it took its greeting or not
-abbrev pub Stays : {T : Type 0} → Effect T → Effect T → PassRecord → ℕ → List ℕ → List ℕ
-    → List Call → List ℕ → CallerView → CallerView → Type 0
-Stays wrote gave pass database reply kept calls left old new =
-    GreetedSession wrote gave pass database reply kept calls left old new
-    ⊎ (Greets pass.key (Some reply) calls × (left ≡ kept) × (new ≡ old))
+abbrev pub Stays : {T : Type 0} → Effect T → Effect T → List Report → PassRecord → ℕ → List ℕ
+    → List ℕ → List Call → List ℕ → CallerView → CallerView → Type 0
+Stays wrote gave reports pass database reply kept calls left old new =
+    GreetedSession wrote gave reports pass database reply kept calls left old new
+    ⊎ (Greets reports pass.key (Some reply) calls × (left ≡ kept) × (new ≡ old))
 
 -- the node was asked for a slot for a client of this database, with this secret and a key of this
 -- kind, and gave this answer
@@ -185,8 +186,9 @@ Joins database secret kind answer old new =
 
 -- A client that got a slot was served, and gave its pass back. After that it was written what it is
 -- to read at the end.
-pub record HasServed {T : Type 0} (wrote gave : Effect T) (database secret : ℕ) (kind : Kind)
-    (kept : List ℕ) (calls : List Call) (left : List ℕ) (old new : CallerView) : Type 0 where
+pub record HasServed {T : Type 0} (wrote gave : Effect T) (reports : List Report)
+    (database secret : ℕ) (kind : Kind) (kept : List ℕ) (calls : List Call) (left : List ℕ)
+    (old new : CallerView) : Type 0 where
   pub pass : PassRecord
   pub joined : CallerView
   pub joins : Joins database secret kind (Ok pass) old joined
@@ -195,15 +197,15 @@ pub record HasServed {T : Type 0} (wrote gave : Effect T) (database secret : ℕ
   pub calls_are : calls ≡ served ++ last
   pub reply : List ℕ
   pub done : CallerView
-  pub stays : Stays wrote gave pass database reply kept served left joined done
+  pub stays : Stays wrote gave reports pass database reply kept served left joined done
   pub leaves : Moves a_pass done nothing new
   pub told : Sends reply last
 
 -- A client was served from its login to its end, or refused since the node gave it no slot.
-abbrev pub ServesClient : {T : Type 0} → Effect T → Effect T → ℕ → ℕ → Kind → List ℕ → List Call
-    → List ℕ → CallerView → CallerView → Type 0
-ServesClient wrote gave database secret kind kept calls left old new =
-    HasServed wrote gave database secret kind kept calls left old new
+abbrev pub ServesClient : {T : Type 0} → Effect T → Effect T → List Report → ℕ → ℕ → Kind
+    → List ℕ → List Call → List ℕ → CallerView → CallerView → Type 0
+ServesClient wrote gave reports database secret kind kept calls left old new =
+    HasServed wrote gave reports database secret kind kept calls left old new
     ⊎ ((refusal : JoinRefusal) × Joins database secret kind (Err refusal) old new
     × SendsError TooManyConnections calls × (left ≡ kept))
 

@@ -1,8 +1,9 @@
--- Which calls of a stream write a text or a prefix of it, and which read bytes, or all up to the
+-- Which calls of a stream write a text as far as it takes it, and which read bytes, or all up to the
 -- end (own).
-use Rattle.std.specs.Prelude.{◌≡◌, ◌⊎◌, ℕ, ◌<◌, ◌≤◌, List, [], ◌∷◌, ◌++◌, length, take, Ok, Err}
+use Rattle.std.specs.Prelude.{◌≡◌, ◌⊎◌, ℕ, ◌<◌, List, [], ◌∷◌, ◌++◌, length, take, Ok, Err}
 use Rattle.std.specs.List.{AllByRecursion}
-use Rattle.peer_forward.specs.Calls.{Call, WriteCall, ReadCall, Effect, Makes, taken}
+use Rattle.peer_forward.specs.Calls.{Call, WriteCall, ReadCall, Effect, Makes}
+pub use Rattle.peer_forward.specs.Writing.{IsWrite, IsFailedWrite, Wrote, WroteSome}
 
 -- the bytes that the reads among the calls gave
 abbrev pub given : List Call → List ℕ
@@ -10,18 +11,6 @@ given [] = []
 given (ReadCall buffer (Ok count) ∷ calls) = take count buffer ++ given calls
 given (ReadCall buffer (Err error) ∷ calls) = given calls
 given (WriteCall bytes result ∷ calls) = given calls
-
--- a write that was handed 16,384 bytes at most, and took some
-abbrev pub IsWrite : Call → Type 0
-IsWrite (WriteCall bytes (Ok count)) = (length bytes ≤ 16384) × (0 < count)
-IsWrite (WriteCall bytes (Err error)) = ⊥
-IsWrite (ReadCall buffer result) = ⊥
-
--- a write that failed, or took nothing
-abbrev pub IsFailedWrite : Call → Type 0
-IsFailedWrite (WriteCall bytes (Ok count)) = count ≡ 0
-IsFailedWrite (WriteCall bytes (Err error)) = Unit {0}
-IsFailedWrite (ReadCall buffer result) = ⊥
 
 -- a read that gave some bytes
 abbrev pub IsRead : Call → Type 0
@@ -41,22 +30,6 @@ IsDone (WriteCall bytes (Ok count)) = 0 < count
 IsDone (WriteCall bytes (Err error)) = ⊥
 IsDone (ReadCall buffer (Ok count)) = 0 < count
 IsDone (ReadCall buffer (Err error)) = ⊥
-
--- the calls wrote the whole text
-pub record Wrote (text : List ℕ) (calls : List Call) : Type 0 where
-  pub each : AllByRecursion IsWrite calls
-  pub whole : taken calls ≡ text
-
--- the calls wrote a beginning of the text, and the last of them failed or took nothing
-pub record WroteSome (text : List ℕ) (calls : List Call) : Type 0 where
-  pub writes : List Call
-  pub last : Call
-  pub all : calls ≡ writes ++ last ∷ []
-  pub each : AllByRecursion IsWrite writes
-  pub failed : IsFailedWrite last
-  pub left : List ℕ
-  pub some_left : 0 < length left
-  pub beginning : text ≡ taken writes ++ left
 
 -- the calls wrote the text, as far as the stream took it
 abbrev pub Sends : List ℕ → List Call → Type 0

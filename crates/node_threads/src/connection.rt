@@ -17,7 +17,7 @@ use crate::{
 use peer_forward::{ReadCalls, WriteCalls};
 use pg_frames::Cutter;
 use pg_ids::{AnyKey, Kind};
-use startup::ErrorCode;
+use startup::{ErrorCode, Reports};
 use std::alloc::Global;
 use std::sync::Wait;
 
@@ -30,6 +30,7 @@ pub fn serve_connection<R, O, G, C>(
     calling: &mut Calling<O::Stream>,
     opener: &O,
     gate: &G,
+    reports: &Reports,
     client: &mut C,
 )
 where
@@ -48,33 +49,27 @@ where
         (O.cancels opener.now))
         (IsCarried ⟦<O::Stream as WriteCalls>⟧.wrote ⟦<O::Stream as ReadCalls>⟧.gave
         (O.reaches opener.now))
-        settings.databases client.old client.new calling.old.caller calling.new.caller) }
+        reports.now settings.databases client.old client.new calling.old.caller
+        calling.new.caller) }
 {
     let mut cutter = Cutter::new(alloc);
+    let visit = Visit {
+        rt,
+        alloc,
+        opener,
+        gate,
+        reports,
+    };
     match open(rt, alloc, client, &mut cutter) {
         Opened::Session { database, kind } => {
             let name = database.as_str();
             if name == CONSOLE {
-                serve_console(rt, alloc, calling, client, &mut cutter);
+                serve_console(rt, alloc, reports, calling, client, &mut cutter);
             } else {
-                let visit = Visit {
-                    rt,
-                    alloc,
-                    opener,
-                    gate,
-                };
                 serve_session(visit, calling, client, &mut cutter, name, kind);
             }
         }
-        Opened::Cancel(key) => {
-            let visit = Visit {
-                rt,
-                alloc,
-                opener,
-                gate,
-            };
-            serve_cancel_connection(visit, calling, client, key);
-        }
+        Opened::Cancel(key) => serve_cancel_connection(visit, calling, client, key),
         Opened::Over => {}
     }
 }
@@ -86,6 +81,7 @@ struct Visit<'a, R, O, G> {
     alloc: Global,
     opener: &'a O,
     gate: &'a G,
+    reports: &'a Reports,
 }
 
 // Serves a session on the database of this name.
@@ -107,8 +103,8 @@ where
         (slice_get (arc_value (arc_value calling.old.node).group) (arc_value calling.old.node).place)
         (λ settings. SomeCalls C.wrote C.gave client.old client.new (λ calls. ServesAt
         ⟦<O::Stream as WriteCalls>⟧.wrote ⟦<O::Stream as ReadCalls>⟧.gave
-        (place_of name.now settings.databases) kind cutter.old calls cutter.new
-        calling.old.caller calling.new.caller)) }
+        visit.entry.reports.now (place_of name.now settings.databases) kind cutter.old calls
+        cutter.new calling.old.caller calling.new.caller)) }
 {
     let Some(database) = calling.node.settings().find_database(name) else {
         refuse(visit.alloc, client, ErrorCode::InvalidCatalogName);
@@ -177,12 +173,14 @@ impl<'a, R, O: Opener, G> Visit<'a, R, O, G> {
     fn to(&self, node: &'a Node<O::Stream>) -> Service<'a, R, Link<O::Stream>, O, G>
         ensures shared { result.shared.now ≡ node.now.shared }
         ensures opener { result.opener.now ≡ self.now.opener.now }
+        ensures reports { result.reports.now ≡ self.now.reports.now }
     {
         Service {
             rt: self.rt,
             alloc: self.alloc,
             shared: &node.shared,
             settings: node.settings(),
+            reports: self.reports,
             admission: &node.admission,
             opener: self.opener,
             gate: self.gate,

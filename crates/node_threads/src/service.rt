@@ -2,6 +2,7 @@
 use crate::Admission;
 use ini_config::Settings;
 use locked_node::Shared;
+use startup::Reports;
 use std::alloc::{AllocError, Global};
 
 /// The runtime by which a thread waits, and the gate that it passes at the points of its way.
@@ -30,6 +31,8 @@ pub struct Service<'a, R, S, O, G> {
     pub shared: &'a Shared<S>,
     /// The node's settings.
     pub settings: &'a Settings,
+    /// The parameters that logins report beside those that every login has.
+    pub reports: &'a Reports,
     /// How many clients ask for a link at a time.
     pub admission: &'a Admission,
     /// The servers and peers that the connection reaches.

@@ -1,3 +1,4 @@
 pub mod Calls
+pub mod Writing
 pub mod Carrying
 pub mod Finishing

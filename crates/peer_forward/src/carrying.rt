@@ -1,12 +1,10 @@
 //! A packet is written, and the end of the input awaited.
-ghost use Rattle.std.specs.Prelude.{◌≡◌, ℕ, List, Result, length, true, false, []};
+ghost use Rattle.std.specs.Prelude.{◌≡◌, ℕ, List, Result, length};
 ghost use Rattle.std.specs.declared.io.Error.{Error};
 ghost use Rattle.startup.specs.CancelPacket.{packet_bytes};
-ghost use Rattle.peer_forward.specs.declared.outcome.Outcome.{Outcome};
-ghost use Rattle.peer_forward.specs.Calls.{Call, Makes};
-ghost use Rattle.peer_forward.specs.Carrying.{outcome_of, Carries, Carried, WritesAll};
+ghost use Rattle.peer_forward.specs.Carrying.{outcome_of, Carried};
 
-use crate::{Outcome, ReadCalls, WriteCalls};
+use crate::{Outcome, ReadCalls, WriteCalls, write_whole};
 use startup::Packet;
 
 /// Writes the packet, of 16 or 32 bytes, and waits until the input ends. `T` is any reader and
@@ -30,28 +28,6 @@ fn carry_bytes<T: WriteCalls + ReadCalls>(stream: &mut T, bytes: &[u8]) -> Outco
     } else {
         Outcome::Failed
     }
-}
-
-// Whether the whole of the bytes was written.
-fn write_whole<T: WriteCalls + ReadCalls>(stream: &mut T, bytes: &[u8]) -> bool
-    ensures whole { result ≡ true
-        → WritesAll T.wrote T.gave stream.old bytes.now [] stream.new }
-    ensures stopped { result ≡ false → (calls : List Call)
-        × Makes T.wrote T.gave stream.old calls stream.new
-        × Carries bytes.now calls Outcome.Failed }
-{
-    let mut taken = 0;
-    while taken < bytes.len() {
-        let rest = bytes.split_at(taken).1;
-        let Ok(count) = stream.write_once(rest) else {
-            return false;
-        };
-        if count == 0 {
-            return false;
-        }
-        taken += count;
-    }
-    true
 }
 
 // Reads once. The outcome is clean where that shows the end.

@@ -6,8 +6,10 @@ mod calls;
 mod carrying;
 mod outcome;
 mod verdict;
+mod writing;
 
 pub use calls::{ReadCalls, WriteCalls};
 pub use carrying::carry;
 pub use outcome::Outcome;
 pub use verdict::{Verdict, finish};
+pub use writing::write_whole;

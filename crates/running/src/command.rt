@@ -3,7 +3,8 @@ use crate::serving::serve;
 use crate::standing_in::stand_in;
 use answer::{Fault, Opener, answer, group_of, seed_of, usage_fault, write_fault};
 use command_line::{Running, ServeRequest};
-use group_server::{Host, Reports, ServeError, Unbound};
+use group_server::{Host, ServeError, Unbound};
+use startup::Reports;
 use std::alloc::Global;
 use std::io;
 use std::io::Write;
@@ -73,7 +74,7 @@ fn serve_files<H: Host, O: Opener, W: Write, E: Write>(
     if request.boot == 0 {
         let _ = writeln!(err, "boot 0: give another --boot at each start");
     }
-    if !reports_strings(&Reports::new(alloc)) {
+    if !reports_strings(&request.reports) {
         let _ = writeln!(err, "{NO_STRINGS}");
     }
     Ok(serve(host, alloc, group, request, seed, out))

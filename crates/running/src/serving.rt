@@ -1,7 +1,7 @@
 //! `serve`: a group of nodes serves clients, until the process is stopped.
 use crate::standing_in::stand_in_for_servers;
 use command_line::{ServeRequest, version};
-use group_server::{Host, Reports, ServeError, ServeOptions, serve_group};
+use group_server::{Host, ServeError, ServeOptions, serve_group};
 use ini_config::Group;
 use std::alloc::Global;
 use std::io::Write;
@@ -25,7 +25,7 @@ pub(crate) fn serve<H: Host, W: Write>(
         front: request.front,
         seed,
         boot: request.boot,
-        reports: &Reports::new(alloc),
+        reports: &request.reports,
     };
     serve_group(host, alloc, group, &options, out)
 }

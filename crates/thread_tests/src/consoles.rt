@@ -18,7 +18,7 @@ const NO_LINKS: &[u8] = b"T\0\0\0\x86\0\x05\
     condemned\0\0\0\0\0\0\0\0\0\0\x19\xff\xff\xff\xff\xff\xff\0\0\
     C\0\0\0\x09SHOW\0Z\0\0\0\x05I";
 
-const CONSOLE_COMES: Turn = Turn::Gives(
+pub(crate) const CONSOLE_COMES: Turn = Turn::Gives(
     b"\0\0\0\x27\0\x03\0\0user\0plain\0database\0pgbouncer\0\0",
 );
 

@@ -1,12 +1,12 @@
 //! Requests for another node that come at once, of which one finds no seat.
 use crate::calls::calls_of;
 use crate::messages::LOWERED;
-use crate::story::{NODE, calling};
+use crate::story::{NODE, calling, serve};
 use crate::talk::Turn;
 use crate::together::SEED;
 use crate::tracked::{Dialer, Talk, Tracker};
 use locked_node::CallAnswer;
-use node_threads::{Calling, Gate, Open, Point, serve_connection};
+use node_threads::{Calling, Gate, Open, Point};
 use pg_ids::Boot;
 use std::alloc::Global;
 use std::process::Abort;
@@ -56,7 +56,7 @@ fn forward<R: Wait, G: Gate>(
         turns: PEER,
     };
     if let Ok(mut client) = Talk::new(tracker, FORWARDS) {
-        serve_connection(rt, alloc, calling, &dialer, gate, &mut client);
+        serve(rt, alloc, calling, &dialer, gate, &mut client);
     }
 }
 

@@ -28,6 +28,8 @@ mod links;
 #[cfg(test)]
 mod log;
 #[cfg(test)]
+mod logins;
+#[cfg(test)]
 mod messages;
 #[cfg(test)]
 mod node;

@@ -10,6 +10,7 @@ use node_core::{
 use node_threads::{Admission, Gate, Opener, Service, serve_cancel};
 use peer_forward::WriteCalls;
 use pg_ids::{AnyKey, Boot, Kind, PeerNo, Secret};
+use startup::Reports;
 use stat_board::{Board, BoardSeat};
 use std::alloc::Global;
 use std::sync::Wait;
@@ -139,6 +140,7 @@ impl Node {
             alloc,
             shared: &self.shared,
             settings: &self.settings,
+            reports: &Reports::new(alloc),
             admission: &self.admission,
             opener,
             gate,

@@ -8,11 +8,11 @@ use crate::messages::{
 use crate::shown::{CONSOLE, SHOW_CLIENTS};
 use crate::stays::{Wire, reads};
 use crate::stories::GROUP_DONE;
-use crate::story::{NODE, calling};
+use crate::story::{NODE, calling, serve};
 use crate::talk::is_out_of_memory;
 use crate::together::SEED;
 use locked_node::{CallAnswer, Caller};
-use node_threads::{Calling, Gate, Open, Opener, Point, serve_connection};
+use node_threads::{Calling, Gate, Open, Opener, Point};
 use pg_ids::{Boot, DatabaseNo, PeerNo};
 use std::alloc::{AllocError, Global};
 use std::cell::{Cell, RefCell};
@@ -271,7 +271,7 @@ fn visit<R: Wait, G: Gate>(
     let Ok(mut client) = Wire::new(alloc, reads(pieces)) else {
         return None;
     };
-    serve_connection(rt, alloc, calling, servers, gate, &mut client);
+    serve(rt, alloc, calling, servers, gate, &mut client);
     Some(client)
 }
 

@@ -10,6 +10,7 @@ use node_core::NodeCore;
 use node_threads::{Admission, Gate, Link, Service, serve_cancel, serve_client};
 use pg_frames::Cutter;
 use pg_ids::{AnyKey, Boot, DatabaseNo, Kind, PeerNo, Secret};
+use startup::Reports;
 use stat_board::Board;
 use std::alloc::Global;
 use std::io::{Read, Write};
@@ -103,6 +104,7 @@ impl Node {
             alloc,
             shared: &self.lock,
             settings: &self.settings,
+            reports: &Reports::new(alloc),
             admission: &admission,
             opener: &visit.dialer(),
             gate,
@@ -136,6 +138,7 @@ impl Node {
             alloc,
             shared: &self.lock,
             settings: &self.settings,
+            reports: &Reports::new(alloc),
             admission: &admission,
             opener: &visit.dialer(),
             gate,

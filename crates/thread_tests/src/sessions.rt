@@ -48,7 +48,7 @@ const TERMINATE: &[u8] = b"X\0\0\0\x04";
 const LOST: &[u8] = b"SFATAL\0VFATAL\0C08006\0";
 
 // A client that comes, and is greeted.
-const COMES: Turn = Turn::Gives(STARTUP);
+pub(crate) const COMES: Turn = Turn::Gives(STARTUP);
 
 const GREETED: Turn = Turn::Takes(GREETING);
 
@@ -58,7 +58,7 @@ const LOGIN_SENT: Turn = Turn::Takes(STARTUP);
 const LOGGED_IN: Turn = Turn::Gives(LOGIN);
 
 // Node 1, with one link and two slots.
-const NODE: &str = "[pgbouncer]
+pub(crate) const NODE: &str = "[pgbouncer]
 pool_mode = transaction
 auth_type = trust
 listen_addr = 127.0.0.1

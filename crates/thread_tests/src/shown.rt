@@ -3,8 +3,9 @@ use crate::calls::calls_of;
 use crate::line::{Dials, Line};
 use crate::messages::{IDLE, TERMINATE, WELCOME};
 use crate::stays::{Wire, reads};
+use crate::story::serve;
 use locked_node::CallAnswer;
-use node_threads::{Calling, Open, serve_connection};
+use node_threads::{Calling, Open};
 use std::alloc::{AllocError, Global};
 use std::process::Abort;
 use std::sync::Wait;
@@ -83,7 +84,7 @@ fn assert_shown<R: Wait + Abort>(
     let Ok(mut client) = Wire::new(alloc, reads(&pieces)) else {
         panic!(rt; "out of memory");
     };
-    serve_connection(rt, alloc, calling, dials, &Open, &mut client);
+    serve(rt, alloc, calling, dials, &Open, &mut client);
     let greeted = WELCOME.len().wrapping_add(IDLE.len());
     let taken = client.taken();
     let answer = taken.split_at(greeted.min(taken.len())).1;

@@ -3,8 +3,10 @@ use crate::line::{Dials, Line, Side, Stage};
 use crate::log::Event;
 use crate::talk::Turn;
 use ini_config::{Group, read_settings};
-use node_threads::{Calling, Gate, Open, Point, serve_connection};
+use node_threads::{Calling, Gate, Open, Opener, Point, serve_connection};
+use peer_forward::{ReadCalls, WriteCalls};
 use pg_ids::Boot;
+use startup::Reports;
 use std::alloc::Global;
 use std::cell::{Cell, RefCell};
 use std::sync::{Arc, Wait};
@@ -52,6 +54,25 @@ pub(crate) fn calling<S: Drop>(
     Ok(Calling::new(alloc, &group, 0, seed, boot)?)
 }
 
+// A connection is served from its first packet to its end. A login reports nothing further.
+pub(crate) fn serve<R, O, G, C>(
+    rt: &R,
+    alloc: Global,
+    calling: &mut Calling<O::Stream>,
+    opener: &O,
+    gate: &G,
+    client: &mut C,
+)
+where
+    R: Wait,
+    O: Opener,
+    G: Gate,
+    C: WriteCalls + ReadCalls,
+{
+    let reports = Reports::new(alloc);
+    serve_connection(rt, alloc, calling, opener, gate, &reports, client);
+}
+
 // A client comes that takes these turns. Returns whether it took all.
 pub(crate) fn visit<R: Wait, G: Gate>(
     rt: &R,
@@ -64,7 +85,7 @@ pub(crate) fn visit<R: Wait, G: Gate>(
     let Ok(mut client) = Line::new(dials.stage(), Side::Client, turns) else {
         return false;
     };
-    serve_connection(rt, alloc, calling, dials, gate, &mut client);
+    serve(rt, alloc, calling, dials, gate, &mut client);
     client.is_done()
 }
 

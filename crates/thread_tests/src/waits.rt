@@ -6,12 +6,12 @@ use crate::gates::{Asking, Marks, sees};
 use crate::messages::{IDLE, LOGIN, QUERY, ROW, SERVES_ONE, STARTUP, TERMINATE, WELCOME, asks};
 use crate::shown::{CONSOLE, SHOW_CLIENTS};
 use crate::stays::{Wire, reads};
-use crate::story::{TWO_SLOTS, calling};
+use crate::story::{TWO_SLOTS, calling, serve};
 use crate::talk::Turn;
 use crate::together::SEED;
 use crate::tracked::{Dialer, Talk, Tracker};
 use locked_node::CallAnswer;
-use node_threads::{Calling, Open, serve_connection};
+use node_threads::{Calling, Open};
 use pg_ids::Boot;
 use std::alloc::Global;
 use std::io::{Read, Write};
@@ -102,7 +102,7 @@ impl Scene<'_> {
     fn visit<R: Wait>(&self, rt: &R, calling: &mut Calling<Talk>, turns: &'static [Turn]) {
         if let Ok(mut client) = Talk::new(self.tracker, turns) {
             let dialer = self.dialer(ONE_AND_MORE);
-            serve_connection(rt, self.alloc, calling, &dialer, &Open, &mut client);
+            serve(rt, self.alloc, calling, &dialer, &Open, &mut client);
         }
     }
 }
@@ -111,7 +111,7 @@ impl Scene<'_> {
 fn keep<R: Wait>(rt: &R, scene: Scene<'_>, mut calling: Calling<Talk>) -> Calling<Talk> {
     if let Ok(mut client) = Talk::new(scene.tracker, KEEPS) {
         let dialer = scene.dialer(scene.server);
-        serve_connection(
+        serve(
             rt,
             scene.alloc,
             &mut calling,
@@ -129,7 +129,7 @@ fn wait<R: Wait>(rt: &R, scene: Scene<'_>, mut calling: Calling<Talk>) -> Callin
     if let Ok(talk) = Talk::new(scene.tracker, scene.waits) {
         let mut client = Asking::new(talk, scene.marks);
         let dialer = scene.dialer(&[]);
-        serve_connection(rt, scene.alloc, &mut calling, &dialer, &Open, &mut client);
+        serve(rt, scene.alloc, &mut calling, &dialer, &Open, &mut client);
     }
     calling
 }
@@ -141,7 +141,7 @@ fn is_waiting<R: Wait>(rt: &R, scene: Scene<'_>, calling: &mut Calling<Talk>) ->
         return false;
     };
     let dialer = scene.dialer(&[]);
-    serve_connection(rt, scene.alloc, calling, &dialer, &Open, &mut client);
+    serve(rt, scene.alloc, calling, &dialer, &Open, &mut client);
     let shown = client.taken();
     for start in 0..shown.len() {
         if shown.split_at(start).1.starts_with(b"waiting") {

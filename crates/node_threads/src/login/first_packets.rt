@@ -7,9 +7,8 @@ ghost use Rattle.node_threads.specs.StreamCalls.{SomeCalls, Wrote, Read};
 ghost use Rattle.node_threads.specs.Opening.{Opens, Begins, IsSession, Ends, WritesError};
 
 use crate::login::refuse;
-use crate::stream::write_whole;
 use bytes::BytesMut;
-use peer_forward::{ReadCalls, WriteCalls};
+use peer_forward::{ReadCalls, WriteCalls, write_whole};
 use pg_frames::{Cutter, FrameError};
 use pg_ids::{AnyKey, Kind};
 use startup::{First, Opening, StartupError};

@@ -4,9 +4,8 @@ ghost use Rattle.node_threads.specs.StreamCalls.{SomeCalls};
 ghost use Rattle.node_threads.specs.Asking.{SendsError};
 ghost use Rattle.node_threads.specs.Opening.{WritesError};
 
-use crate::stream::write_whole;
 use client_state::Reply;
-use peer_forward::{ReadCalls, WriteCalls};
+use peer_forward::{ReadCalls, WriteCalls, write_whole};
 use startup::{ErrorCode, Severity};
 use std::alloc::Global;
 

@@ -13,9 +13,8 @@ ghost use Rattle.node_threads.specs.declared.login.place.Mark.TheVariants.{Head,
 use crate::Link;
 use crate::login::place::{LoginPlace, Mark, Taken};
 use crate::session::link::read_up_to;
-use crate::stream::write_whole;
 use link_state::{LinkAct, LinkLogin, LoginHead, ServerKey};
-use peer_forward::{ReadCalls, WriteCalls};
+use peer_forward::{ReadCalls, WriteCalls, write_whole};
 use pg_frames::Flow;
 use std::alloc::Global;
 use std::sync::Wait;

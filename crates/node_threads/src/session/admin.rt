@@ -1,13 +1,18 @@
 //! A session on the admin console.
-ghost use Rattle.std.specs.Prelude.{◌≡◌};
+ghost use Rattle.std.specs.Prelude.{◌≡◌, ◌⊎◌, true, false, None};
+ghost use Rattle.startup.specs.Replies.{login_reporting};
+ghost use Rattle.startup.specs.declared.error_code.ErrorCode.TheVariants.{OutOfMemory};
+ghost use Rattle.node_threads.specs.Asking.{SendsError};
+ghost use Rattle.node_threads.specs.StreamCalls.{SomeCalls, Wrote, WroteSome};
+ghost use Rattle.node_threads.specs.Connection.{GreetsConsole};
 
 use crate::Calling;
 use crate::login::refuse;
-use crate::stream::{read_some, write_whole};
+use crate::stream::read_some;
 use console::{rows, rows_without_view};
-use peer_forward::{ReadCalls, WriteCalls};
+use peer_forward::{ReadCalls, WriteCalls, write_whole};
 use pg_frames::{Cutter, Frame, FrameError, put_frame};
-use startup::{ErrorCode, write_login};
+use startup::{ErrorCode, Reports, write_login};
 use std::alloc::{AllocError, Global};
 use std::sync::Wait;
 
@@ -23,13 +28,16 @@ pub const CONSOLE: &str = "pgbouncer";
 pub fn serve_console<R: Wait, L: Drop, C: WriteCalls + ReadCalls>(
     rt: &R,
     alloc: Global,
+    reports: &Reports,
     calling: &mut Calling<L>,
     client: &mut C,
     cutter: &mut Cutter,
 )
     ensures same { calling.new.caller ≡ calling.old.caller }
+    // The first that the client gets is a login with these parameters.
+    ensures greets { GreetsConsole C.wrote C.gave reports.now client.old client.new }
 {
-    if !greet(alloc, client) {
+    if !greet(alloc, reports, client) {
         return;
     }
     for _ in rt.forever() {
@@ -48,9 +56,14 @@ pub fn serve_console<R: Wait, L: Drop, C: WriteCalls + ReadCalls>(
 }
 
 // Writes the messages of a login. Returns whether the session goes on.
-fn greet<C: WriteCalls + ReadCalls>(alloc: Global, client: &mut C) -> bool {
+fn greet<C: WriteCalls + ReadCalls>(alloc: Global, reports: &Reports, client: &mut C) -> bool
+    ensures greets { result ≡ true → SomeCalls C.wrote C.gave client.old client.new
+        (Wrote (login_reporting reports.now None)) }
+    ensures ends { result ≡ false → SomeCalls C.wrote C.gave client.old client.new (λ calls.
+        WroteSome (login_reporting reports.now None) calls ⊎ SendsError OutOfMemory calls) }
+{
     let mut login = Vec::new(alloc);
-    if write_login(None, &mut login).is_err() {
+    if write_login(None, reports, &mut login).is_err() {
         refuse(alloc, client, ErrorCode::OutOfMemory);
         return false;
     }

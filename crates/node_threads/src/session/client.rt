@@ -18,16 +18,15 @@ use crate::login::refuse;
 use crate::session::leases::{Acquired, acquire};
 use crate::session::replies::lost;
 use crate::session::requests::next_request;
-use crate::stream::write_whole;
 use crate::{Entrance, Gate, Link, LockDesk, Opener, Point, Service, Stayed, turn};
 use client_state::{Client, Reply, Request};
 use lease::{Lease, Pass};
 use locked_node::{Caller, Shared};
 use node_core::LeaveReply;
-use peer_forward::{ReadCalls, WriteCalls};
+use peer_forward::{ReadCalls, WriteCalls, write_whole};
 use pg_frames::Cutter;
 use pg_ids::{DatabaseNo, Kind, Secret};
-use startup::{ErrorCode, Severity, write_login};
+use startup::{ErrorCode, Reports, Severity, write_login};
 use std::alloc::Global;
 use std::sync::Wait;
 
@@ -55,7 +54,8 @@ where
     // The client was served from its login to its end, and told why it ended; or it was refused.
     ensures served { SomeCalls C.wrote C.gave client.old client.new (λ calls. ServesClient
         ⟦<O::Stream as WriteCalls>⟧.wrote ⟦<O::Stream as ReadCalls>⟧.gave
-        database secret kind cutter.old calls cutter.new caller.old caller.new) }
+        service.entry.reports.now database secret kind cutter.old calls cutter.new caller.old
+        caller.new) }
 {
     let shared = service.shared;
     let Ok(pass) = shared.join(service.rt, caller, database, secret, kind) else {
@@ -87,13 +87,14 @@ where
     ensures balanced { Balanced caller.old caller.new }
     ensures stays { SomeCalls C.wrote C.gave client.old client.new (λ calls. Stays
         ⟦<O::Stream as WriteCalls>⟧.wrote ⟦<O::Stream as ReadCalls>⟧.gave
-        pass.now database result cutter.old calls cutter.new caller.old caller.new) }
+        service.entry.reports.now pass.now database result cutter.old calls cutter.new caller.old
+        caller.new) }
 {
     let alloc = service.alloc;
     let Ok(entrance) = Entrance::new(service.rt, alloc, service.admission, pass.key().slot()) else {
         return error(alloc, ErrorCode::OutOfMemory);
     };
-    if let Some(end) = greet(alloc, client, pass) {
+    if let Some(end) = greet(alloc, service.reports, client, pass) {
         return end;
     }
     let mut session = Client::new(alloc, database);
@@ -116,11 +117,17 @@ where
 
 // Writes the messages of a login. Returns what is to be written to the client if this ends the
 // session.
-fn greet<C: WriteCalls + ReadCalls>(alloc: Global, client: &mut C, pass: &Pass) -> Option<Reply>
-    ensures { SomeCalls C.wrote C.gave client.old client.new (Greets pass.now.key result) }
+fn greet<C: WriteCalls + ReadCalls>(
+    alloc: Global,
+    reports: &Reports,
+    client: &mut C,
+    pass: &Pass,
+) -> Option<Reply>
+    ensures { SomeCalls C.wrote C.gave client.old client.new
+        (Greets reports.now pass.now.key result) }
 {
     let mut login = Vec::new(alloc);
-    if write_login(Some(pass.key()), &mut login).is_err() {
+    if write_login(Some(pass.key()), reports, &mut login).is_err() {
         return Some(error(alloc, ErrorCode::OutOfMemory));
     }
     if write_whole(client, login.as_slice()) {

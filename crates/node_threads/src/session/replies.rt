@@ -16,10 +16,9 @@ ghost use Rattle.node_threads.specs.declared.session.place.Place.{Place as Place
 
 use crate::session::link::read_up_to;
 use crate::session::place::{Handed, Place};
-use crate::stream::write_whole;
 use crate::{Link, Stayed};
 use client_state::{Act, Client, HeadAct, Reply, is_passed_on};
-use peer_forward::{ReadCalls, WriteCalls};
+use peer_forward::{ReadCalls, WriteCalls, write_whole};
 use pg_frames::{Flow, Header, Piece};
 use std::sync::Wait;
 

@@ -6,10 +6,9 @@ ghost use Rattle.node_threads.specs.Stay.{Stay};
 
 use crate::session::replies::{lost, pass_reply};
 use crate::session::requests::next_request;
-use crate::stream::write_whole;
 use crate::{Link, Stayed};
 use client_state::{Client, Request};
-use peer_forward::{ReadCalls, WriteCalls};
+use peer_forward::{ReadCalls, WriteCalls, write_whole};
 use pg_frames::Cutter;
 use std::sync::Wait;
 

@@ -5,7 +5,8 @@ use Rattle.node_threads.proofs.connection.serve_session.Goals as goal
 
 pub returns-clause-served : goal.returns-clause-served
 returns-clause-served g c settings is =
-    serves_some _ _ _ _ _ _ _ c.in-Some.database _ c.args.kind c.args.cutter.now _ _ _
+    serves_some _ _ _ _ _ _ _ _ _ c.in-Some.database _ c.args.kind c.args.cutter.now _ _ _
+    c.to-service.ensures.reports
     (place_is _ _ settings c.args.name.now c.find_database.result _
     (sym (ap (λ n. slice_get (arc_value n.group) n.place) c.deref.ensures) ∙ c.settings.ensures) is
     c.find_database.ensures c.in-Some.is) c.serve_client.ensures.served

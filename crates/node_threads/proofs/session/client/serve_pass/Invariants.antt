@@ -12,5 +12,6 @@ invariant-loop g l = Balanced l.fn.caller l.caller × (l.session ≡ start l.fn.
     WriteAppends (g.O.Stream.Write.contents old) (g.O.Stream.Write.contents new) result bytes)
     (λ old buffer result new.
     ReadConsumes (g.O.Stream.Read.remaining old) (g.O.Stream.Read.remaining new) result buffer)
-    g.C.WriteCalls.wrote g.C.ReadCalls.gave l.fn.pass l.fn.database l.fn.cutter l.fn.client
+    g.C.WriteCalls.wrote g.C.ReadCalls.gave l.fn.service.reports.now l.fn.pass l.fn.database
+    l.fn.cutter l.fn.client
     l.client l.cutter l.fn.caller l.caller
