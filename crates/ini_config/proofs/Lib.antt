@@ -9,3 +9,4 @@ pub mod SectionLines
 pub mod Found
 pub mod LineLemmas
 pub mod Totals
+pub mod Surveys

@@ -5,7 +5,9 @@ pub mod Node
 pub mod Keys
 pub mod Entry
 pub mod Settings
+pub mod Faults
 pub mod View
 pub mod Inside
 pub mod Plain
 pub mod Group
+pub mod Surveyed

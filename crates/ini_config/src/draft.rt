@@ -1,5 +1,5 @@
 //! What has been read of a settings file so far.
-ghost use Rattle.std.specs.Prelude.{◌≡◌, ◌≤◌, ◌==◌, length};
+ghost use Rattle.std.specs.Prelude.{◌≡◌, ◌≤◌, ◌==◌, OnErr, length};
 ghost use Rattle.ini_config.specs.Settings.{bracketed, same_section};
 ghost use Rattle.std.specs.List.{list_any};
 ghost use Rattle.std.specs.Option.{option_map};
@@ -7,6 +7,7 @@ ghost use Rattle.std.specs.Option.{option_map};
 use crate::entries::{put_database, put_peer, room_for_database, room_for_peer};
 use crate::entry::{DatabaseEntry, PeerEntry};
 use crate::fault::IniCode;
+use crate::faults::Subject;
 use crate::keys::{KeyName, PoolerKeys};
 use crate::section::Section;
 use crate::text::{cut_at_equals, pair_of, trimmed};
@@ -35,6 +36,9 @@ impl Draft {
     ghost use Rattle.ini_config.specs.Settings.{nothing, section_of, section_opened};
     ghost use Rattle.ini_config.specs.Settings.{key_in, key_line, line_given};
     ghost use Rattle.ini_config.specs.View.{given_seen};
+    ghost use Rattle.ini_config.specs.Faults.{cut_subject, named_subject, subject_of};
+    ghost use Rattle.ini_config.specs.Surveyed.{subject_seen};
+    ghost use Rattle.ini_config.specs.Text.{cut_at_equals};
 
     /// Nothing has been read.
     pub(crate) fn new(alloc: Global) -> Draft
@@ -49,11 +53,12 @@ impl Draft {
         }
     }
 
-    /// One more line, without the blanks at its ends.
+    /// One more line, without the blanks at its ends. Where it is refused, nothing changes.
     #[tactic(auto, unfolding(crate::specs::Settings::line_given))]
     pub(crate) fn take_line(&mut self, line: &str) -> Result<(), IniCode>
-        ensures { Gives (λ _. given_seen self.new) result
+        ensures gives { Gives (λ _. given_seen self.new) result
             (line_given (given_seen self.old) line.now) }
+        ensures kept { OnErr result (given_seen self.new ≡ given_seen self.old) }
     {
         match line.as_bytes() {
             [] | [b';' | b'#', ..] => return Ok(()),
@@ -71,8 +76,9 @@ impl Draft {
 
     #[tactic(auto, unfolding(crate::specs::Settings::section_opened))]
     fn open(&mut self, name: &str) -> Result<(), IniCode>
-        ensures { Gives (λ _. given_seen self.new) result
+        ensures gives { Gives (λ _. given_seen self.new) result
             (section_opened (given_seen self.old) name.now) }
+        ensures kept { OnErr result (given_seen self.new ≡ given_seen self.old) }
     {
         let section = Section::of(name)?;
         if is_among(section, &self.opened) {
@@ -88,10 +94,45 @@ impl Draft {
         self.opened.last().copied().ok_or(IniCode::BadLine)
     }
 
+    /// What the next line, without the blanks at its ends, names.
+    #[tactic(auto, unfolding(crate::specs::Faults::subject_of))]
+    pub(crate) fn subject_of<'a>(&self, line: &'a str) -> Subject<'a>
+        ensures { subject_seen result ≡ subject_of (given_seen self.now) line.now }
+    {
+        match bracketed(line) {
+            Some(name) => Subject::Section(name),
+            None => self.named_subject(line),
+        }
+    }
+
+    fn named_subject<'a>(&self, line: &'a str) -> Subject<'a>
+        ensures { subject_seen result
+            ≡ cut_subject (given_seen self.now) (cut_at_equals line.now) }
+    {
+        match cut_at_equals(line) {
+            Ok((name, _)) => self.key_subject(trimmed(name)),
+            Err(_) => Subject::Line,
+        }
+    }
+
+    fn key_subject<'a>(&self, key: &'a str) -> Subject<'a>
+        ensures { subject_seen result ≡ named_subject (given_seen self.now) key.now }
+    {
+        if key.is_empty() {
+            return Subject::Line;
+        }
+        match self.section() {
+            Ok(Section::Pgbouncer) => Subject::Key(key),
+            Ok(Section::Databases | Section::Peers) => Subject::Entry(key),
+            Err(_) => Subject::Line,
+        }
+    }
+
     #[tactic(auto, unfolding(crate::specs::Settings::key_line))]
     fn take_key_line(&mut self, line: &str) -> Result<(), IniCode>
-        ensures { Gives (λ _. given_seen self.new) result
+        ensures gives { Gives (λ _. given_seen self.new) result
             (key_line (given_seen self.old) line.now) }
+        ensures kept { OnErr result (given_seen self.new ≡ given_seen self.old) }
     {
         let (key, value) = cut_at_equals(line)?;
         let (key, value) = pair_of(trimmed(key), trimmed(value))?;
@@ -103,8 +144,9 @@ impl Draft {
     // A key and its value in their section.
     #[tactic(auto, unfolding(crate::specs::Settings::key_in))]
     fn take_key(&mut self, section: Section, key: &str, value: &str) -> Result<(), IniCode>
-        ensures { Gives (λ _. given_seen self.new) result
+        ensures gives { Gives (λ _. given_seen self.new) result
             (key_in (given_seen self.old) section key.now value.now) }
+        ensures kept { OnErr result (given_seen self.new ≡ given_seen self.old) }
     {
         match section {
             Section::Pgbouncer => {
@@ -118,8 +160,9 @@ impl Draft {
 
     #[tactic(auto, unfolding(crate::specs::Settings::key_in))]
     fn take_database(&mut self, name: &str, value: &str) -> Result<(), IniCode>
-        ensures { Gives (λ _. given_seen self.new) result
+        ensures gives { Gives (λ _. given_seen self.new) result
             (key_in (given_seen self.old) Section.Databases name.now value.now) }
+        ensures kept { OnErr result (given_seen self.new ≡ given_seen self.old) }
     {
         room_for_database(&self.databases, name)?;
         let entry = DatabaseEntry::read(self.alloc, value)?;
@@ -128,8 +171,9 @@ impl Draft {
 
     #[tactic(auto, unfolding(crate::specs::Settings::key_in))]
     fn take_peer(&mut self, number: &str, value: &str) -> Result<(), IniCode>
-        ensures { Gives (λ _. given_seen self.new) result
+        ensures gives { Gives (λ _. given_seen self.new) result
             (key_in (given_seen self.old) Section.Peers number.now value.now) }
+        ensures kept { OnErr result (given_seen self.new ≡ given_seen self.old) }
     {
         let number = peer_value(1, number)?;
         room_for_peer(&self.peers, number)?;
@@ -138,9 +182,9 @@ impl Draft {
     }
 }
 
-// The text between the brackets of a section line.
+/// The text between the brackets of a section line.
 #[tactic(auto, unfolding(crate::specs::Settings::bracketed))]
-fn bracketed(line: &str) -> Option<&str>
+pub(crate) fn bracketed(line: &str) -> Option<&str>
     ensures { option_map (λ name. name.now) result ≡ bracketed line.now }
 {
     line.strip_prefix('[')?.strip_suffix(']')

@@ -71,6 +71,7 @@ pub(crate) fn put_database(
     ensures ok { OnOk result (databases_seen databases.new.entries
         ≡ databases_seen databases.old.entries ++ database_given name.now entry ∷ []) }
     ensures err { IfErr result (λ e. e ≡ IniCode.Memory) }
+    ensures kept { OnErr result (databases.new.entries ≡ databases.old.entries) }
     ensures count { length databases.new.entries ≤ length databases.old.entries + 1 }
 {
     let name = String::from_str(alloc, name)?;
@@ -102,6 +103,7 @@ pub(crate) fn put_peer(
     ensures ok { OnOk result (peers_seen peers.new.entries
         ≡ peers_seen peers.old.entries ++ peer_settings number entry ∷ []) }
     ensures err { IfErr result (λ e. e ≡ IniCode.Memory) }
+    ensures kept { OnErr result (peers.new.entries ≡ peers.old.entries) }
     ensures count { length peers.new.entries ≤ length peers.old.entries + 1 }
 {
     add_entry(peers, number, entry)?;

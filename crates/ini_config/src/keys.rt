@@ -1,5 +1,5 @@
 //! The keys of `[pgbouncer]`.
-ghost use Rattle.std.specs.Prelude.{◌≡◌, ◌<◌, ◌≤◌, ◌^◌};
+ghost use Rattle.std.specs.Prelude.{◌≡◌, ◌<◌, ◌≤◌, ◌^◌, OnErr};
 ghost use Rattle.std.specs.Option.{ForSome};
 
 use crate::fault::IniCode;
@@ -115,11 +115,12 @@ impl PoolerKeys {
         }
     }
 
-    /// One more key's value.
+    /// One more key's value. Where it is refused, nothing changes.
     #[tactic(auto, unfolding(crate::specs::Keys::key_given))]
     pub(crate) fn give(&mut self, alloc: Global, name: KeyName, text: &str) -> Result<(), IniCode>
-        ensures { Gives (λ _. keys_seen self.new) result
+        ensures gives { Gives (λ _. keys_seen self.new) result
             (key_given (keys_seen self.old) name text.now) }
+        ensures kept { OnErr result (keys_seen self.new ≡ keys_seen self.old) }
     {
         match name {
             KeyName::PoolMode => once(&mut self.pool_mode, PoolMode::of(text)),

@@ -5,6 +5,7 @@ mod draft;
 mod entries;
 mod entry;
 mod fault;
+mod faults;
 mod keys;
 mod node_group;
 mod node_settings;
@@ -16,6 +17,7 @@ mod values;
 mod words;
 
 pub use fault::{GroupError, IniCode, IniError};
+pub use faults::{Faults, LineFault, Subject, WholeFault, all_faults};
 pub use node_group::Group;
 pub use node_settings::{Database, Peer, Settings};
 pub use pg_ids::DatabaseNo;

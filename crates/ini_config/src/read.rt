@@ -18,7 +18,8 @@ use std::alloc::Global;
 
 const LISTEN_PORT: u16 = 6432;
 
-const POOL_SIZE: u16 = 20;
+/// The pool size where none is given.
+pub(crate) const POOL_SIZE: u16 = 20;
 
 const MAX_CLIENTS: u32 = 100;
 
@@ -74,8 +75,8 @@ fn settings(draft: Draft) -> Result<Settings, IniCode>
     })
 }
 
-// Whether all databases together have at most 65,535 links.
-fn links_fit(pool: u16, databases: &IndexMap<String, DatabaseEntry>) -> bool
+/// Whether all databases together have at most 65,535 links.
+pub(crate) fn links_fit(pool: u16, databases: &IndexMap<String, DatabaseEntry>) -> bool
     ensures { result ≡ nat_le (links_of pool (values databases.now)) 65535 }
 {
     let mut total = 0u32;

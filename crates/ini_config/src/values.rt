@@ -1,5 +1,5 @@
 //! The values of keys and words.
-ghost use Rattle.std.specs.Prelude.{◌≡◌, ◌<◌, ◌≤◌, ◌⊎◌, MatchResult, Ok, Err, Some, IfOk, string_bytes};
+ghost use Rattle.std.specs.Prelude.{◌≡◌, ◌<◌, ◌≤◌, ◌⊎◌, MatchResult, Ok, Err, Some, IfOk, OnErr, string_bytes};
 ghost use Rattle.ini_config.specs.Reads.{once, Gives};
 ghost use Rattle.ini_config.specs.Text.{number_in};
 ghost use Rattle.ini_config.specs.Entry.{host_value};
@@ -16,6 +16,7 @@ pub(crate) fn once<T: Drop>(place: &mut Option<T>, value: Result<T, IniCode>) ->
         (λ _. once place.old value ≡ Ok place.new)
         (λ e. once place.old value ≡ Err e) }
     ensures place { (place.new ≡ place.old) ⊎ ((v : T) × (value ≡ Ok v) × (place.new ≡ Some v)) }
+    ensures kept { OnErr result (place.new ≡ place.old) }
 {
     if place.is_some() {
         return Err(IniCode::Repeated);

@@ -17,7 +17,7 @@ pub loop-line-preserved : goal.loop-line-preserved
 loop-line-preserved c =
     let g = given_seen c.loop-line.draft in
     let next = next_line c.args.text.now g c.loop-line.number c.loop-line.line-iterator c.next.new.self c.in-Some.line c.loop-line.invariant.lines c.in-Some.ensures.steps in
-    let given = in_line-Ok (λ _. given_seen c.take_line.new.self) (c.loop-line.number + 1) c.take_line.result (line_given g c.trimmed.result.now) c.in_ok-in_line.field-0 (sym c.in_line.ensures ∙ c.in_ok-in_line.was) c.take_line.ensures in
+    let given = in_line-Ok (λ _. given_seen c.take_line.new.self) (c.loop-line.number + 1) c.take_line.result (line_given g c.trimmed.result.now) c.in_ok-in_line.field-0 (sym c.in_line.ensures ∙ c.in_ok-in_line.was) c.take_line.ensures.gives in
     record { can = tt; ends = tt; lines = next.goes (given_seen c.take_line.new.self) (ap (line_given g) (sym c.trimmed.ensures) ∙ given) }
 
 pub returns-in_err-in_line : goal.returns-in_err-in_line
@@ -26,7 +26,7 @@ returns-in_err-in_line c =
     let g = given_seen c.loop-line.draft in
     let fault = c.in_err-in_line.field-0.0 in
     let next = next_line c.args.text.now g c.loop-line.number c.loop-line.line-iterator c.next.new.self c.in-Some.line c.loop-line.invariant.lines c.in-Some.ensures.steps in
-    let refused = in_line-Err (λ _. given_seen c.take_line.new.self) (c.loop-line.number + 1) c.take_line.result (line_given g c.trimmed.result.now) fault (sym c.in_line.ensures ∙ c.in_err-in_line.was) c.take_line.ensures in
+    let refused = in_line-Err (λ _. given_seen c.take_line.new.self) (c.loop-line.number + 1) c.take_line.result (line_given g c.trimmed.result.now) fault (sym c.in_line.ensures ∙ c.in_err-in_line.was) c.take_line.ensures.gives in
     rw (p.1, p.2)
     (elim refused [
       | inl memory ↦ inl memory
