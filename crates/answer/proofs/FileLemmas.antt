@@ -88,6 +88,7 @@ module _ (folder : Folder) (files : List (Bor (List ℕ))) (i : ℕ) (d : Bor (L
   IsCheckFault-at fault.Memory within said _ = tt
   IsCheckFault-at (fault.Usage text) within said never = absurd never
   IsCheckFault-at (fault.InScript file line) within said never = absurd never
+  IsCheckFault-at (fault.Explained text) within said never = absurd never
   IsCheckFault-at (fault.OfGroup error) within said never = absurd never
   IsCheckFault-at (fault.Packet number) within said never = absurd never
   IsCheckFault-at fault.NotACancel within said never = absurd never

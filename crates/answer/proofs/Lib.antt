@@ -12,3 +12,4 @@ pub mod WordList
 pub mod PrintingLemmas
 pub mod ReadingLemmas
 pub mod WritingLemmas
+pub mod AllFaultLemmas

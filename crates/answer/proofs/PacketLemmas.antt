@@ -6,7 +6,7 @@ use Rattle.pg_ids.specs.declared.any_key.AnyKey.{AnyKey}
 use Rattle.startup.specs.CancelPacket.{cancel_packet, packet_bytes}
 use Rattle.answer.specs.Answer.{HasMore, IsPacketFault, IsUsage}
 use Rattle.answer.specs.declared.fault.Fault.{Fault}
-use Rattle.answer.specs.declared.fault.Fault.TheVariants.{Usage, InFile, InScript, OfGroup, Unread, Packet, NotACancel, Unexpected, Memory}
+use Rattle.answer.specs.declared.fault.Fault.TheVariants.{Usage, InFile, InScript, Explained, OfGroup, Unread, Packet, NotACancel, Unexpected, Memory}
 
 -- something follows the request
 pub goes_on : (packet : List ℕ) (key : AnyKey) → IsAnyKey key
@@ -29,6 +29,7 @@ pub told_more : (packet : List ℕ) (fault : Fault) → IsUsage fault → HasMor
 told_more packet (Usage text) is more = more
 told_more packet (InFile file error) is more = absurd is
 told_more packet (InScript file line) is more = absurd is
+told_more packet (Explained text) is more = absurd is
 told_more packet (OfGroup error) is more = absurd is
 told_more packet (Unread file reason) is more = absurd is
 told_more packet (Packet number) is more = absurd is

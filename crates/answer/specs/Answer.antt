@@ -15,9 +15,10 @@ use Rattle.node_core.specs.declared.exchange.Order.{Order}
 use Rattle.answer.specs.declared.fault.Fault.{Fault}
 use Rattle.answer.specs.declared.fault.Fault.TheVariants.{Usage, Packet, NotACancel, Memory}
 use Rattle.command_line.specs.Arguments.{Text}
-use Rattle.command_line.specs.Request.{Asked, Decision, Key, Decide, Check, World, Help, Version, asked}
+use Rattle.command_line.specs.Request.{Asked, Decision, Key, Decide, Check, CheckAll, World, Help, Version, asked}
 use Rattle.answer.specs.Decision.{IsDecided}
 use Rattle.answer.specs.Printing.{Change, IsWritten}
+use Rattle.answer.specs.AllFaults.{IsWholeFault}
 use Rattle.answer.specs.Files.{Folder, IsGroupLine, IsCheckFault}
 use Rattle.answer.specs.Scripts.{HasOutcome, IsWorldFault}
 use Rattle.answer.specs.Texts.{key_text, order_text, fault_text}
@@ -103,6 +104,7 @@ IsOutput folder None text = ⊥
 IsOutput folder (Some (Key bytes)) text = IsKeyLine bytes text
 IsOutput folder (Some (Decide given)) text = IsOrderLine given text
 IsOutput folder (Some (Check files)) text = IsGroupLine folder.holds files text
+IsOutput folder (Some (CheckAll files)) text = IsGroupLine folder.holds files text
 IsOutput folder (Some (World file)) text = HasOutcome (folder.holds file) text
 IsOutput folder (Some (Help topic)) text = ⊤
 IsOutput folder (Some Version) text = ⊤
@@ -119,6 +121,7 @@ IsFault folder None fault = IsUsage fault
 IsFault folder (Some (Key bytes)) fault = IsMemoryFault fault
 IsFault folder (Some (Decide given)) fault = IsDecideFault given fault
 IsFault folder (Some (Check files)) fault = IsCheckFault folder files fault
+IsFault folder (Some (CheckAll files)) fault = IsWholeFault folder files fault
 IsFault folder (Some (World file)) fault = IsWorldFault folder file fault
 IsFault folder (Some (Help topic)) fault = IsMemoryFault fault
 IsFault folder (Some Version) fault = IsMemoryFault fault

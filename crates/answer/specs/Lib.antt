@@ -5,6 +5,8 @@ pub mod Decision
 pub mod Reading
 pub mod ReadingFaults
 pub mod Files
+pub mod Explained
+pub mod AllFaults
 pub mod Scripts
 pub mod Printing
 pub mod Answer

@@ -5,7 +5,7 @@ use Rattle.ini_config.specs.declared.fault.IniCode.TheVariants as ini
 use Rattle.ini_config.specs.declared.fault.GroupError.{GroupError}
 use Rattle.ini_config.specs.declared.fault.GroupError.TheVariants as group
 use Rattle.answer.specs.declared.fault.Fault.{Fault}
-use Rattle.answer.specs.declared.fault.Fault.TheVariants.{Usage, InFile, InScript, OfGroup, Unread, Packet, NotACancel, Unexpected, Memory}
+use Rattle.answer.specs.declared.fault.Fault.TheVariants.{Usage, InFile, InScript, Explained, OfGroup, Unread, Packet, NotACancel, Unexpected, Memory}
 
 -- running out of memory is a fault in running, what is refused in a file isn't
 abbrev pub file_status : IniCode → ℕ
@@ -23,6 +23,7 @@ abbrev pub status_of : Fault → ℕ
 status_of (Usage text) = 2
 status_of (InFile file error) = file_status error.code
 status_of (InScript file line) = 2
+status_of (Explained text) = 2
 status_of (OfGroup error) = group_status error
 status_of (Unread file reason) = 1
 status_of (Packet number) = 1

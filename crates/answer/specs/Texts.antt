@@ -17,7 +17,7 @@ use Rattle.node_core.specs.Refusals.{cancel_number}
 use Rattle.node_core.specs.declared.exchange.Order.{Order}
 use Rattle.node_core.specs.declared.exchange.Order.TheVariants.{Serve, Forward, Unwait, Refused}
 use Rattle.answer.specs.declared.fault.Fault.{Fault}
-use Rattle.answer.specs.declared.fault.Fault.TheVariants.{Usage, InFile, InScript, OfGroup, Unread, Packet, NotACancel, Unexpected, Memory}
+use Rattle.answer.specs.declared.fault.Fault.TheVariants.{Usage, InFile, InScript, Explained, OfGroup, Unread, Packet, NotACancel, Unexpected, Memory}
 use Rattle.answer.specs.declared.fault.Reply.{Reply}
 use Rattle.answer.specs.declared.fault.Reply.TheVariants as reply
 
@@ -105,6 +105,7 @@ fault_text (InFile file error) =
     ++ numbered (ini_number error.code) (ini_name error.code)
 fault_text (InScript file line) =
     string_bytes file ++ codes ":" ++ decimal line ++ codes ": " ++ numbered 80 (codes "BadScript")
+fault_text (Explained text) = string_bytes text
 fault_text (OfGroup error) = numbered (group_number error) (group_name error)
 fault_text (Unread file reason) = string_bytes file ++ codes ": " ++ string_bytes reason
     ++ codes "\n"

@@ -12,6 +12,7 @@ ghost use Rattle.answer.specs.Statuses.{status_of};
 ghost use Rattle.answer.specs.Texts.{fault_text, key_text, part_text};
 
 use crate::check::check_line;
+use crate::check_all::check_all_line;
 use crate::decide::decide_line;
 use crate::fault::Fault;
 use crate::opener::Opener;
@@ -96,6 +97,7 @@ fn output_of<R: Wait, O: Opener>(
         Request::Key(key) => Ok(key_line(alloc, key)?.into_bytes()),
         Request::Decide(request) => Ok(decide_line(rt, alloc, request)?.into_bytes()),
         Request::Check(files) => Ok(check_line(alloc, opener, &files)?.into_bytes()),
+        Request::CheckAll(files) => Ok(check_all_line(alloc, opener, &files)?.into_bytes()),
         Request::World(file) => outcome_text(alloc, opener, file),
         Request::Help(topic) => Ok(help(alloc, topic)?.into_bytes()),
         Request::Version => Ok(version(alloc)?.into_bytes()),

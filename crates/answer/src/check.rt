@@ -1,5 +1,6 @@
 //! `pgpeer check`: whether settings files make a group.
 ghost use Rattle.std.specs.Prelude.{◌≡◌, ◌⊎◌, IfErr, IfOk, MatchResult, String, map, string_bytes, IfSome};
+ghost use Rattle.answer.specs.AllFaults.{IsUnreadFile};
 ghost use Rattle.answer.specs.Files.{folder_of, IsCheckFault, IsFileFault, IsGroupLine, SayInOrder, Says};
 ghost use Rattle.answer.specs.Texts.{group_text};
 
@@ -38,7 +39,8 @@ pub fn group_of<O: Opener>(alloc: Global, opener: &O, files: &[&str]) -> Result<
     }
 }
 
-fn group_line(alloc: Global, count: usize) -> Result<String, Fault>
+/// The line that names how many nodes a group has.
+pub(crate) fn group_line(alloc: Global, count: usize) -> Result<String, Fault>
     ensures { MatchResult result
         (λ line. string_bytes line ≡ group_text count)
         (λ fault. fault ≡ Fault.Memory) }
@@ -79,12 +81,16 @@ fn node_of<O: Opener>(alloc: Global, opener: &O, file: &str) -> Result<Settings,
     }
 }
 
-// What the file holds.
-fn settings_text<O: Opener>(alloc: Global, opener: &O, file: &str) -> Result<String, Fault>
+/// What the file holds.
+pub(crate) fn settings_text<O: Opener>(
+    alloc: Global,
+    opener: &O,
+    file: &str,
+) -> Result<String, Fault>
     ensures held { IfOk result (λ text. IfSome (O.text opener.now file.now)
         (λ bytes. string_bytes text ≡ bytes)) }
     ensures refused { IfErr result
-        (λ fault. IsFileFault
+        (λ fault. IsUnreadFile
         (folder_of (O.text opener.now) (O.opens opener.now) O.Reader.gave)
         file.now fault) }
 {
@@ -101,7 +107,8 @@ const OUT_OF_MEMORY: IniError = IniError {
     code: IniCode::Memory,
 };
 
-fn in_file(alloc: Global, file: &str, error: IniError) -> Fault
+/// The fault of a file.
+pub(crate) fn in_file(alloc: Global, file: &str, error: IniError) -> Fault
     ensures { (result ≡ Fault.Memory) ⊎ ((name : String Global) × (string_bytes name ≡ file.now)
         × (result ≡ Fault.InFile name error)) }
 {

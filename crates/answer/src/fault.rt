@@ -28,6 +28,8 @@ pub enum Fault {
         /// The first line at fault, from 1.
         line: usize,
     },
+    /// Settings files are refused. The text tells of all their faults, or of that of their group.
+    Explained(String),
     /// Nodes are refused as a group, or there is no memory for it.
     OfGroup(GroupError),
     /// A file can't be read.
@@ -71,7 +73,7 @@ impl Fault {
         match self {
             Fault::InFile { error, .. } if error.code == IniCode::Memory => 1,
             Fault::OfGroup(GroupError::Memory) => 1,
-            Fault::Usage(_) => 2,
+            Fault::Usage(_) | Fault::Explained(_) => 2,
             Fault::InFile { .. } | Fault::InScript { .. } | Fault::OfGroup(_) => 2,
             _ => 1,
         }
@@ -82,7 +84,7 @@ impl Fault {
         ensures { IfOk result (λ text. string_bytes text ≡ fault_text self.now) }
     {
         match self {
-            Fault::Usage(text) => String::from_str(alloc, text.as_str()),
+            Fault::Usage(text) | Fault::Explained(text) => String::from_str(alloc, text.as_str()),
             Fault::InFile { file, error } => in_file_text(alloc, file.as_str(), *error),
             Fault::InScript { file, line } => {
                 in_line_text(alloc, file.as_str(), *line, BAD_SCRIPT, "BadScript")
@@ -135,7 +137,8 @@ fn numbered(alloc: Global, number: u8, name: &str) -> Result<String, AllocError>
     format!(in alloc; "{number} {name}\n")
 }
 
-fn ini_name(code: IniCode) -> &'static str
+/// The name of a refusal of a settings file.
+pub(crate) fn ini_name(code: IniCode) -> &'static str
     ensures { result.now ≡ ini_name code }
 {
     match code {
@@ -151,7 +154,8 @@ fn ini_name(code: IniCode) -> &'static str
     }
 }
 
-fn group_name(error: GroupError) -> &'static str
+/// The name of a refusal of a group.
+pub(crate) fn group_name(error: GroupError) -> &'static str
     ensures { result.now ≡ group_name error }
 {
     match error {

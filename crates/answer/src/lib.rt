@@ -3,9 +3,11 @@
 
 mod answers;
 mod check;
+mod check_all;
 mod coming;
 mod decide;
 mod decision;
+mod explained;
 mod fault;
 mod file_text;
 mod hand_back;

@@ -5,7 +5,7 @@ use Rattle.std.specs.Str.{bytes_eq}
 use Rattle.command_line.specs.declared.command_name.CommandName.{CommandName}
 use Rattle.command_line.specs.declared.command_name.CommandName.TheVariants as command
 use Rattle.command_line.specs.declared.option_name.OptionName.{OptionName}
-use Rattle.command_line.specs.declared.option_name.OptionName.TheVariants.{Me, Peers, Live, Front, Seed, SeedFile, Boot, StandIn, Report, Byte}
+use Rattle.command_line.specs.declared.option_name.OptionName.TheVariants.{Me, Peers, Live, All, Front, Seed, SeedFile, Boot, StandIn, Report, Byte}
 
 -- the options of each command, by their names
 abbrev pub decide_options : List (List ℕ × OptionName)
@@ -17,13 +17,16 @@ serve_options = (codes "--front", Front)
     ∷ (codes "--boot", Boot) ∷ (codes "--stand-in", StandIn)
     ∷ (codes "--report", Report) ∷ []
 
+abbrev pub check_options : List (List ℕ × OptionName)
+check_options = (codes "--all", All) ∷ []
+
 abbrev pub stub_options : List (List ℕ × OptionName)
 stub_options = (codes "--byte", Byte) ∷ []
 
 abbrev pub options_of : CommandName → List (List ℕ × OptionName)
 options_of command.Key = []
 options_of command.Decide = decide_options
-options_of command.Check = []
+options_of command.Check = check_options
 options_of command.World = []
 options_of command.Serve = serve_options
 options_of command.Stub = stub_options
@@ -37,6 +40,7 @@ abbrev pub has_value : OptionName → Bool
 has_value Me = true
 has_value Peers = true
 has_value Live = true
+has_value All = false
 has_value Front = true
 has_value Seed = true
 has_value SeedFile = true
@@ -50,6 +54,7 @@ abbrev pub same_option : OptionName → OptionName → Bool
 same_option Me Me = true
 same_option Peers Peers = true
 same_option Live Live = true
+same_option All All = true
 same_option Front Front = true
 same_option Seed Seed = true
 same_option SeedFile SeedFile = true

@@ -13,7 +13,7 @@ use Rattle.command_line.specs.Clients.{eight_bytes, clients_of}
 use Rattle.command_line.specs.declared.live_client.LiveClient.{LiveClient}
 use Rattle.command_line.specs.declared.command_name.CommandName.{CommandName}
 use Rattle.command_line.specs.declared.command_name.CommandName.TheVariants as command
-use Rattle.command_line.specs.declared.option_name.OptionName.TheVariants.{Me, Peers, Live}
+use Rattle.command_line.specs.declared.option_name.OptionName.TheVariants.{Me, Peers, Live, All}
 use Rattle.command_line.specs.declared.command_name.FirstArgument.{FirstArgument}
 use Rattle.command_line.specs.declared.command_name.FirstArgument.TheVariants as first
 use Rattle.command_line.specs.declared.request.Request.{Request as RequestGiven}
@@ -27,12 +27,14 @@ pub record Decision : Type 0 where
   pub clients : List LiveClient
   pub packet : List ℕ
 
--- a key's parts, by its bytes; a decision; whether files make a group; what the events of a file's
--- script bring about; help on a command or on the program; the program's version
+-- a key's parts, by its bytes; a decision; whether files make a group, or else the first fault, or
+-- all faults; what the events of a file's script bring about; help on a command or on the program;
+-- the program's version
 pub data Asked : Type 0 where
   Key : (bytes : List ℕ) → Asked
   Decide : Decision → Asked
   Check : (files : List Text) → Asked
+  CheckAll : (files : List Text) → Asked
   World : (file : Text) → Asked
   Help : Option CommandName → Asked
   Version : Asked
@@ -72,9 +74,17 @@ key_asked texts = do
   bytes ← key_bytes_of digits
   Some (Key bytes)
 
--- `check` wants files, one or more
-abbrev pub check_asked : List Text → Option Asked
-check_asked files = option_map Check (one_or_more files)
+-- by whether `--all` is given
+abbrev pub check_of : Option Text → List Text → Asked
+check_of None files = Check files
+check_of (Some flag) files = CheckAll files
+
+-- `check` wants `--all` at most once, and files, one or more
+abbrev pub check_asked : Given → Option Asked
+check_asked given = do
+  all ← at_most_one (values_of All given)
+  files ← one_or_more given.plain
+  Some (check_of all files)
 
 -- `world` wants one file
 abbrev pub world_asked : List Text → Option Asked
@@ -103,7 +113,7 @@ decide_asked given = do
 abbrev pub asked_of : CommandName → Given → Option Asked
 asked_of command.Key given = key_asked given.plain
 asked_of command.Decide given = decide_asked given
-asked_of command.Check given = check_asked given.plain
+asked_of command.Check given = check_asked given
 asked_of command.World given = world_asked given.plain
 asked_of command.Serve given = None
 asked_of command.Stub given = None
@@ -139,6 +149,7 @@ abbrev pub asked_in : RequestGiven → Asked
 asked_in (request.Key key) = Key (any_key_bytes key)
 asked_in (request.Decide given) = Decide (decision_in given)
 asked_in (request.Check files) = Check (map (λ file. file.now) files.items)
+asked_in (request.CheckAll files) = CheckAll (map (λ file. file.now) files.items)
 asked_in (request.World file) = World file.now
 asked_in (request.Help topic) = Help topic
 asked_in request.Version = Version

@@ -105,12 +105,20 @@ connection's cancel key in 16 hexadecimal digits",
     },
 ];
 
-const CHECK: &[Argument] = &[Argument {
-    name: "FILE",
-    form: Form::Several,
-    required: true,
-    help: "Settings files, one for each pooler of the group",
-}];
+const CHECK: &[Argument] = &[
+    Argument {
+        name: "all",
+        form: Form::Flag,
+        required: false,
+        help: "Tell of every fault, each with a sentence, in place of the first one",
+    },
+    Argument {
+        name: "FILE",
+        form: Form::Several,
+        required: true,
+        help: "Settings files, one for each pooler of the group",
+    },
+];
 
 const WORLD: &[Argument] = &[Argument {
     name: "FILE",

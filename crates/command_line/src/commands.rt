@@ -113,9 +113,17 @@ fn usage_of<'a>(name: CommandName, usage: Usage) -> Option<&'a str> {
         CommandName::Decide => {
             Some("pgpeer decide --me <N> [--peers <P,P..>] [--live <C,C..>] <HEX>")
         }
+        CommandName::Check => Some(check_usage(usage)),
         CommandName::Serve => Some(serve_usage(usage)),
         CommandName::Stub => Some("pgpeer stub [--byte] <PORT>"),
-        CommandName::Key | CommandName::Check | CommandName::World => None,
+        CommandName::Key | CommandName::World => None,
+    }
+}
+
+fn check_usage<'a>(usage: Usage) -> &'a str {
+    match usage {
+        Usage::Whole => "pgpeer check [--all] <FILE>...",
+        Usage::Short => "pgpeer check <FILE>...",
     }
 }
 
@@ -185,9 +193,13 @@ Examples:
   serve 1112131415161718";
 
 const AFTER_CHECK: &str = "\
-Example:
+Examples:
   $ pgpeer check node1.ini node2.ini
-  group of 2 nodes";
+  group of 2 nodes
+
+  $ pgpeer check --all pgbouncer.ini
+  pgbouncer.ini:8: 22 UnknownKey: server_idle_timeout is not in this profile
+  pgbouncer.ini:9: 27 NotInProfile: pool_mode asks for what is not in this profile";
 
 const AFTER_WORLD: &str = "\
 Output:

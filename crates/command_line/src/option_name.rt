@@ -2,7 +2,7 @@
 ghost use Rattle.std.specs.Prelude.{◌≡◌};
 ghost use Rattle.std.specs.Map.{lookup};
 ghost use Rattle.std.specs.Str.{bytes_eq};
-ghost use Rattle.command_line.specs.Options.{decide_options, has_value, option_named, same_option, serve_options, stub_options};
+ghost use Rattle.command_line.specs.Options.{check_options, decide_options, has_value, option_named, same_option, serve_options, stub_options};
 
 use crate::command_name::CommandName;
 
@@ -15,6 +15,8 @@ pub enum OptionName {
     Peers,
     /// Its clients, of `decide`.
     Live,
+    /// Whether all faults are told, of `check`.
+    All,
     /// The port, of `serve`.
     Front,
     /// What secrets are drawn from, of `serve`.
@@ -41,7 +43,8 @@ impl OptionName {
             CommandName::Decide => decide_option(name),
             CommandName::Serve => serve_option(name),
             CommandName::Stub => stub_option(name),
-            CommandName::Key | CommandName::Check | CommandName::World => None,
+            CommandName::Check => check_option(name),
+            CommandName::Key | CommandName::World => None,
         }
     }
 
@@ -49,7 +52,10 @@ impl OptionName {
     pub fn has_value(self) -> bool
         ensures { result ≡ has_value self }
     {
-        !matches!(self, OptionName::StandIn | OptionName::Byte)
+        !matches!(
+            self,
+            OptionName::All | OptionName::StandIn | OptionName::Byte
+        )
     }
 
     /// Whether both are one option.
@@ -67,6 +73,15 @@ fn decide_option(name: &str) -> Option<OptionName>
         "--me" => Some(OptionName::Me),
         "--peers" => Some(OptionName::Peers),
         "--live" => Some(OptionName::Live),
+        _ => None,
+    }
+}
+
+fn check_option(name: &str) -> Option<OptionName>
+    ensures { result ≡ lookup (bytes_eq name.now) check_options }
+{
+    match name {
+        "--all" => Some(OptionName::All),
         _ => None,
     }
 }

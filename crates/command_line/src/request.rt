@@ -24,8 +24,10 @@ pub enum Request<'a> {
     Key(AnyKey),
     /// What a node does with a cancel request.
     Decide(DecideRequest),
-    /// Whether these files make a group.
+    /// Whether these files make a group, or else the first fault.
     Check(Vec<&'a str>),
+    /// Whether these files make a group, or else all faults.
+    CheckAll(Vec<&'a str>),
     /// What the events of this file's script bring about.
     World(&'a str),
     /// Help on a command, or on the program.
@@ -81,7 +83,7 @@ impl<'a> Request<'a> {
         match name {
             CommandName::Key => Request::key(&given.plain),
             CommandName::Decide => Request::decide(alloc, &given),
-            CommandName::Check => Request::check(given.plain),
+            CommandName::Check => Request::check(alloc, given),
             CommandName::World => Request::world(&given.plain),
             CommandName::Serve | CommandName::Stub => Err(Wrong::Form),
         }
@@ -94,14 +96,18 @@ impl<'a> Request<'a> {
         Ok(Request::Key(key_of(digits)?))
     }
 
-    fn check(arguments: Vec<&'a str>) -> Result<Request<'a>, Wrong<'a>>
-        ensures { Reads asked_in result
-            (check_asked (map (λ argument. argument.now) arguments.entry.items)) }
+    fn check(alloc: Global, given: Given<'a>) -> Result<Request<'a>, Wrong<'a>>
+        ensures { Finds asked_in result (check_asked (given_in given.entry)) }
     {
-        if arguments.is_empty() {
+        let all = given.at_most_once(alloc, OptionName::All)?;
+        let files = given.plain;
+        if files.is_empty() {
             return Err(Wrong::Form);
         }
-        Ok(Request::Check(arguments))
+        match all {
+            None => Ok(Request::Check(files)),
+            Some(_) => Ok(Request::CheckAll(files)),
+        }
     }
 
     fn world(arguments: &[&'a str]) -> Result<Request<'a>, Wrong<'a>>

@@ -6,6 +6,7 @@ use std::process::Abort;
 use std::sync::Wait;
 use std::test::Fail;
 
+mod all_faults;
 mod files;
 mod groups;
 mod help;

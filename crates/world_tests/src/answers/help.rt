@@ -90,17 +90,22 @@ Examples:
 const CHECK: &str = "\
 Check that settings files make a group
 
-Usage: pgpeer check <FILE>...
+Usage: pgpeer check [--all] <FILE>...
 
 Arguments:
   <FILE>...  Settings files, one for each pooler of the group
 
 Options:
+      --all   Tell of every fault, each with a sentence, in place of the first one
   -h, --help  Print help
 
-Example:
+Examples:
   $ pgpeer check node1.ini node2.ini
   group of 2 nodes
+
+  $ pgpeer check --all pgbouncer.ini
+  pgbouncer.ini:8: 22 UnknownKey: server_idle_timeout is not in this profile
+  pgbouncer.ini:9: 27 NotInProfile: pool_mode asks for what is not in this profile
 ";
 
 const WORLD: &str = "\
