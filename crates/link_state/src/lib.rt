@@ -1,5 +1,5 @@
 //! The login of a pooler at a server: what it sends, what it makes of each of the server's
-//! messages, and when the link is up. And a watch over the parameters that a server reports.
+//! messages, and when the link is up; and a watch over the parameters that a server reports.
 #![tactic(auto)]
 
 mod act;

@@ -30,3 +30,5 @@ mod queues;
 mod routes;
 #[cfg(test)]
 mod stand_in;
+#[cfg(test)]
+mod watches;

@@ -2,13 +2,14 @@
 use crate::checks::{assert_bytes, assert_same};
 use pg_ids::{AnyKey, Kind};
 use startup::{
-    ErrorCode, First, Opening, Severity, StartupError, write_cancel, write_error, write_login,
-    write_startup,
+    ErrorCode, First, Opening, Reports, Severity, StartupError, write_cancel, write_error,
+    write_login, write_startup,
 };
 use std::alloc::{AllocError, Global};
 use std::process::Abort;
 use std::test::Fail;
 
+mod reports;
 mod transcripts;
 
 const CANCEL: &[u8; 16] = b"\0\0\0\x10\x04\xd2\x16\x2e\0\x08\0\0\0\0\0\x07";
@@ -336,14 +337,15 @@ fn assert_login(rt: &impl Abort, login: &[u8], ending: &[u8]) {
     assert_bytes(rt, &login[84..], ending);
 }
 
-// A login with this key ends so.
+// A login with this key that reports these ends so.
 fn ends_login(
     rt: &(impl Abort + AllocGlobal),
     key: Option<AnyKey>,
+    reports: &Reports,
     ending: &[u8],
 ) -> Result<(), StartupError> {
     let mut out = Vec::new(rt.alloc());
-    write_login(key, &mut out)?;
+    write_login(key, reports, &mut out)?;
     assert_login(rt, out.as_slice(), ending);
     Ok(())
 }
@@ -352,17 +354,20 @@ fn ends_login(
 fn logins(rt: HostRuntime) -> Result<(), Fail> {
     let short = AnyKey::from_short_bytes([0, 8, 0, 0, 0, 0, 0, 7]);
     let long = AnyKey::from_long_bytes(LONG_KEY);
+    let none = Reports::new(rt.alloc());
     ends_login(
         &rt,
         Some(short),
+        &none,
         b"K\0\0\0\x0c\0\x08\0\0\0\0\0\x07Z\0\0\0\x05I",
     )?;
     ends_login(
         &rt,
         Some(long),
+        &none,
         b"K\0\0\0\x1c\0\x08\0\0\0\0\0\x07\0\0\0\0\0\0\0\x01\0\0\0\0\0\0\x02\x03Z\0\0\0\x05I",
     )?;
-    ends_login(&rt, None, b"Z\0\0\0\x05I")?;
+    ends_login(&rt, None, &none, b"Z\0\0\0\x05I")?;
     Ok(())
 }
 

@@ -80,7 +80,12 @@ fn cancels(rt: HostRuntime) -> Result<(), Fail> {
         let written = write_cancel(AnyKey::from_short_bytes(*key));
         assert_bytes(&rt, written.as_slice(), request.as_slice());
         let login_key = AnyKey::from_short_bytes(*key);
-        ends_login(&rt, Some(login_key), ending.as_slice())?;
+        ends_login(
+            &rt,
+            Some(login_key),
+            &Reports::new(rt.alloc()),
+            ending.as_slice(),
+        )?;
     }
     Ok(())
 }
