@@ -1,4 +1,4 @@
--- All faults of files are told.
+-- All faults of files are reported.
 use Rattle.std.proofs.Common.{◌≡◌, ℕ, ◌+◌, ◌<◌, ◌⊎◌, List, [], ◌∷◌, ◌++◌, codes, length, eqb, true, String, Global, string_bytes, get_or, map, take, Bor, Option, inl, inr, arith, refl, sym, ◌∙◌, ap, subst, append-nil}
 use Rattle.std.specs.String.{string_len}
 use Rattle.std.proofs.lemmas.Bool.Decides.{nat_tests}
@@ -62,7 +62,7 @@ explained_some : (file : List ℕ) (line : ℕ) (code : IniCode) (words : List �
     → explained file line code words ≡ [] → ⊥
 explained_some file line code words = last_some _ (10 ∷ []) (λ (e : 10 ∷ [] ≡ []). cc)
 
--- a file of which nothing is told has no faults
+-- a file of which nothing is reported has no faults
 pub no_text : (file : List ℕ) (lines : List LineFault) (whole : List WholeFault)
     → faults_text file lines whole ≡ [] → (lines ≡ []) × (whole ≡ [])
 no_text file [] [] e = (refl, refl)

@@ -104,7 +104,7 @@ module _ {T : Type 0} (wrote : T → List ℕ → Result ℕ Error → T → Typ
       stops_one old now new text left bytes (Err error) count writes call
       (λ status. (subst (λ b. 0 < length b) same room, same, inr (failed, refl, refl)))
 
-  -- so many writes were made
+  -- that many writes were made
   pub stops_tired : (old now : T) (text left : List ℕ) (count : ℕ)
       → Writes (change wrote flushed holds old now) text left count → count ≡ 2 ^ 64 - 1
       → Stops (change wrote flushed holds old now) text

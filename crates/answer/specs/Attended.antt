@@ -78,7 +78,7 @@ pub record Attended (passes : List PassRecord) (leases : List LinkRecord) (many 
   pub nobody : queue_at v.links 0 ≡ []
   pub used : used_in (slice_get v.links.pools 0) ≡ many
 
--- A node with so many slots and places, to which these clients came, and no other. So many places
+-- A node with that many slots and places, to which these clients came, and no other. That many places
 -- are in use; each was asked for once.
 pub record Coming (size : ℕ) (passes : List PassRecord) (leases : List LinkRecord) (used : ℕ)
     (v : NodeView) : Type 0 where

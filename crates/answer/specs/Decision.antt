@@ -147,7 +147,7 @@ pub record Haves : Type 0 where
 abbrev pub has : Held → Haves
 has held = record { passes = held.passes.items; leases = leases_of held.leases.items }
 
--- clients that have this came, and there is a slot and a place for each of so many more
+-- clients that have this came, and there is a slot and a place for each of that many more
 pub record HasRoom (had : Haves) (more : ℕ) (view : NodeView) : Type 0 where
   pub size : ℕ
   pub room : length had.passes + more ≤ size
@@ -176,7 +176,7 @@ pub record Reports (old : CallerView) (ticket : Option TicketRecord) (new : Call
   pub leads : (passes : List PassRecord) (leases : List LinkRecord)
       → Leads (Asked passes leases ticket) calls (Rests passes leases)
 
--- a caller made the calls by which these links are closed, but for those that are left
+-- a caller made the calls by which these links are closed, except those that are left
 pub record Closes (old : CallerView) (leases left : List LinkRecord) (new : CallerView)
     : Type 0 where
   pub calls : List Exchange
@@ -187,7 +187,7 @@ pub record Closes (old : CallerView) (leases left : List LinkRecord) (new : Call
 abbrev pub SomeRest : List LinkRecord → NodeView → Type 0
 SomeRest leases view = (passes : List PassRecord) × Rests passes leases view
 
--- a caller made the calls by which clients with these passes leave, but for those that are left
+-- a caller made the calls by which clients with these passes leave, except those that are left
 pub record Leaves (old : CallerView) (passes left : List PassRecord) (new : CallerView)
     : Type 0 where
   pub calls : List Exchange

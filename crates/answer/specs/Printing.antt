@@ -54,7 +54,7 @@ Prints left status (FlushCall (Ok done) ∷ more) result =
 Prints left status (FlushCall (Err error) ∷ more) result =
     (left ≡ []) × (more ≡ []) × (result ≡ 1)
 
--- it gave up after so many writes, of which most were interrupted
+-- it gave up after that many writes, of which most were interrupted
 abbrev pub GivesUp : List Call → ℕ → Type 0
 GivesUp calls result = (length calls ≡ 2 ^ 64 - 1) × (result ≡ 1)
 

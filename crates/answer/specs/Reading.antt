@@ -36,7 +36,7 @@ abbrev pub given : List Call → List ℕ
 given [] = []
 given (call ∷ calls) = given_by call.buffer call.result ++ given calls
 
--- some reads went on, and the next one failed, neither interrupted nor for want of memory
+-- some reads went on, and the next one failed, neither interrupted nor because memory ran out
 pub record FailsReading {R : Type 0} (gave : R → List ℕ → Result ℕ Error → R → Type 0) (reader : R)
     : Type 0 where
   pub calls : List Call
@@ -60,7 +60,7 @@ pub record HoldsNoText {R : Type 0} (gave : R → List ℕ → Result ℕ Error 
   pub ends : gave last buffer (Ok 0) new
   pub no_text : ¬ IsUtf8 (given calls)
 
--- A file can't be opened, where that isn't for want of memory; or it was opened, and can't be read,
+-- A file can't be opened, where that isn't because memory ran out; or it was opened, and can't be read,
 -- or isn't UTF-8.
 abbrev pub Unreadable : {R : Type 0} → (Result R Error → Type 0)
     → (R → List ℕ → Result ℕ Error → R → Type 0) → Type 0

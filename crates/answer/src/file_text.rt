@@ -106,7 +106,7 @@ pub(crate) fn unread(alloc: Global, file: &str, why: &NoText) -> Fault
     }
 }
 
-// What is told of it, in the words of Rust's errors.
+// What is reported of it, in the words of Rust's errors.
 fn reason(alloc: Global, why: &NoText) -> Result<String, AllocError> {
     match why {
         NoText::Memory => String::from_str(alloc, "out of memory"),

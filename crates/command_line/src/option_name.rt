@@ -15,7 +15,7 @@ pub enum OptionName {
     Peers,
     /// Its clients, of `decide`.
     Live,
-    /// Whether all faults are told, of `check`.
+    /// Whether all faults are reported, of `check`.
     All,
     /// The port, of `serve`.
     Front,

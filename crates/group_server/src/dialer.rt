@@ -33,7 +33,7 @@ pub struct ClientDialer<'a, M: Machine> {
 }
 
 impl<M: Machine> Dialer<M> {
-    /// The dialer of the node at this place of the group, whose clients are told these reports.
+    /// The dialer of the node at this place of the group, whose logins have these reports.
     pub fn new(
         machine: M,
         alloc: Global,
@@ -60,7 +60,7 @@ impl<M: Machine> Dialer<M> {
         }
     }
 
-    /// The parameters that clients are told beside those of every login.
+    /// The parameters that clients get beside those of every login.
     pub fn reports(&self) -> &Reports {
         &self.reports
     }

@@ -65,7 +65,7 @@ impl<M: Machine> LinkStream<M> {
     }
 
     /// Whether nothing came on it, its other side hasn't ended it, all is written, and its server
-    /// reports nothing else than clients are told. Where it isn't, the log says so.
+    /// reports nothing else than clients get. Where it isn't, the log says so.
     pub fn is_quiet(&self) -> bool {
         let inside = &self.inside;
         let is_quiet = inside.unwritten.is_empty()

@@ -12,12 +12,12 @@ use std::time::Clock;
 
 /// What is looked at in what a server or a peer sends on one connection, so that the log says why a
 /// link or a cancel request fails, and no link is used whose server reports another value than
-/// clients are told.
+/// clients get.
 #[derive(Drop)]
 pub struct Looks {
     origin: Origin,
     stage: Stage,
-    // What the server of a link reports, if clients are told of it.
+    // What the server of a link reports, if clients get it.
     watch: Option<Watch>,
     // Whether the log has a line of its failure.
     is_told: bool,
@@ -73,7 +73,7 @@ impl Looks {
         self.watch.is_none() && matches!(self.stage, Stage::Link)
     }
 
-    /// Whether the server reports another value than clients are told.
+    /// Whether the server reports another value than clients get.
     pub fn differs(&self) -> bool {
         match &self.watch {
             Some(watch) => watch.differs().is_some(),
@@ -82,7 +82,7 @@ impl Looks {
     }
 
     /// These bytes came. It fails if they belong to a login and the server reports another value
-    /// than clients are told.
+    /// than clients get.
     pub fn look<R: Wait + Clock>(&mut self, rt: &R, bytes: &[u8]) -> io::Result<()> {
         if let Some(watch) = &mut self.watch {
             watch.read(bytes);

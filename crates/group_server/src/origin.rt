@@ -56,7 +56,7 @@ impl Origin {
         }
     }
 
-    /// Writes that the server reports another value than clients are told.
+    /// Writes that the server reports another value than clients get.
     pub fn write_difference<R: Wait + Clock>(&self, rt: &R, event: Event, found: &Difference<'_>) {
         let fields = [
             ("parameter", Value::Text(found.name)),

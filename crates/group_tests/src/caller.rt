@@ -25,7 +25,7 @@ pub(crate) struct Caller<R: TestHost> {
 }
 
 impl<R: TestHost> Caller<R> {
-    // The server of its database `shop` is at this port, and clients are told this.
+    // The server of its database `shop` is at this port, and clients get this.
     pub(crate) fn new(rt: &R, server: u16, told: &[(&str, &str)]) -> Result<Caller<R>, Fail> {
         let group = Arc::new(rt.alloc(), group(rt.alloc(), &[1], server, &[&[]])?)?;
         let log = Arc::new(rt.alloc(), Log::new(rt.alloc()))?;

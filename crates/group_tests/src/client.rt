@@ -45,7 +45,7 @@ fn contains(got: &[u8], bytes: &[u8]) -> bool {
     false
 }
 
-// How a connection was closed behind these bytes. A client is told of out of memory before its
+// How a connection was closed behind these bytes. A client gets out of memory before its
 // greeting alone, and of a lost server where the stand-in server closed its link.
 fn closed(got: &[u8]) -> &'static str {
     if !contains(got, b"SFATAL\0") {

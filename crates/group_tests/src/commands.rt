@@ -80,7 +80,7 @@ fn files_are_served(rt: HostRuntime) -> Result<(), Fail> {
     expect_three(&rt, &nodes, front)
 }
 
-// A node whose clients are told a parameter that the arguments name. Its server reports none of
+// A node whose logins report a parameter that the arguments name. Its server reports none of
 // this name, so links are used.
 #[test]
 fn parameters_are_reported(rt: HostRuntime) -> Result<(), Fail> {

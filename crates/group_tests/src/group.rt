@@ -56,7 +56,7 @@ impl Running {
         Running::start_telling(rt, servers, leads, &[])
     }
 
-    // Starts such nodes, whose clients are told these parameters beside those of every login.
+    // Starts such nodes, whose logins report these parameters beside those of every login.
     pub(crate) fn start_telling<R: TestHost>(
         rt: &R,
         servers: &[u16],
@@ -129,7 +129,7 @@ fn serve_group<R: TestHost>(
     }
 }
 
-// What a group of this port is served with, whose clients are told these reports.
+// What a group of this port is served with, whose logins have these reports.
 pub(crate) const fn options(front: u16, reports: &Reports) -> ServeOptions<'_> {
     ServeOptions {
         version: "0",

@@ -10,7 +10,7 @@ use std::test::Fail;
 
 const LOGIN_FAILED: &str = "warn link_login_failed";
 
-// A server whose zone isn't what clients are told: reading its login fails.
+// A server whose zone isn't what clients get: reading its login fails.
 #[test]
 fn another_value_is_in_the_log(rt: HostRuntime) -> Result<(), Fail> {
     const SCRIPTS: &[Script] = &[Script {

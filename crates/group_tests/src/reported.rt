@@ -1,4 +1,4 @@
-//! Links whose servers report another value than clients are told.
+//! Links whose servers report another value than clients get.
 use crate::client::Client;
 use crate::group::Running;
 use crate::host::TestHost;
@@ -8,7 +8,7 @@ use startup::Reports;
 use std::alloc::{AllocError, Global};
 use std::test::Fail;
 
-// What clients are told beside what every login tells, and its ParameterStatus.
+// What clients get beside what every login tells, and its ParameterStatus.
 pub(crate) const TOLD: &[(&str, &str)] = &[
     ("standard_conforming_strings", "on"),
     ("TimeZone", "UTC"),
@@ -35,7 +35,7 @@ const PARIS: &[u8] = b"S\0\0\0\x1aTimeZone\0Europe/Paris\0";
 
 const UTC: &[u8] = b"S\0\0\0\x11TimeZone\0UTC\0";
 
-// CommandComplete of links, by which they are told from one another.
+// CommandComplete of links, by which they differ.
 const ONE: &[u8] = b"C\0\0\0\x08ONE\0";
 
 const TWO: &[u8] = b"C\0\0\0\x08TWO\0";
@@ -45,7 +45,7 @@ const OPEN: &[u8] = b"Z\0\0\0\x05T";
 // ErrorResponse: the link was lost.
 const LOST: &[u8] = b"E\0\0\0\x32SFATAL\0VFATAL\0C08006\0Mserver connection lost\0\0";
 
-// A group of one node before this server, whose clients are told this.
+// A group of one node before this server, whose clients get this.
 fn start_group<R: TestHost>(
     rt: &R,
     server: u16,
@@ -54,7 +54,7 @@ fn start_group<R: TestHost>(
     Running::start_telling(rt, &[server], &[&[]], told)?.node(1)
 }
 
-// A client that is told this logs in.
+// A client that gets this logs in.
 fn log_in<R: TestHost>(rt: &R, port: u16, told: &[u8]) -> Result<Client, Fail> {
     Ok(Client::log_in_told(rt, port, told)?.0)
 }
@@ -140,7 +140,7 @@ fn a_change_that_ends(rt: HostRuntime) -> Result<(), Fail> {
     other.expect_answer(&rt, "next", &[ONE, IDLE])
 }
 
-// Where clients are told nothing more, nothing is compared.
+// Where clients get nothing more, nothing is compared.
 #[test]
 fn nothing_is_told(rt: HostRuntime) -> Result<(), Fail> {
     const SCRIPTS: &[Script] = &[Script {

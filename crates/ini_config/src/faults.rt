@@ -61,7 +61,7 @@ pub struct Faults<'a> {
 }
 
 /// All faults of a settings text: each line at fault is taken out, and what is left is read on. A
-/// section that is refused is taken out with its lines. A key that has to be given is told as
+/// section that is refused is taken out with its lines. A key that has to be given is reported as
 /// missing only where no line that was taken out names it. Fails if memory runs out.
 pub fn all_faults<'a>(alloc: Global, text: &'a str) -> Result<Faults<'a>, AllocError>
     ensures faults { IfOk result (λ faults. AreFaults [] (lines text.now)

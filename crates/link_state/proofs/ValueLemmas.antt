@@ -82,7 +82,7 @@ value_cut name body n few enough =
     let k = n - (length name + 1) in
     ap (option_map (take few)) (value_cut_at name body n k (omega arith)) ∙ shorter few k (value_in name body) (omega arith)
 
--- a list that is told by its front, which is shorter than the cut
+-- a list that is known by its front, which is shorter than the cut
 pub whole_by_front : (n : ℕ) (xs ys : List ℕ) → take n xs ≡ ys → length ys < n → xs ≡ ys
 whole_by_front n xs ys e short =
     elim (cases_lt (length xs) n) [

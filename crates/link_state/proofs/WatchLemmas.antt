@@ -208,7 +208,7 @@ new_seen all reports incoming is comes = record {
   stands = comes;
 }
 
--- one whose first bytes are those that clients are told
+-- one whose first bytes are those that clients get
 told_by_front : (told : List ℕ) (o : Option (List ℕ)) → IfSome (option_map (take (shown told)) o) (λ last. last ≡ told) → IfSome o (λ value. value ≡ told)
 told_by_front told None h = tt
 told_by_front told (Some value) h = whole_by_front (shown told) value told h (omega arith)

@@ -48,7 +48,7 @@ value_of name frame = if frame.kind == 83 then value_in name frame.body else Non
 abbrev pub reported : List ℕ → List Frame → Option (List ℕ)
 reported name frames = last_or None (filter_map (λ frame. value_of name frame) frames)
 
--- of these parameters none was reported with another value last than clients are told
+-- of these parameters none was reported with another value last than clients get
 abbrev pub AreAsTold : List Report → List Frame → Type 0
 AreAsTold told frames =
     AllByRecursion (λ one. IfSome (reported one.name frames) (λ value. value ≡ one.value)) told
@@ -57,7 +57,7 @@ AreAsTold told frames =
 abbrev pub shown : List ℕ → ℕ
 shown told = length told + 64
 
--- one of these parameters was reported with another value last than clients are told, and that
+-- one of these parameters was reported with another value last than clients get, and that
 -- value begins so
 pub record IsChange (told : List Report) (frames : List Frame) (change : Difference) : Type 0 where
   pub one : Report
@@ -74,7 +74,7 @@ pub record IsChange (told : List Report) (frames : List Frame) (change : Differe
 abbrev pub encoding : Report
 encoding = record { name = codes "client_encoding"; value = codes "UTF8" }
 
--- a parameter, what clients are told of it, and the first bytes of what was reported last
+-- a parameter, what clients get of it, and the first bytes of what was reported last
 pub record WatchedValue : Type 0 where
   pub name : List ℕ
   pub told : List ℕ
@@ -91,14 +91,14 @@ pub record WatchState : Type 0 where
   pub in_body : Bool
   pub stopped : Bool
 
--- what clients are told
+-- what clients get
 abbrev pub told_one : WatchedValue → Report
 told_one one = record { name = one.name; value = one.told }
 
 abbrev pub told_of : WatchState → List Report
 told_of watch = map told_one watch.watched
 
--- so many bytes are to come of a message that has begun so
+-- that many bytes are to come of a message that has begun so
 abbrev pub Awaits : Bool → ℕ → List ℕ → Type 0
 Awaits false left rest = left + length rest ≡ 5
 Awaits true left rest =

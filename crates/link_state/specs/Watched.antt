@@ -40,11 +40,11 @@ all_seen all = map seen all
 abbrev pub noted : List ℕ → List WatchedValue → List WatchedValue
 noted front all = if slice_index front 0 == 83 then map (judged (drop 5 front)) all else all
 
--- so many bytes of a message are enough to judge it
+-- that many bytes of a message are enough to judge it
 abbrev pub Suffices : ℕ → WatchedValue → Type 0
 Suffices limit one = 6 + length one.name + shown one.told ≤ limit
 
--- nothing else was reported of it than clients are told
+-- nothing else was reported of it than clients get
 abbrev pub IsSame : WatchedValue → Type 0
 IsSame one = IfSome one.last (λ last. last ≡ one.told)
 

@@ -93,10 +93,10 @@ impl Watch {
         }
     }
 
-    /// What the server reports otherwise than clients are told, if anything.
+    /// What the server reports otherwise than clients get it, if anything.
     pub fn differs(&self) -> Option<Difference<'_>>
         // There is nothing exactly where, of each parameter, the last value in the messages so far
-        // is the one that clients are told.
+        // is the one that clients get.
         ensures none { (bytes : List ℕ) (frames : List Frame) (rest : List ℕ)
             → HasSeen self.now bytes → Begins bytes frames rest
             → IfNone result (AreAsTold (told_of self.now) frames) }

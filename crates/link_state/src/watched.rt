@@ -5,7 +5,7 @@ use crate::Difference;
 use crate::value::value_in;
 use std::alloc::{AllocError, Global};
 
-// How many bytes are kept of a value that was reported, above those that clients are told.
+// How many bytes are kept of a value that was reported, above those that clients get.
 const SHOWN: usize = 64;
 
 /// A parameter that is watched, and what was reported of it last. It takes all of its memory when
@@ -63,7 +63,7 @@ impl Watched {
         6 + self.name.len() + self.told.len() + SHOWN
     }
 
-    /// What was reported last, if clients are told otherwise.
+    /// What was reported last, if clients get another value.
     pub fn difference(&self) -> Option<Difference<'_>>
         ensures none { IfNone result (IfSome (seen self.now).last
             (λ last. last ≡ (seen self.now).told)) }

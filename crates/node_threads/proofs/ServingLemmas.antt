@@ -89,7 +89,7 @@ some_of_more xs ys calls some = record {
   beginning = ap (λ zs. zs ++ ys) some.beginning ∙ append_assoc _ some.left ys;
 }
 
--- a client was told that its wait was cancelled, or wasn't told whole
+-- a client got the text that its wait was cancelled, or a part of it
 pub told_cancelled : {T : Type 0} (wrote gave : Effect T) (a b c : T) (error ready : List ℕ)
     → error ≡ error_text Error QueryCanceled → ready ≡ ready_text 73
     → SomeCalls wrote gave a b (Wrote error) → SomeCalls wrote gave b c (Wrote ready)

@@ -62,13 +62,13 @@ abbrev pub WasAnswered : PassRecord → AcquireReply LinkRecord PermitRecord →
 WasAnswered pass reply new =
     (old : CallerView) × Counted (step.Acquire pass reply) reply acquire.Exhausted old new
 
--- the node was told that the link of a permit is up, and gave this answer
+-- it was reported to the node that the link of a permit is up, and gave this answer
 abbrev pub WentUp : PermitRecord → UpReply LinkRecord PermitRecord (Unit {0}) → CallerView
     → CallerView → Type 0
 WentUp permit reply old new =
     (key : List ℕ) × Counted (step.Up permit key reply) reply (up.AtEnd tt) old new
 
--- the node was told that the link of a permit couldn't be opened
+-- it was reported to the node that the link of a permit couldn't be opened
 abbrev pub HasFailed : PermitRecord → CallerView → CallerView → Type 0
 HasFailed permit old new =
     (reply : UpFailedReply) × Counted (step.UpFailed permit reply) reply failing.Exhausted old new

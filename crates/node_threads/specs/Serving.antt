@@ -145,7 +145,7 @@ Serves wrote gave pass database (Some reply) kept calls left old new =
     IsRequest wrote gave pass database (Some reply) kept calls left old new
     ⊎ IsLeft reply kept calls left old new
 
--- so many requests, one after another, with each of which the session goes on
+-- that many requests, one after another, with each of which the session goes on
 abbrev pub Requests : {T : Type 0} → Effect T → Effect T → PassRecord → ℕ → List (List Call)
     → List ℕ → List Call → List ℕ → CallerView → CallerView → Type 0
 Requests wrote gave pass database [] kept calls left old new =

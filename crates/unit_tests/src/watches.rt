@@ -1,4 +1,4 @@
-//! What servers report, cut anywhere, against what clients are told.
+//! What servers report, cut anywhere, against what clients get.
 use link_state::Watch;
 use startup::Reports;
 use std::alloc::Global;
@@ -23,7 +23,7 @@ const LOGIN: &[u8; 410] = b"R\0\0\0\x08\0\0\0\0\
     K\0\0\0\x0c\0\0=\x18_\x13\xe5\xac\
     Z\0\0\0\x05I";
 
-// A watch where clients are told what that server reports, and this time zone.
+// A watch where clients get what that server reports, and this time zone.
 fn watch(alloc: Global, zone: &str) -> Result<Watch, Fail> {
     let mut reports = Reports::new(alloc);
     reports.add("DateStyle", "ISO, MDY")?;
@@ -174,7 +174,7 @@ fn read_times(watch: &mut Watch, bytes: &[u8], times: usize) {
     }
 }
 
-// Of a long value so many bytes are kept: 64 more than `Etc/UTC` has.
+// Of a long value this many bytes are kept: 64 more than `Etc/UTC` has.
 #[test]
 fn long_values(rt: HostRuntime) -> Result<(), Fail> {
     let mut zone = watch(rt.alloc(), "Etc/UTC")?;
@@ -183,7 +183,7 @@ fn long_values(rt: HostRuntime) -> Result<(), Fail> {
     read_times(&mut zone, &[b'x'; 1000], 16);
     zone.read(b"\0");
     assert_change(&rt, &zone, &(b"TimeZone", b"Etc/UTC", &[b'x'; 71]));
-    // One that begins as what clients are told.
+    // One that begins as what clients get.
     zone.read(TO_UTC);
     assert_none(&rt, &zone);
     zone.read(b"S\0\0\x3e\x95TimeZone\0Etc/UTC");

@@ -16,7 +16,7 @@ const PAUSE: u32 = 200;
 
 const REQUESTS: u32 = 10;
 
-// Whether the query has ended by now, or ends within so many milliseconds.
+// Whether the query has ended by now, or ends within that many milliseconds.
 fn has_ended<R: Wait + Clock>(rt: &R, ended: &AtomicBool, limit: u32) -> bool {
     for _i in 0..limit {
         if ended.load(Ordering::SeqCst) {

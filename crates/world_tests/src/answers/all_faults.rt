@@ -63,7 +63,7 @@ FILE:28: 25 Repeated: pool_mode is there for the second time
 FILE:29: 27 NotInProfile: the line asks for what is not in this profile
 ";
 
-// A file, and what is told of it.
+// A file, and what is reported of it.
 const FILES: [(&str, &str); 9] = [
     (FOREIGN, FOREIGN_FAULTS),
     (
@@ -185,7 +185,7 @@ const GROUPS: [(&[&str], u8, &str, &str); 9] = [
         "",
         "nothing: entity not found\n",
     ),
-    // Without the option the first fault alone is told.
+    // Without the option only the first fault is reported.
     (
         &["check", "large", "padded"],
         2,

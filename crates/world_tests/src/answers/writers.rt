@@ -57,7 +57,7 @@ impl Outlet {
         }
     }
 
-    // How many of so many bytes a write takes.
+    // How many of that many bytes a write takes.
     fn room(&self, bytes: usize) -> usize
         ensures { result ≤ bytes }
     {
@@ -180,7 +180,7 @@ fn told(
     answer(rt, rt.alloc(), words, &opener, out, err)
 }
 
-// The writer took the text, or so many bytes of it, and was flushed so often.
+// The writer took the text, or that many bytes of it, and was flushed so often.
 #[track_caller]
 fn expect_taken(
     rt: &impl Abort,

@@ -3,7 +3,7 @@ use Rattle.ini_config.specs.Settings.{settings_of}
 use Rattle.answer.proofs.AllFaultLemmas.{empty_text, no_text, none_seen, nothing_behind}
 use Rattle.answer.proofs.check_all.Survey.take_file.Goals as goal
 
--- a file of which nothing is told says settings
+-- a file of which nothing is reported says settings
 pub right_settings-requires : goal.right_settings-requires
 right_settings-requires g c =
     let nothing = empty_text c.append_faults.new.report
