@@ -6,6 +6,9 @@ use std::alloc::{AllocError, Global};
 use std::sync::Wait;
 use std::time::Clock;
 
+// The parameter without which some drivers quote values wrongly.
+const STRINGS: &str = "standard_conforming_strings";
+
 /// What a group is served with.
 #[derive(Clone, Copy)]
 pub struct ServeOptions<'a> {
@@ -35,9 +38,8 @@ pub fn write_start<R: Wait + Clock>(
     let version = Value::Text(options.version);
     let fields = [("version", version), ("front", front), ("boot", boot)];
     put_fields(alloc, &mut names, &fields)?;
-    let reports = reports_text(alloc, options.reports)?;
-    let fields = [("reports", Value::Text(reports.as_str()))];
-    log.write_of(rt, None, Event::Started, names.as_str(), &fields);
+    put_reports(alloc, &mut names, options.reports)?;
+    log.write_of(rt, None, Event::Started, names.as_str(), &[]);
     for settings in group.nodes() {
         write_node(rt, log, settings);
     }
@@ -49,6 +51,33 @@ fn write_node<R: Wait + Clock>(rt: &R, log: &Log, settings: &Settings) {
     let address = Value::Address(settings.listen_addr(), settings.listen_port());
     let node = settings.peer_id().get();
     log.write(rt, Some(node), Event::NodeListens, &[("address", address)]);
+}
+
+// Appends what logins report, and the parameter that some drivers need, if they don't report it.
+fn put_reports(alloc: Global, text: &mut String, reports: &Reports) -> Result<(), AllocError> {
+    let reported = reports_text(alloc, reports)?;
+    put_text(alloc, text, "reports", reported.as_str())?;
+    if is_reported(reports, STRINGS) {
+        return Ok(());
+    }
+    put_text(alloc, text, "unreported", STRINGS)
+}
+
+// Appends a field whose value is a text.
+fn put_text(alloc: Global, text: &mut String, name: &str, value: &str) -> Result<(), AllocError> {
+    put_fields(alloc, text, &[(name, Value::Text(value))])
+}
+
+// Whether logins report this parameter.
+fn is_reported(reports: &Reports, name: &str) -> bool {
+    for place in 0..reports.len() {
+        if let Some(report) = reports.get(place) {
+            if report.name == name {
+                return true;
+            }
+        }
+    }
+    false
 }
 
 // The names and values of reports, each pair behind the other.

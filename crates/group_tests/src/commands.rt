@@ -56,10 +56,6 @@ fn expect_key<R: TestHost>(rt: &R, port: u16) -> Result<(), Fail> {
 // What the system says of an address that is taken.
 const TAKEN: &str = "Address already in use (os error 98)";
 
-// What `serve` says where logins don't report how literals are read.
-const STRINGS: &str = "standard_conforming_strings isn't reported: drivers that quote values \
-    themselves write wrong data; see --report\n";
-
 // The port of a listener, which is closed.
 fn freed(listener: TcpListener) -> io::Result<u16> {
     Ok(listener.local_addr()?.port())
@@ -129,7 +125,6 @@ fn expect_taken<R: TestHost>(rt: &R, command: &Command, taken: u16) -> Result<()
     )?;
     let text = format!(in rt.alloc(); "cannot listen {taken}\n127.0.0.1:{taken}: {TAKEN}\n")?;
     let said = std::str::from_utf8(err.as_slice()).ok().ok_or("no text")?;
-    let said = said.strip_prefix(STRINGS).unwrap_or(said);
     assert_eq!(rt; said, text.as_str());
     assert_eq!(rt; status, 1);
     assert_eq!(rt; out.as_slice(), b"".as_slice());

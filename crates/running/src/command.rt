@@ -4,20 +4,12 @@ use crate::standing_in::stand_in;
 use answer::{Fault, Opener, answer, group_of, seed_of, usage_fault, write_fault};
 use command_line::{Running, ServeRequest};
 use group_server::{Host, ServeError, Unbound};
-use startup::Reports;
 use std::alloc::Global;
 use std::io;
 use std::io::Write;
 
 // The status of a command that can't run.
 const FAILED: u8 = 1;
-
-// The parameter by which libraries know how to quote values.
-const STRINGS: &str = "standard_conforming_strings";
-
-// What is said where logins don't report it.
-const NO_STRINGS: &str = "standard_conforming_strings isn't reported: drivers that quote values \
-    themselves write wrong data; see --report";
 
 /// Does what these arguments ask for: answers them, or runs a group of nodes or a stand-in server.
 /// Returns the status that the program ends with.
@@ -74,22 +66,7 @@ fn serve_files<H: Host, O: Opener, W: Write, E: Write>(
     if request.boot == 0 {
         let _ = writeln!(err, "boot 0: give another --boot at each start");
     }
-    if !reports_strings(&request.reports) {
-        let _ = writeln!(err, "{NO_STRINGS}");
-    }
     Ok(serve(host, alloc, group, request, seed, out))
-}
-
-// Whether logins report how literals are read.
-fn reports_strings(reports: &Reports) -> bool {
-    for place in 0..reports.len() {
-        if let Some(report) = reports.get(place) {
-            if report.name == STRINGS {
-                return true;
-            }
-        }
-    }
-    false
 }
 
 // Says why a command can't run.
