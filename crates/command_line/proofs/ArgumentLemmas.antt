@@ -17,7 +17,7 @@ use Rattle.command_line.specs.declared.command_name.CommandName.{CommandName}
 use Rattle.command_line.specs.Options.{same_option}
 use Rattle.command_line.specs.declared.arguments.GivenOption.{GivenOption}
 use Rattle.command_line.specs.declared.option_name.OptionName.{OptionName}
-use Rattle.command_line.specs.Arguments.{Text, Given, Plain, End, Flag, Alone, Whole, Unknown, shape_of, given_behind, given_by_all, with_value, plain_alone, value_alone, joined, LeadsOn, option_in, values_of, is_plain, is_end, asks_help, cut_at, cut_in}
+use Rattle.command_line.specs.Arguments.{Text, Given, Plain, End, Flag, Alone, Whole, Unknown, shape_of, given_behind, given_by_all, plain_alone, value_alone, joined, LeadsOn, option_in, values_of, is_plain, is_end, asks_help, cut_at, cut_in}
 use Rattle.command_line.specs.Numbers.{◌>>=◌, each, all_differ, one_or_more}
 
 -- the texts from a place on begin with the one at that place
