@@ -365,8 +365,9 @@ impl<'a, M: Machine> ClientStream<'a, M> {
 
     /// How the client's cancel request has ended, and in how many milliseconds, if it sent one.
     pub fn cancel_end(&self) -> Option<(CancelEnd, u64)> {
+        let came = self.cancel_came?;
         let now = self.machine.monotonic().ok()?;
-        let millis = now.saturating_sub(self.cancel_came?).as_millis();
+        let millis = now.saturating_sub(came).as_millis();
         let end = if self.connection.is_given_up() {
             CancelEnd::NotServed
         } else {
