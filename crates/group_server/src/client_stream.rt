@@ -323,11 +323,17 @@ impl<'a, M: Machine> ClientStream<'a, M> {
     // Writes to the log which parameters of the start-up packet have no effect, if there are any.
     fn write_dropped(&self) {
         let mut names = Vec::new(self.alloc);
-        if put_dropped(self.packet.as_slice(), &mut names).is_err() || names.is_empty() {
-            return;
+        if put_dropped(self.packet.as_slice(), &mut names).is_ok() && !names.is_empty() {
+            self.write_names(names.as_slice());
         }
-        let parameters = Value::Bytes(names.as_slice());
-        let fields = [("client", self.client()), ("parameters", parameters)];
+    }
+
+    // Writes to the log that the parameters of these names have no effect.
+    fn write_names(&self, names: &[u8]) {
+        let fields = [
+            ("client", self.client()),
+            ("parameters", Value::Bytes(names)),
+        ];
         self.write(Event::ParametersDropped, &fields);
     }
 
