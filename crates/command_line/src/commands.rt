@@ -132,7 +132,9 @@ fn serve_usage<'a>(usage: Usage) -> &'a str {
         Usage::Whole => {
             "\
 pgpeer serve --front <PORT> (--seed <HEX64> | --seed-file <FILE>)
-                    [--boot <N>] [--stand-in] [--report <NAME=VALUE>]... <FILE>..."
+                    [--boot <N>] [--stand-in] [--report <NAME=VALUE>]...
+                    [--max-message <BYTES>] [--metrics <PORT>] [--log <LEVEL>] [--until-eof]
+                    <FILE>..."
         }
         Usage::Short => {
             "pgpeer serve --front <PORT> --seed <HEX64> [--boot <N>] [--stand-in] <FILE>..."

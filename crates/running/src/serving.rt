@@ -1,6 +1,6 @@
 //! `serve`: a group of nodes serves clients, until the process is stopped or the group has drained.
 use crate::standing_in::stand_in_for_servers;
-use command_line::{ServeRequest, version};
+use command_line::{LogLevel, ServeRequest, version};
 use group_server::{Host, Level, ServeError, ServeOptions, serve_group};
 use ini_config::Group;
 use std::alloc::Global;
@@ -27,10 +27,19 @@ pub(crate) fn serve<H: Host, I: Read, W: Write>(
         seed,
         boot: request.boot,
         reports: &request.reports,
-        until_eof: false,
-        log: Level::Notice,
+        until_eof: request.until_eof,
+        log: level_of(request.log),
     };
     serve_group(host, alloc, group, &options, input, out)
+}
+
+// The level that an argument names.
+fn level_of(level: LogLevel) -> Level {
+    match level {
+        LogLevel::Warn => Level::Warn,
+        LogLevel::Notice => Level::Notice,
+        LogLevel::Info => Level::Info,
+    }
 }
 
 // The number in a text that names the program and its version.
