@@ -1,4 +1,5 @@
 //! A client's connection, as its stream and what connects it to servers share it.
+use crate::Target;
 use crate::poll::is_ended;
 use std::cell::Cell;
 use std::net::TcpStream;
@@ -12,6 +13,8 @@ pub struct Connection {
     link: Cell<Option<RawFd>>,
     // Whether it is a cancel request's that got no order.
     is_given_up: Cell<bool>,
+    // Where its cancel request is sent.
+    target: Cell<Option<Target>>,
 }
 
 impl Connection {
@@ -21,6 +24,7 @@ impl Connection {
             socket,
             link: Cell::new(None),
             is_given_up: Cell::new(false),
+            target: Cell::new(None),
         }
     }
 
@@ -52,6 +56,16 @@ impl Connection {
     /// Whether its cancel request got no order.
     pub fn is_given_up(&self) -> bool {
         self.is_given_up.get()
+    }
+
+    /// Its cancel request is sent there.
+    pub fn set_target(&self, target: Target) {
+        self.target.set(Some(target));
+    }
+
+    /// Where its cancel request is sent, if it is sent anywhere.
+    pub fn target(&self) -> Option<Target> {
+        self.target.get()
     }
 
     /// Whether its client has ended it. It doesn't wait.

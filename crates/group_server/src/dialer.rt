@@ -1,10 +1,10 @@
 //! Connections to a node's servers and peers.
 use crate::connecting::connect;
 use crate::limits::{CANCEL_CONNECT_MILLIS, CANCEL_END_MILLIS, LOGIN_MILLIS};
-use crate::log::{Event, Field, Value};
+use crate::log::{Event, Field, Value, put_fields};
 use crate::looks::Looks;
 use crate::origin::Origin;
-use crate::{Connection, Deadline, LinkStream, Log, Machine};
+use crate::{CancelEnd, Connection, Deadline, LinkStream, Log, Machine, Target};
 use ini_config::{Database, Group, Peer, Settings};
 use node_threads::Opener;
 use pg_ids::{DatabaseNo, PeerNo};
@@ -116,6 +116,43 @@ impl<M: Machine> Dialer<M> {
         LinkStream::new(self.machine, self.alloc, socket, end, looks)
     }
 
+    /// Writes to the log how a cancel request has ended that was sent there, or nowhere, and after
+    /// how many milliseconds.
+    pub fn tell_cancel_end(&self, target: Option<Target>, end: CancelEnd, millis: u64) {
+        if !self.log.has(Event::CancelEnded) {
+            return;
+        }
+        let fields = [
+            ("result", Value::Text(end.name())),
+            ("millis", Value::Number(millis)),
+        ];
+        if let Ok(names) = self.names_of(target) {
+            let node = Some(self.number());
+            let names = names.as_str();
+            self.log
+                .write_of(&self.machine, node, Event::CancelEnded, names, &fields);
+        }
+    }
+
+    // The fields that name where a cancel request was sent, as they stand in a line.
+    fn names_of(&self, target: Option<Target>) -> io::Result<String> {
+        let settings = self.settings()?;
+        let mut names = String::new(self.alloc);
+        match target {
+            Some(Target::Server(database)) => {
+                if let Some(entry) = settings.database(database) {
+                    put_fields(self.alloc, &mut names, &server_fields(&entry))?;
+                }
+            }
+            Some(Target::Peer(peer)) => {
+                let number = Value::Number(u64::from(peer.get()));
+                put_fields(self.alloc, &mut names, &[("peer", number)])?;
+            }
+            None => {}
+        }
+        Ok(names)
+    }
+
     // A connection of the node with these settings that these fields name.
     fn origin(&self, settings: &Settings, fields: &[Field<'_>]) -> Result<Origin, AllocError> {
         let node = settings.peer_id().get();
@@ -172,6 +209,7 @@ impl<'a, M: Machine> Opener for ClientDialer<'a, M> {
     }
 
     fn cancel<R: Wait>(&self, _rt: &R, database: DatabaseNo) -> io::Result<LinkStream<M>> {
+        self.connection.set_target(Target::Server(database));
         let settings = self.dialer.settings()?;
         let Some(entry) = settings.database(database) else {
             return Err(io::Error::from(ErrorKind::NotFound));
@@ -182,6 +220,7 @@ impl<'a, M: Machine> Opener for ClientDialer<'a, M> {
     }
 
     fn peer<R: Wait>(&self, _rt: &R, peer: PeerNo) -> io::Result<LinkStream<M>> {
+        self.connection.set_target(Target::Peer(peer));
         let settings = self.dialer.settings()?;
         for place in 0..settings.peer_count() {
             match settings.peer(place) {

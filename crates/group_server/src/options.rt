@@ -1,5 +1,5 @@
 //! What a group is served with.
-use crate::log::{Event, Log, Value, put_fields};
+use crate::log::{Event, Level, Log, Value, put_fields};
 use ini_config::{Group, Settings};
 use startup::Reports;
 use std::alloc::{AllocError, Global};
@@ -22,7 +22,15 @@ pub struct ServeOptions<'a> {
     pub boot: u32,
     /// The parameters that logins report beside those that every login has.
     pub reports: &'a Reports,
+    /// Whether the group drains when its input ends. Otherwise it serves for as long as the process
+    /// runs, and its input isn't read.
+    pub until_eof: bool,
+    /// The level of the least important lines that the log has.
+    pub log: Level,
 }
+
+// What an operator who gives no boot number is told.
+const GIVE_BOOT: &str = "give another --boot at each start";
 
 /// Writes to the log that a group has begun to listen, and where its nodes do.
 pub fn write_start<R: Wait + Clock>(
@@ -40,6 +48,10 @@ pub fn write_start<R: Wait + Clock>(
     put_fields(alloc, &mut names, &fields)?;
     put_reports(alloc, &mut names, options.reports)?;
     log.write_of(rt, None, Event::Started, names.as_str(), &[]);
+    if options.boot == 0 {
+        let advice = ("advice", Value::Text(GIVE_BOOT));
+        log.write(rt, None, Event::BootUnset, &[advice]);
+    }
     for settings in group.nodes() {
         write_node(rt, log, settings);
     }

@@ -80,6 +80,10 @@ impl<M: Machine> Serving<M> {
         let reports = self.dialer.reports();
         serve_connection(rt, alloc, &mut calling, &opener, &Open, reports, client);
         self.give_back(rt, calling);
+        if let Some((end, millis)) = client.cancel_end() {
+            self.dialer
+                .tell_cancel_end(connection.target(), end, millis);
+        }
     }
 
     // Keeps a caller for the next connection. One that can't be kept is made anew then. It isn't

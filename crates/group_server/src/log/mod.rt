@@ -2,7 +2,7 @@
 mod event;
 mod line;
 
-use crate::limits::LINES_KEPT;
+use crate::limits::{LAST_LINES_MILLIS, LINES_KEPT};
 use event::{EVENTS, KINDS};
 pub use event::{Event, Level};
 use line::left_out_line;
@@ -22,14 +22,19 @@ const SECOND: u64 = 1_000;
 #[derive(Drop)]
 pub struct Log {
     alloc: Global,
+    // The level of the least important lines that are written.
+    least: Level,
     queue: Mutex<Queue>,
     filled: Condvar,
+    emptied: Condvar,
 }
 
 // The lines that wait to be written, and the counts of each kind.
 #[derive(Drop)]
 struct Queue {
     lines: VecDeque<String>,
+    // Whether a line was taken that may not be written yet.
+    is_writing: bool,
     counts: [Counts; EVENTS],
 }
 
@@ -43,8 +48,8 @@ struct Counts {
 }
 
 impl Log {
-    /// No line was written.
-    pub fn new(alloc: Global) -> Log {
+    /// No line was written. The least important lines that are have the level `least`.
+    pub fn new(alloc: Global, least: Level) -> Log {
         let none = Counts {
             began: None,
             given: 0,
@@ -52,17 +57,25 @@ impl Log {
         };
         Log {
             alloc,
+            least,
             queue: Mutex::new(Queue {
                 lines: VecDeque::new(alloc),
+                is_writing: false,
                 counts: [none; EVENTS],
             }),
             filled: Condvar::new(),
+            emptied: Condvar::new(),
         }
     }
 
-    /// Writes the line of an event at a node, or at none, with these fields. It is left out where
-    /// its kind is at its limit, where as many lines wait as may, or where there is no memory for
-    /// it.
+    /// Whether lines of this event are written.
+    pub fn has(&self, event: Event) -> bool {
+        event.level().is_written(self.least)
+    }
+
+    /// Writes the line of an event at a node, or at none, with these fields, if the log has lines
+    /// of its level. It is left out where its kind is at its limit, where as many lines wait as
+    /// may, or where there is no memory for it.
     pub fn write<R: Wait + Clock>(
         &self,
         rt: &R,
@@ -82,6 +95,9 @@ impl Log {
         names: &str,
         fields: &[Field<'_>],
     ) {
+        if !self.has(event) {
+            return;
+        }
         let Ok(now) = rt.monotonic() else {
             return;
         };
@@ -116,6 +132,7 @@ impl Log {
         };
         let mut queue = self.queue.lock(rt);
         if let Some(line) = queue.lines.pop_front() {
+            queue.is_writing = true;
             return Some(line);
         }
         let (event, count) = queue.take_left_out(now)?;
@@ -129,8 +146,20 @@ impl Log {
             self.wait(rt);
             if let Some(line) = self.next(rt) {
                 let _ = eprintln!(rt; "{line}");
+                self.queue.lock(rt).is_writing = false;
+                self.emptied.notify_all();
             }
         }
+    }
+
+    /// Waits until the lines that wait are written, but not long: where standard error can't be
+    /// written to, the process ends without them.
+    pub fn finish<R: Wait + Clock>(&self, rt: &R) {
+        let queue = self.queue.lock(rt);
+        let limit = Duration::from_millis(LAST_LINES_MILLIS);
+        let _ = self
+            .emptied
+            .wait_timeout_while(rt, queue, limit, |queue| queue.has_unwritten());
     }
 }
 
@@ -165,6 +194,11 @@ impl Queue {
             Some(line) => self.lines.len() < LINES_KEPT && self.lines.push_back(line).is_ok(),
             None => false,
         }
+    }
+
+    // Whether a line isn't written yet.
+    fn has_unwritten(&self) -> bool {
+        self.is_writing || !self.lines.is_empty()
     }
 
     // Whether lines were left out.
