@@ -6,7 +6,7 @@ import time
 
 from hard.fake import FakeServer
 from hard.trial import Pooler, Postgres, scenario
-from hard.wire import CLEAN, Late, Lost, Refused, ask_cancel, connect, outcome, read_end, wait_until
+from hard.wire import CLEAN, Late, Lost, Refused, ask_cancel, connect, outcome, query_frame, read_end, wait_until
 
 WORDS = "FATAL 57P01 terminating connection due to administrator command"
 
@@ -55,7 +55,8 @@ def drain(t):
         client.query("select 1")
     quiet, console = pooler.client(2), pooler.client(1, "pgbouncer")
     stranger, opener, asked = connect(pooler.port), pooler.client(), pooler.client(1, "slow")
-    busy, waiting = pooler.client(), pooler.client()
+    busy, waiting, half = pooler.client(), pooler.client(), pooler.client()
+    half.send(query_frame("select 'whole'")[:7])
     opener.query("begin")
     busy.start("select pg_sleep(3)")
     wait_until(lambda: server.is_running("select pg_sleep(3)"), 5)
@@ -71,7 +72,8 @@ def drain(t):
         ends = [last_words(client, 5)[0] for client in clients]
         after = time.monotonic() - begun
         good = ends == [WORDS] * len(clients) and after < 1.0
-        t.check(good, f"sessions {what}", f"{ends.count(WORDS)} of {len(ends)} within {after:.2f} s; {ends[-1]}", WORDS)
+        figure = f"{ends.count(WORDS)} of {len(ends)} within {after:.2f} s; {ends[-1]}"
+        t.check(good, f"sessions {what}", figure, WORDS)
     doors = [pooler.front, *ports.values()]
     t.check(all(map(is_refused, doors)), "new connections", f"{[is_refused(port) for port in doors]}", "refused")
     end = read_end(stranger, 5)
@@ -79,11 +81,15 @@ def drain(t):
             f"{end} after {time.monotonic() - begun:.2f} s", "its end")
     t.check(pooler.is_running(), "the process meanwhile", "runs" if pooler.is_running() else "ended", "runs")
     end_transactions(t, begun, busy, waiting, opener)
+    half.send(query_frame("select 'whole'")[7:])
+    came = [outcome(half.read_reply, 5), last_words(half, 5)[0]]
+    good = came == ["ok:[('whole',)]", WORDS]
+    t.check(good, "a client that had sent a part of its query", f"{came}", "its row, " + WORDS)
     end, came = read_end(requester, 5), outcome(asked.read_reply, 5)
     t.check(end == CLEAN and came.startswith("ERROR 57014"), "a cancel under way", f"{end}; {came}", CLEAN)
     came = last_words(asked, 5)[0]
     t.check(came == WORDS, "its client behind that", came, WORDS)
-    for client in [*idle, quiet, console, busy, waiting, opener, asked]:
+    for client in [*idle, quiet, console, busy, waiting, half, opener, asked]:
         client.stream.close()
     status, after = end_of(pooler, 5)
     t.check(status == 0 and after < 2.0, "the process", f"status {status} after {after:.2f} s", "0")

@@ -4,7 +4,7 @@ use crate::host::TestHost;
 use crate::log_lines::{expect_line, expect_no_line};
 use crate::reported::reports_of;
 use crate::settings::group;
-use group_server::{Connection, Dialer, LinkStream, Log};
+use group_server::{CancelEnd, Connection, Dialer, Level, LinkStream, Log, Target};
 use node_threads::Opener;
 use pg_ids::DatabaseNo;
 use std::alloc::Global;
@@ -28,7 +28,7 @@ impl<R: TestHost> Caller<R> {
     // The server of its database `shop` is at this port, and clients get this.
     pub(crate) fn new(rt: &R, server: u16, told: &[(&str, &str)]) -> Result<Caller<R>, Fail> {
         let group = Arc::new(rt.alloc(), group(rt.alloc(), &[1], server, &[&[]])?)?;
-        let log = Arc::new(rt.alloc(), Log::new(rt.alloc()))?;
+        let log = Arc::new(rt.alloc(), Log::new(rt.alloc(), Level::Info))?;
         let reports = Arc::new(rt.alloc(), reports_of(rt.alloc(), told)?)?;
         let theirs = Arc::try_clone(&log)?;
         let dialer = Dialer::new(*rt, rt.alloc(), group, 0, theirs, reports);
@@ -88,6 +88,17 @@ impl<R: TestHost> Caller<R> {
             "node=1 {event} database=shop server=127.0.0.1:{server} {fields}"
         )?;
         expect_line(rt, &self.log, line.as_str())?;
+        expect_no_line(rt, &self.log)
+    }
+
+    // The log is told that a cancel request has ended so that was sent there, in 3 milliseconds.
+    pub(crate) fn tell_cancel_end(&self, target: Option<Target>, end: CancelEnd) {
+        self.dialer.tell_cancel_end(target, end, 3);
+    }
+
+    // The log has this line, and no other.
+    pub(crate) fn expect_whole_line(&self, rt: &R, line: &str) -> Result<(), Fail> {
+        expect_line(rt, &self.log, line)?;
         expect_no_line(rt, &self.log)
     }
 

@@ -2,7 +2,7 @@
 use crate::group::ANY_PORT;
 use crate::host::TestHost;
 use crate::log_lines::{expect_line, expect_no_line};
-use group_server::{ClientStream, Connection, Deadline, Doorway, Entry, Log, Room, Serves};
+use group_server::{ClientStream, Connection, Deadline, Doorway, Entry, Level, Log, Room, Serves};
 use std::io::Write;
 use std::net::{TcpListener, TcpStream};
 use std::test::Fail;
@@ -23,7 +23,7 @@ fn expect_refused<R: TestHost>(
     let peer = TcpStream::connect(rt, ("127.0.0.1", listener.local_addr()?.port()))?;
     let (socket, _address) = listener.accept()?;
     let connection = Connection::new(socket);
-    let log = Log::new(rt.alloc());
+    let log = Log::new(rt.alloc(), Level::Info);
     write_all(rt, &connection, &log, writes)?;
     if is_refused {
         let port = peer.local_addr()?.port();

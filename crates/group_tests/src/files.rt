@@ -50,7 +50,16 @@ pub(crate) fn run_line<R: TestHost, W: Write, E: Write>(
     let Ok(Some(running)) = Running::read(rt.alloc(), &words) else {
         return None;
     };
-    Some(run(rt, rt.alloc(), &Files { texts }, running, out, err))
+    let mut input = b"".as_slice();
+    Some(run(
+        rt,
+        rt.alloc(),
+        &Files { texts },
+        running,
+        &mut input,
+        out,
+        err,
+    ))
 }
 
 // A command, with the settings files that it names.

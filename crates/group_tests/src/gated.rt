@@ -2,7 +2,7 @@
 use crate::group::ANY_PORT;
 use crate::host::TestHost;
 use crate::settings::group;
-use group_server::{Connection, Dialer, LinkStream, Log, Machine};
+use group_server::{Connection, Dialer, Level, LinkStream, Log, Machine};
 use ini_config::Group;
 use node_threads::{Calling, Gate, Point, serve_connection};
 use pg_ids::Boot;
@@ -69,7 +69,7 @@ fn gated<R: TestHost>(
     group: &Arc<Group, Global>,
     gate: &Arc<Barrier, Global>,
 ) -> Result<Arc<Node<R>, Global>, AllocError> {
-    let log = Arc::new(rt.alloc(), Log::new(rt.alloc()))?;
+    let log = Arc::new(rt.alloc(), Log::new(rt.alloc(), Level::Info))?;
     let reports = Arc::new(rt.alloc(), Reports::new(rt.alloc()))?;
     let dialer = Dialer::new(*rt, rt.alloc(), Arc::try_clone(group)?, 0, log, reports);
     let gate = Arc::try_clone(gate)?;

@@ -3,7 +3,7 @@ use crate::client::TURNS;
 use crate::host::TestHost;
 use crate::reported::reports_of;
 use crate::settings::group_before;
-use group_server::{Listening, ServeOptions};
+use group_server::{Level, Listening, ServeOptions};
 use ini_config::Group;
 use startup::Reports;
 use std::alloc::{AllocError, Global};
@@ -124,7 +124,7 @@ fn serve_group<R: TestHost>(
     let options = options(front, reports);
     if let Ok(listening) = Listening::bind(rt, rt.alloc(), group, &options) {
         listens.store(true, Ordering::SeqCst);
-        let _ = listening.serve(rt, rt.alloc());
+        let _ = listening.serve(rt, rt.alloc(), &mut b"".as_slice());
     }
 }
 
@@ -136,6 +136,8 @@ pub(crate) const fn options(front: u16, reports: &Reports) -> ServeOptions<'_> {
         seed: [0; 32],
         boot: BOOT,
         reports,
+        until_eof: false,
+        log: Level::Notice,
     }
 }
 

@@ -24,6 +24,12 @@ mod databases;
 #[cfg(test)]
 mod descriptors;
 #[cfg(test)]
+mod drains;
+#[cfg(test)]
+mod dropped;
+#[cfg(test)]
+mod ends;
+#[cfg(test)]
 mod files;
 #[cfg(test)]
 mod first_packets;
@@ -39,6 +45,8 @@ mod guests;
 mod host;
 #[cfg(test)]
 mod last_words;
+#[cfg(test)]
+mod levels;
 #[cfg(test)]
 mod link_lines;
 #[cfg(test)]

@@ -133,7 +133,7 @@ fn a_changed_link_is_in_the_log(rt: HostRuntime) -> Result<(), Fail> {
         assert_eq!(&rt; caller.is_quiet(&link), is_quiet);
     }
     let fields = "parameter=TimeZone reported=Europe/Paris told=UTC";
-    caller.expect_line(&rt, "info link_closed", fields)
+    caller.expect_line(&rt, "notice link_closed", fields)
 }
 
 // A connection for a cancel request on which a byte comes, and one that ends cleanly.

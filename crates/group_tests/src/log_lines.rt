@@ -1,5 +1,5 @@
 //! The lines of the log.
-use group_server::{Event, Field, Log, Value, line_of};
+use group_server::{Event, Field, Level, Log, Value, line_of};
 use std::alloc::{AllocGlobal, Global};
 use std::process::Abort;
 use std::sync::Wait;
@@ -53,7 +53,7 @@ fn a_line_of_no_node(rt: HostRuntime) -> Result<(), Fail> {
     let front = Value::Address("127.0.0.1", 6_432);
     let fields = [("front", front), ("boot", Value::Number(7))];
     let line = line_of(&noon(), rt.alloc(), None, Event::Started, "", &fields)?;
-    let expected = "2026-11-26T12:00:00.123Z node=- info started front=127.0.0.1:6432 boot=7";
+    let expected = "2026-11-26T12:00:00.123Z node=- notice started front=127.0.0.1:6432 boot=7";
     assert_eq!(rt; line.as_str(), expected);
     Ok(())
 }
@@ -135,7 +135,7 @@ pub(crate) fn expect_no_line<R: Wait + Clock + Abort + AllocGlobal>(
 // another kind are written meanwhile.
 #[test]
 fn many_lines_of_a_kind_are_left_out(rt: HostRuntime) -> Result<(), Fail> {
-    let log = Log::new(rt.alloc());
+    let log = Log::new(rt.alloc(), Level::Notice);
     for number in 0..13 {
         log.write(
             &rt,
@@ -165,14 +165,14 @@ fn many_lines_of_a_kind_are_left_out(rt: HostRuntime) -> Result<(), Fail> {
 // No more than 128 lines wait, of whatever kind.
 #[test]
 fn lines_that_nobody_reads_are_left_out(rt: HostRuntime) -> Result<(), Fail> {
-    let log = Log::new(rt.alloc());
+    let log = Log::new(rt.alloc(), Level::Notice);
     for _ in 0..130 {
         log.write(&rt, None, Event::Started, &[]);
     }
     for _ in 0..128 {
-        expect_line(&rt, &log, "node=- info started")?;
+        expect_line(&rt, &log, "node=- notice started")?;
     }
     expect_no_line(&rt, &log)?;
     thread::sleep(&rt, Duration::from_millis(1_100));
-    expect_line(&rt, &log, "node=- warn lines_left_out of=started count=2")
+    expect_line(&rt, &log, "node=- notice lines_left_out of=started count=2")
 }
