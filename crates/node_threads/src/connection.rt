@@ -11,8 +11,8 @@ ghost use Rattle.node_threads.specs.Connection.{place_of, ServesAt, ServesConnec
 
 use crate::login::refuse;
 use crate::{
-    CONSOLE, Calling, Gate, Link, Node, Opened, Opener, Service, open, serve_cancel, serve_client,
-    serve_console,
+    CONSOLE, Calling, CancelOpener, Context, Gate, Link, Node, Opened, Opener, Service, SingleUse,
+    open, serve_cancel, serve_client, serve_console,
 };
 use peer_forward::{ReadCalls, WriteCalls};
 use pg_frames::Cutter;
@@ -69,7 +69,10 @@ where
                 serve_session(visit, calling, client, &mut cutter, name, kind);
             }
         }
-        Opened::Cancel(key) => serve_cancel_connection(visit, calling, client, key),
+        Opened::Cancel(key) => {
+            let opener = SingleUse { opener };
+            serve_cancel_connection(Context { rt, gate }, opener, calling, client, key);
+        }
         Opened::Over => {}
     }
 }
@@ -126,46 +129,48 @@ where
 // Serves a cancel request with this key. A client that waits to ask for a link asks first, so that
 // the request finds it waiting.
 #[inline(never)]
-fn serve_cancel_connection<R, O, G, C>(
-    visit: Visit<'_, R, O, G>,
-    calling: &mut Calling<O::Stream>,
+fn serve_cancel_connection<R, S, O, G, C>(
+    context: Context<'_, R, G>,
+    opener: O,
+    calling: &mut Calling<S>,
     client: &mut C,
     key: AnyKey,
 )
 where
     R: Wait,
-    O: Opener,
+    S: Drop,
+    O: CancelOpener,
     G: Gate,
-    C: WriteCalls + ReadCalls,
+    C: WriteCalls,
     ensures balanced { Balanced calling.old.caller calling.new.caller }
     ensures served { ((client.new ≡ client.old) × (calling.new.caller ≡ calling.old.caller))
         ⊎ ((seat next : SeatView) × ServesCancel
         (IsCarried ⟦<O::Stream as WriteCalls>⟧.wrote ⟦<O::Stream as ReadCalls>⟧.gave
-        (O.cancels visit.entry.opener.now))
+        (O.cancels opener))
         (IsCarried ⟦<O::Stream as WriteCalls>⟧.wrote ⟦<O::Stream as ReadCalls>⟧.gave
-        (O.reaches visit.entry.opener.now))
+        (O.reaches opener))
         key calling.old.caller calling.new.caller seat next
         (λ verdict. Finishes C.wrote client.old verdict client.new)) }
 {
+    let rt = context.rt;
     let is_own = key.peer() == calling.node.settings().peer_id();
-    let Some(mut seat) = calling.node.seats.take(visit.rt, key, is_own) else {
-        visit.opener.give_up_cancel();
+    let Some(mut seat) = calling.node.seats.take(rt, key, is_own) else {
+        opener.give_up();
         return;
     };
     if is_own {
-        calling.node.admission.tell_to_ask(visit.rt, key.slot());
+        calling.node.admission.tell_to_ask(rt, key.slot());
     }
-    let counting = &mut seat.counting;
-    let service = visit.to(&calling.node);
     serve_cancel(
-        service,
+        context,
+        &calling.node.shared,
         &mut calling.caller,
-        &counting.board,
-        &mut counting.seat,
+        &mut seat.counting,
+        opener,
         client,
         key,
     );
-    calling.node.seats.give_back(visit.rt, seat);
+    calling.node.seats.give_back(rt, seat);
 }
 
 impl<'a, R, O: Opener, G> Visit<'a, R, O, G> {

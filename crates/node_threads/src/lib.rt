@@ -13,7 +13,7 @@ mod service;
 mod session;
 mod stream;
 
-pub use cancel::{Counting, Seat, Seats, relay, report, serve_cancel};
+pub use cancel::{CancelOpener, Counting, Seat, Seats, SingleUse, relay, report, serve_cancel};
 pub use connection::serve_connection;
 pub use desk::{Desk, DeskCall, ListDesk, LockDesk, RequestDesk, Requested};
 pub use gate::{Gate, Open, Point};
