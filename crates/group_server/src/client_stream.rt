@@ -223,7 +223,10 @@ impl<'a, M: Machine> ClientStream<'a, M> {
         for _ in 0..u64::MAX {
             let mut socket = self.connection.socket();
             match socket.read(buffer) {
-                Ok(count) => return Ok(count),
+                Ok(count) => {
+                    self.connection.meter().receive(self.machine, count);
+                    return Ok(count);
+                }
                 Err(error) if is_pause(&error) => self.look_at_link()?,
                 Err(error) => return Err(error),
             }
@@ -339,6 +342,7 @@ impl<'a, M: Machine> Write for ClientStream<'a, M> {
         let mut socket = self.connection.socket();
         match socket.write(bytes) {
             Ok(count) => {
+                self.connection.meter().send(self.machine, count);
                 self.last = LastCall::Wrote;
                 Ok(count)
             }

@@ -1,4 +1,5 @@
 //! A client's connection, as its stream and what connects it to servers share it.
+use crate::metrics::Meter;
 use crate::poll::is_ended;
 use std::cell::Cell;
 use std::net::TcpStream;
@@ -12,16 +13,28 @@ pub struct Connection {
     link: Cell<Option<RawFd>>,
     // Whether it is a cancel request's that got no order.
     is_given_up: Cell<bool>,
+    meter: Meter,
 }
 
 impl Connection {
-    /// A connection on this socket, whose client has no link.
+    /// A connection on this socket, whose client has no link. Nothing is counted of it.
     pub fn new(socket: TcpStream) -> Connection {
+        Connection::metered(socket, Meter::none())
+    }
+
+    /// The same, of which this is counted.
+    pub fn metered(socket: TcpStream, meter: Meter) -> Connection {
         Connection {
             socket,
             link: Cell::new(None),
             is_given_up: Cell::new(false),
+            meter,
         }
+    }
+
+    /// What is counted of it.
+    pub fn meter(&self) -> &Meter {
+        &self.meter
     }
 
     /// Its socket.

@@ -32,6 +32,18 @@ pub const SENDING_PAUSE_MILLIS: u64 = 200;
 /// How long it may be silent then, after that.
 pub const ENDING_PAUSE_MILLIS: u64 = 1_000;
 
+/// How long a connection at which metrics are read may take.
+pub const METRICS_MILLIS: u64 = 5_000;
+
+/// How long its request may take of that.
+pub const METRICS_REQUEST_MILLIS: u64 = 1_000;
+
+/// How many connections at which metrics are read are served at a time.
+pub const METRICS_READERS: usize = 4;
+
+/// How long the metrics that were read last are handed out again.
+pub const METRICS_AGE_MILLIS: u64 = 1_000;
+
 /// How many connections of a node may be in their first packets at a time: 256 cancel requests, and
 /// 64 others.
 pub const NEWCOMERS_OF_A_NODE: usize = 320;

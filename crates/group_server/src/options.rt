@@ -22,6 +22,8 @@ pub struct ServeOptions<'a> {
     pub boot: u32,
     /// The parameters that logins report beside those that every login has.
     pub reports: &'a Reports,
+    /// The port of 127.0.0.1 at which metrics are read, if any are counted.
+    pub metrics: Option<u16>,
 }
 
 /// Writes to the log that a group has begun to listen, and where its nodes do.
