@@ -26,6 +26,7 @@ pub(crate) fn serve<H: Host, W: Write>(
         seed,
         boot: request.boot,
         reports: &request.reports,
+        metrics: None,
     };
     serve_group(host, alloc, group, &options, out)
 }
