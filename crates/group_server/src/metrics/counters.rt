@@ -15,7 +15,7 @@ pub struct Counters {
 /// What is counted of the databases of a node, in the order of its settings.
 #[derive(Drop)]
 pub struct NodeCounters {
-    pools: Vec<PoolCounters>,
+    pools: Vec<Arc<PoolCounters, Global>>,
     // The waits of clients that left before their database was known here.
     strangers: Waits,
 }
@@ -72,7 +72,7 @@ impl NodeCounters {
                 Some(entry) => u64::from(entry.pool_size),
                 None => 0,
             };
-            pools.push(PoolCounters::new(alloc, places)?)?;
+            pools.push(Arc::new(alloc, PoolCounters::new(alloc, places)?)?)?;
         }
         Ok(NodeCounters {
             pools,
@@ -81,7 +81,7 @@ impl NodeCounters {
     }
 
     /// What is counted of the database at this place of the settings.
-    pub fn pool(&self, place: usize) -> Option<&PoolCounters> {
+    pub fn pool(&self, place: usize) -> Option<&Arc<PoolCounters, Global>> {
         self.pools.get(place)
     }
 
@@ -105,26 +105,31 @@ impl PoolCounters {
     }
 
     /// Whether all links that there may be are occupied, so that the next client waits.
+    #[inline]
     pub fn is_full(&self) -> bool {
         self.occupied.load(Ordering::SeqCst) >= self.places
     }
 
     /// One more link is occupied.
+    #[inline]
     pub fn occupy(&self) {
         self.occupied.fetch_add(1, Ordering::SeqCst);
     }
 
     /// A link that was occupied isn't any more.
+    #[inline]
     pub fn vacate(&self) {
         self.occupied.fetch_sub(1, Ordering::SeqCst);
     }
 
     /// A transaction has ended.
+    #[inline]
     pub fn end(&self) {
         self.transactions.fetch_add(1, Ordering::SeqCst);
     }
 
     /// This many bytes came from a client and went to it.
+    #[inline]
     pub fn pass(&self, received: u64, sent: u64) {
         self.received.fetch_add(received, Ordering::SeqCst);
         self.sent.fetch_add(sent, Ordering::SeqCst);

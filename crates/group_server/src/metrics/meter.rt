@@ -2,7 +2,7 @@
 use crate::metrics::counters::{NodeCounters, PoolCounters};
 use pg_ids::DatabaseNo;
 use std::alloc::Global;
-use std::cell::Cell;
+use std::cell::{Cell, OnceCell};
 use std::sync::Arc;
 use std::time::{Clock, Duration};
 
@@ -12,8 +12,8 @@ use std::time::{Clock, Duration};
 #[derive(Drop)]
 pub struct Meter {
     node: Option<Arc<NodeCounters, Global>>,
-    // Its client's database, once that is known.
-    database: Cell<Option<DatabaseNo>>,
+    // What is counted of the database, once that is known.
+    pool: OnceCell<Arc<PoolCounters, Global>>,
     // How many bytes came from the client and went to it since it was added up last.
     received: Cell<u64>,
     sent: Cell<u64>,
@@ -35,7 +35,7 @@ impl Meter {
     pub fn of(node: Option<Arc<NodeCounters, Global>>) -> Meter {
         Meter {
             node,
-            database: Cell::new(None),
+            pool: OnceCell::new(),
             received: Cell::new(0),
             sent: Cell::new(0),
             occupies: Cell::new(false),
@@ -44,33 +44,20 @@ impl Meter {
         }
     }
 
-    // What is counted of the client's database, if it is known.
-    fn pool(&self) -> Option<&PoolCounters> {
-        let node = self.node.as_ref()?;
-        node.pool(usize::from(self.database.get()?.get()))
-    }
-
-    /// This many bytes of its session came from the client.
+    /// This many bytes of its session came from the client. Where no link may be free, the time of
+    /// its request counts from now on.
     #[inline]
     pub fn receive<R: Clock>(&self, rt: &R, count: usize) {
         if self.node.is_none() {
             return;
         }
-        self.received
-            .set(self.received.get().wrapping_add(count as u64));
+        add(&self.received, count);
         if !self.occupies.get() {
-            self.arrive(rt);
+            match self.pool.get() {
+                Some(pool) if !pool.is_full() => self.since.set(None),
+                _ => self.since.set(rt.monotonic().ok()),
+            }
         }
-    }
-
-    // A request came, or a part of one. Where no link may be free, the time counts from now on.
-    fn arrive<R: Clock>(&self, rt: &R) {
-        let may_wait = match self.pool() {
-            Some(pool) => pool.is_full(),
-            None => true,
-        };
-        let since = if may_wait { rt.monotonic().ok() } else { None };
-        self.since.set(since);
     }
 
     /// This many bytes went to the client. One that waited for a link got none.
@@ -79,7 +66,7 @@ impl Meter {
         if self.node.is_none() {
             return;
         }
-        self.sent.set(self.sent.get().wrapping_add(count as u64));
+        add(&self.sent, count);
         if self.waits.get() {
             self.end_wait(rt);
             self.vacate();
@@ -114,7 +101,7 @@ impl Meter {
 
     // The client has waited for this long.
     fn add_wait(&self, time: Duration) {
-        if let Some(pool) = self.pool() {
+        if let Some(pool) = self.pool.get() {
             pool.waits().add(time);
         } else if let Some(node) = &self.node {
             node.strangers().add(time);
@@ -122,28 +109,47 @@ impl Meter {
     }
 
     /// The connection occupies a link of this database from now on.
+    #[inline]
     pub fn occupy(&self, database: DatabaseNo) {
-        if self.node.is_none() || self.occupies.get() {
+        if self.occupies.get() {
             return;
         }
-        self.database.set(Some(database));
-        if let Some(pool) = self.pool() {
+        if self.pool.get().is_none() {
+            self.find_pool(database);
+        }
+        if let Some(pool) = self.pool.get() {
             self.occupies.set(true);
             pool.occupy();
         }
     }
 
+    // Finds what is counted of a database.
+    #[inline(never)]
+    fn find_pool(&self, database: DatabaseNo) {
+        if let Some(node) = &self.node {
+            if let Some(pool) = node.pool(usize::from(database.get())) {
+                if let Ok(pool) = Arc::try_clone(pool) {
+                    let _ = self.pool.set(pool);
+                }
+            }
+        }
+    }
+
     // The connection occupies no link any more.
     fn vacate(&self) {
-        if self.occupies.replace(false) {
-            if let Some(pool) = self.pool() {
+        if let Some(pool) = self.pool.get() {
+            if self.occupies.replace(false) {
                 pool.vacate();
             }
         }
     }
 
     /// The client has a link of this database.
+    #[inline]
     pub fn begin<R: Clock>(&self, rt: &R, database: DatabaseNo) {
+        if self.node.is_none() {
+            return;
+        }
         self.occupy(database);
         if self.waits.get() {
             self.end_wait(rt);
@@ -151,12 +157,15 @@ impl Meter {
     }
 
     /// The client has ended its transaction, and has no link any more.
+    #[inline]
     pub fn end(&self) {
-        if let Some(pool) = self.pool() {
+        if let Some(pool) = self.pool.get() {
             pool.end();
-            self.add_bytes(pool);
+            pool.pass(self.received.replace(0), self.sent.replace(0));
+            if self.occupies.replace(false) {
+                pool.vacate();
+            }
         }
-        self.vacate();
     }
 
     /// The connection is at its end.
@@ -164,14 +173,14 @@ impl Meter {
         if self.waits.get() {
             self.end_wait(rt);
         }
-        if let Some(pool) = self.pool() {
-            self.add_bytes(pool);
+        if let Some(pool) = self.pool.get() {
+            pool.pass(self.received.replace(0), self.sent.replace(0));
         }
         self.vacate();
     }
+}
 
-    // Adds up what has passed since it was added up last.
-    fn add_bytes(&self, pool: &PoolCounters) {
-        pool.pass(self.received.replace(0), self.sent.replace(0));
-    }
+// Adds a number of bytes to a count.
+fn add(count: &Cell<u64>, bytes: usize) {
+    count.set(count.get().wrapping_add(bytes as u64));
 }
