@@ -91,7 +91,7 @@ impl<M: Machine> Acceptor<M> {
         let Some(newcomer) = self.doorway.arrive(host, socket.as_raw_fd()) else {
             return Err(io::Error::new(ErrorKind::QuotaExceeded, "too many connections"));
         };
-        let connection = Connection::new(socket);
+        let connection = Connection::metered(socket, node.meter());
         let served = self.serve_newcomer(host, alloc, node, &connection, newcomer, serves);
         self.doorway.go(host, newcomer);
         drop(connection);

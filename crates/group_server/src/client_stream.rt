@@ -247,7 +247,10 @@ impl<'a, M: Machine> ClientStream<'a, M> {
         for _ in 0..u64::MAX {
             let mut socket = self.connection.socket();
             match socket.read(buffer) {
-                Ok(count) => return Ok(count),
+                Ok(count) => {
+                    self.connection.meter().receive(self.machine, count);
+                    return Ok(count);
+                }
                 Err(error) if is_pause(&error) => self.look_around()?,
                 Err(error) => return Err(error),
             }
@@ -431,6 +434,7 @@ impl<'a, M: Machine> Write for ClientStream<'a, M> {
         let mut socket = self.connection.socket();
         match socket.write(bytes) {
             Ok(count) => {
+                self.connection.meter().send(self.machine, count);
                 self.last = LastCall::Wrote;
                 Ok(count)
             }

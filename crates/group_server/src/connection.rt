@@ -1,5 +1,6 @@
 //! A client's connection, as its stream and what connects it to servers share it.
 use crate::Target;
+use crate::metrics::Meter;
 use crate::poll::is_ended;
 use std::cell::Cell;
 use std::net::TcpStream;
@@ -15,17 +16,29 @@ pub struct Connection {
     is_given_up: Cell<bool>,
     // Where its cancel request is sent.
     target: Cell<Option<Target>>,
+    meter: Meter,
 }
 
 impl Connection {
-    /// A connection on this socket, whose client has no link.
+    /// A connection on this socket, whose client has no link. Nothing is counted of it.
     pub fn new(socket: TcpStream) -> Connection {
+        Connection::metered(socket, Meter::none())
+    }
+
+    /// The same, of which this is counted.
+    pub fn metered(socket: TcpStream, meter: Meter) -> Connection {
         Connection {
             socket,
             link: Cell::new(None),
             is_given_up: Cell::new(false),
             target: Cell::new(None),
+            meter,
         }
+    }
+
+    /// What is counted of it.
+    pub fn meter(&self) -> &Meter {
+        &self.meter
     }
 
     /// Its socket.

@@ -7,6 +7,8 @@ use crate::descriptors::{Needs, descriptor_limit};
 use crate::doorway::Doorway;
 use crate::draining::{drain, wait_for_end, write_end};
 use crate::guests::Room;
+use crate::limits::METRICS_READERS;
+use crate::metrics::{Counters, Exporter, Sources, keep_exporting};
 use crate::options::{ServeOptions, copy_of, write_start};
 use crate::{Dialer, DrainSignal, Host, Log, Serving};
 use ini_config::Group;
@@ -75,6 +77,15 @@ pub struct Listening<H: Host> {
     nodes: Vec<ListeningNode<H>>,
     doorway: Arc<Doorway, Global>,
     log: Arc<Log, Global>,
+    metrics: Option<Arc<Exporter<H>, Global>>,
+}
+
+// The listeners of a group.
+#[derive(Drop)]
+struct Listeners {
+    front: TcpListener,
+    nodes: Vec<TcpListener>,
+    metrics: Option<TcpListener>,
 }
 
 // A node whose own address is bound.
@@ -85,22 +96,25 @@ struct ListeningNode<H: Host> {
 }
 
 impl<H: Host> Listening<H> {
-    /// Binds the port of 127.0.0.1 that all nodes share, and the address of each node. The nodes
-    /// have no clients and no links.
+    /// Binds the port of 127.0.0.1 that all nodes share, the address of each node, and the port at
+    /// which metrics are read. The nodes have no clients and no links.
     pub fn bind(
         host: &H,
         alloc: Global,
         group: Group,
         options: &ServeOptions<'_>,
     ) -> Result<Listening<H>, ServeError> {
-        let front = listen(host, alloc, "127.0.0.1", options.front)?;
-        let listeners = listen_at_each(host, alloc, &group)?;
-        let room = Needs::of(&group).room(descriptor_limit());
-        let doorway = doorway_of(host, alloc, room, options)?;
         let listeners = Listeners {
-            front,
-            nodes: listeners,
+            front: listen(host, alloc, "127.0.0.1", options.front)?,
+            nodes: listen_at_each(host, alloc, &group)?,
+            metrics: listen_for_metrics(host, alloc, options)?,
         };
+        let own = match &listeners.metrics {
+            Some(_) => METRICS_READERS + 1,
+            None => 0,
+        };
+        let room = Needs::of(&group).room(descriptor_limit().saturating_sub(own));
+        let doorway = doorway_of(host, alloc, room, options)?;
         Ok(Listening::new(host, alloc, group, options, listeners, doorway)?)
     }
 
@@ -113,20 +127,17 @@ impl<H: Host> Listening<H> {
         listeners: Listeners,
         doorway: Doorway,
     ) -> Result<Listening<H>, AllocError> {
-        let Listeners {
-            front,
-            nodes: listeners,
-        } = listeners;
         let doorway = Arc::new(alloc, doorway)?;
         let log = Arc::new(alloc, Log::new(alloc, options.log))?;
         write_start(host, alloc, &log, &group, options)?;
+        let counters = counters_of(alloc, &group, &listeners.metrics)?;
         let group = Arc::new(alloc, group)?;
         let reports = Arc::new(alloc, copy_of(alloc, options.reports)?)?;
-        let mut nodes = Vec::with_capacity(alloc, listeners.len())?;
+        let mut nodes = Vec::with_capacity(alloc, listeners.nodes.len())?;
         let mut place = 0;
-        for listener in listeners {
+        for listener in listeners.nodes {
             if place < group.len() {
-                let dialer = Dialer::new(
+                let mut dialer = Dialer::new(
                     *host,
                     alloc,
                     Arc::try_clone(&group)?,
@@ -134,16 +145,30 @@ impl<H: Host> Listening<H> {
                     Arc::try_clone(&log)?,
                     Arc::try_clone(&reports)?,
                 );
+                count_at(&mut dialer, &counters, place)?;
                 let serving = serving_at(alloc, &group, place, options, dialer)?;
                 nodes.push(ListeningNode { listener, serving })?;
                 place += 1;
             }
         }
+        let metrics = match (listeners.metrics, counters) {
+            (Some(listener), Some(counters)) => {
+                let log = Arc::try_clone(&log)?;
+                let sources = Sources {
+                    group,
+                    counters,
+                    log,
+                };
+                Some(exporter_of(alloc, listener, options, &nodes, sources)?)
+            }
+            _ => None,
+        };
         Ok(Listening {
-            front,
+            front: listeners.front,
             nodes,
             doorway,
             log,
+            metrics,
         })
     }
 
@@ -171,7 +196,11 @@ impl<H: Host> Listening<H> {
             nodes,
             doorway,
             log,
+            metrics,
         } = self;
+        if let Some(exporter) = metrics {
+            export_apart(host, alloc, &exporter)?;
+        }
         let Accepting {
             serving,
             mut acceptors,
@@ -195,12 +224,6 @@ impl<H: Host> Listening<H> {
         drain(host, &doorway, &log, acceptors.as_slice());
         Ok(())
     }
-}
-
-// The listeners of a group: of all nodes, and of each one.
-struct Listeners {
-    front: TcpListener,
-    nodes: Vec<TcpListener>,
 }
 
 // The nodes of a group, and the listeners at which connections of one of them are accepted.
@@ -271,6 +294,68 @@ fn write_log_apart<H: Host>(host: &H, log: &Arc<Log, Global>) -> Result<(), Serv
         Ok(_) => Ok(()),
         Err(_) => Err(ServeError::Thread),
     }
+}
+
+// Hands out metrics in threads apart.
+fn export_apart<H: Host>(
+    host: &H,
+    alloc: Global,
+    exporter: &Arc<Exporter<H>, Global>,
+) -> Result<(), ServeError> {
+    for _ in 0..METRICS_READERS {
+        let own = *host;
+        let theirs = Arc::try_clone(exporter)?;
+        let started = thread::Builder::new().spawn(
+            host,
+            move || keep_exporting(&own, alloc, &theirs),
+        );
+        if started.is_err() {
+            return Err(ServeError::Thread);
+        }
+    }
+    Ok(())
+}
+
+// What is counted of a group, if there is a listener at which it is read.
+fn counters_of(
+    alloc: Global,
+    group: &Group,
+    listener: &Option<TcpListener>,
+) -> Result<Option<Arc<Counters, Global>>, AllocError> {
+    match listener {
+        Some(_) => Ok(Some(Arc::new(alloc, Counters::new(alloc, group)?)?)),
+        None => Ok(None),
+    }
+}
+
+// Counts what passes over the connections of the node at this place, if anything is counted.
+fn count_at<H: Host>(
+    dialer: &mut Dialer<H>,
+    counters: &Option<Arc<Counters, Global>>,
+    place: usize,
+) -> Result<(), AllocError> {
+    if let Some(counters) = counters {
+        if let Some(node) = counters.node(place) {
+            dialer.count_at(Arc::try_clone(node)?);
+        }
+    }
+    Ok(())
+}
+
+// What hands out the metrics of these nodes at a listener.
+fn exporter_of<H: Host>(
+    alloc: Global,
+    listener: TcpListener,
+    options: &ServeOptions<'_>,
+    nodes: &[ListeningNode<H>],
+    sources: Sources,
+) -> Result<Arc<Exporter<H>, Global>, AllocError> {
+    let mut all = Vec::with_capacity(alloc, nodes.len())?;
+    for node in nodes {
+        all.push(Arc::try_clone(&node.serving)?)?;
+    }
+    let version = String::from_str(alloc, options.version)?;
+    Ok(Arc::new(alloc, Exporter::new(listener, version, all, sources))?)
 }
 
 // The node at a place of the group, without clients and links.
@@ -357,6 +442,18 @@ fn listen_at_each<H: Host>(
         };
     }
     Ok(listeners)
+}
+
+// Binds the port at which metrics are read, if there is one.
+fn listen_for_metrics<H: Host>(
+    host: &H,
+    alloc: Global,
+    options: &ServeOptions<'_>,
+) -> Result<Option<TcpListener>, ServeError> {
+    match options.metrics {
+        Some(port) => Ok(Some(listen(host, alloc, "127.0.0.1", port)?)),
+        None => Ok(None),
+    }
 }
 
 /// Listens at this address.

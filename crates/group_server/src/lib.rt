@@ -26,6 +26,7 @@ mod link_stream;
 mod log;
 mod login_answer;
 mod looks;
+mod metrics;
 mod options;
 mod origin;
 mod poll;
@@ -49,6 +50,10 @@ pub use link_stream::LinkStream;
 pub use log::{Event, Field, Level, Log, Value, line_of};
 pub use login_answer::{LoginAnswer, Refusal, field_of};
 pub use looks::Looks;
+pub use metrics::{
+    Answer, BOUNDS_MICROS, BOUNDS_TEXT, Counters, Meter, NodeCounters, NodeState, Passed,
+    PoolState, WaitCounts, answer_to, bucket_of, labels_with, page_of, put_sample,
+};
 pub use options::ServeOptions;
 pub use origin::Origin;
 pub use serving::Serving;

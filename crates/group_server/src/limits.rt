@@ -41,6 +41,17 @@ pub const DRAIN_PACKETS_MILLIS: u64 = 1_000;
 /// How long nobody has to be there then until nobody comes any more: a connection that was accepted
 /// before is counted by then.
 pub const DRAIN_PAUSE_MILLIS: u64 = 100;
+/// How long a connection at which metrics are read may take.
+pub const METRICS_MILLIS: u64 = 5_000;
+
+/// How long its request may take of that.
+pub const METRICS_REQUEST_MILLIS: u64 = 1_000;
+
+/// How many connections at which metrics are read are served at a time.
+pub const METRICS_READERS: usize = 4;
+
+/// How long the metrics that were read last are handed out again.
+pub const METRICS_AGE_MILLIS: u64 = 1_000;
 
 /// How many connections of a node may be in their first packets at a time: 256 cancel requests, and
 /// 64 others.

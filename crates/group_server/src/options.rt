@@ -27,6 +27,8 @@ pub struct ServeOptions<'a> {
     pub until_eof: bool,
     /// The level of the least important lines that the log has.
     pub log: Level,
+    /// The port of 127.0.0.1 at which metrics are read, if any are counted.
+    pub metrics: Option<u16>,
 }
 
 // What an operator who gives no boot number is told.

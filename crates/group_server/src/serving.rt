@@ -1,7 +1,8 @@
 //! A node that serves connections.
+use crate::metrics::{Census, Meter};
 use crate::{ClientStream, Connection, Dialer, LinkStream, Machine};
 use node_threads::{Calling, Open, serve_connection};
-use std::alloc::Global;
+use std::alloc::{AllocError, Global};
 use std::sync::{Mutex, Wait};
 
 /// A node that serves connections, with those callers of it that no connection has. A caller's
@@ -29,6 +30,23 @@ impl<M: Machine> Serving<M> {
     /// The node's number.
     pub fn number(&self) -> u16 {
         self.dialer.number()
+    }
+
+    /// What is counted of a connection to the node.
+    pub fn meter(&self) -> Meter {
+        self.dialer.meter()
+    }
+
+    /// How its clients and links do at this moment, and how many cancel requests there were.
+    pub fn census<R: Wait>(&self, rt: &R, alloc: Global) -> Result<Census, AllocError> {
+        let mut calling = self.take(rt, alloc).ok_or(AllocError)?;
+        let pools = calling.census(rt, alloc);
+        let cancels = calling.cancels(rt);
+        self.give_back(rt, calling);
+        Ok(Census {
+            pools: pools?,
+            cancels,
+        })
     }
 
     /// A caller of the node for one more connection, if one is free or can be made.
@@ -79,6 +97,7 @@ impl<M: Machine> Serving<M> {
         let opener = self.dialer.on_behalf(connection);
         let reports = self.dialer.reports();
         serve_connection(rt, alloc, &mut calling, &opener, &Open, reports, client);
+        connection.meter().finish(self.dialer.machine());
         self.give_back(rt, calling);
         if let Some((end, millis)) = client.cancel_end() {
             self.dialer

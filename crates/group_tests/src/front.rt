@@ -49,7 +49,8 @@ fn addresses(rt: HostRuntime) -> Result<(), Fail> {
     let (front, own) = (ports[0], ports[1]);
     let group = group(rt.alloc(), &[own], 1, &[&[]])?;
     let reports = Reports::new(rt.alloc());
-    let Ok(_listening) = Listening::bind(&rt, rt.alloc(), group, &options(front, &reports)) else {
+    let Ok(_listening) = Listening::bind(&rt, rt.alloc(), group, &options(front, None, &reports))
+    else {
         return Err(Fail::from("an address can't be bound"));
     };
     TcpStream::connect(&rt, ("127.0.0.1", front))?;

@@ -32,6 +32,7 @@ const BOOT: u32 = 7;
 pub(crate) struct Running {
     nodes: Vec<u16>,
     front: u16,
+    metrics: u16,
 }
 
 impl Running {
@@ -66,13 +67,46 @@ impl Running {
         let mut nodes = free_ports(rt, leads.len().saturating_add(1))?;
         let front = nodes.pop().ok_or("no port for the group")?;
         let group = group_before(rt.alloc(), nodes.as_slice(), servers, leads)?;
-        start_group(rt, group, front, reports_of(rt.alloc(), told)?)?;
-        Ok(Running { nodes, front })
+        start_group(rt, group, front, None, reports_of(rt.alloc(), told)?)?;
+        Ok(Running {
+            nodes,
+            front,
+            metrics: 0,
+        })
+    }
+
+    // Starts such nodes, whose metrics are read at a port of their own.
+    pub(crate) fn start_measured<R: TestHost>(
+        rt: &R,
+        servers: &[u16],
+        leads: &[&[usize]],
+    ) -> Result<Running, Fail> {
+        let mut nodes = free_ports(rt, leads.len().saturating_add(2))?;
+        let front = nodes.pop().ok_or("no port for the group")?;
+        let metrics = nodes.pop().ok_or("no port for the metrics")?;
+        let group = group_before(rt.alloc(), nodes.as_slice(), servers, leads)?;
+        start_group(
+            rt,
+            group,
+            front,
+            Some(metrics),
+            reports_of(rt.alloc(), &[])?,
+        )?;
+        Ok(Running {
+            nodes,
+            front,
+            metrics,
+        })
     }
 
     // The port of the group.
     pub(crate) fn front(&self) -> u16 {
         self.front
+    }
+
+    // The port at which its metrics are read.
+    pub(crate) fn metrics(&self) -> u16 {
+        self.metrics
     }
 
     // The port of the node with this number.
@@ -90,13 +124,14 @@ fn start_group<R: TestHost>(
     rt: &R,
     group: Group,
     front: u16,
+    metrics: Option<u16>,
     reports: Reports,
 ) -> Result<(), Fail> {
     let listens = Arc::new(rt.alloc(), AtomicBool::new(false))?;
     let (own, theirs) = (*rt, Arc::try_clone(&listens)?);
     thread::spawn(
         rt,
-        move || serve_group(&own, group, front, &reports, &theirs),
+        move || serve_group(&own, group, front, metrics, &reports, &theirs),
     )
     .map_err(AllocError::from)?;
     await_listening(rt, &listens)
@@ -118,10 +153,11 @@ fn serve_group<R: TestHost>(
     rt: &R,
     group: Group,
     front: u16,
+    metrics: Option<u16>,
     reports: &Reports,
     listens: &AtomicBool,
 ) {
-    let options = options(front, reports);
+    let options = options(front, metrics, reports);
     if let Ok(listening) = Listening::bind(rt, rt.alloc(), group, &options) {
         listens.store(true, Ordering::SeqCst);
         let _ = listening.serve(rt, rt.alloc(), &mut b"".as_slice());
@@ -129,7 +165,11 @@ fn serve_group<R: TestHost>(
 }
 
 // What a group of this port is served with, whose logins have these reports.
-pub(crate) const fn options(front: u16, reports: &Reports) -> ServeOptions<'_> {
+pub(crate) const fn options(
+    front: u16,
+    metrics: Option<u16>,
+    reports: &Reports,
+) -> ServeOptions<'_> {
     ServeOptions {
         version: "0",
         front,
@@ -138,6 +178,7 @@ pub(crate) const fn options(front: u16, reports: &Reports) -> ServeOptions<'_> {
         reports,
         until_eof: false,
         log: Level::Notice,
+        metrics,
     }
 }
 

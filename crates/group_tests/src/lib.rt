@@ -58,6 +58,8 @@ mod long_keys;
 #[cfg(test)]
 mod messages;
 #[cfg(test)]
+mod metrics;
+#[cfg(test)]
 mod reported;
 #[cfg(test)]
 mod scripted;

@@ -29,6 +29,7 @@ pub(crate) fn serve<H: Host, I: Read, W: Write>(
         reports: &request.reports,
         until_eof: request.until_eof,
         log: level_of(request.log),
+        metrics: request.metrics,
     };
     serve_group(host, alloc, group, &options, input, out)
 }

@@ -3,8 +3,7 @@ mod event;
 mod line;
 
 use crate::limits::{LAST_LINES_MILLIS, LINES_KEPT};
-use event::{EVENTS, KINDS};
-pub use event::{Event, Level};
+pub use event::{EVENTS, Event, KINDS, Level};
 use line::left_out_line;
 pub use line::{Field, Value, line_of, put_fields};
 use std::alloc::Global;
@@ -38,13 +37,14 @@ struct Queue {
     counts: [Counts; EVENTS],
 }
 
-// How many lines of a kind there were of late.
+// How many lines of a kind there were, in all and of late.
 #[derive(Clone, Copy)]
 struct Counts {
     // When the second began in which lines are counted, if there was a line.
     began: Option<Duration>,
     given: u32,
     left_out: u64,
+    total: u64,
 }
 
 impl Log {
@@ -54,6 +54,7 @@ impl Log {
             began: None,
             given: 0,
             left_out: 0,
+            total: 0,
         };
         Log {
             alloc,
@@ -106,6 +107,16 @@ impl Log {
             self.queue.lock(rt).push(event, line.ok());
         }
         self.filled.notify_one();
+    }
+
+    /// How many events of each kind there were, also those whose lines were left out.
+    pub fn totals<R: Wait>(&self, rt: &R) -> [u64; EVENTS] {
+        let mut totals = [0; EVENTS];
+        let queue = self.queue.lock(rt);
+        for event in KINDS {
+            totals[event.place()] = queue.counts[event.place()].total;
+        }
+        totals
     }
 
     // Waits for a line, or, if some were left out, no longer than a second.
@@ -167,6 +178,7 @@ impl Queue {
     // Whether a line of this kind may be written now. Then it counts as written.
     fn may_write(&mut self, event: Event, now: Duration) -> bool {
         let counts = &mut self.counts[event.place()];
+        counts.total = counts.total.saturating_add(1);
         if counts.is_over(now) {
             counts.began = Some(now);
             counts.given = 0;
