@@ -84,7 +84,7 @@ fn serve<R: TestHost>(
     let reports = Reports::new(rt.alloc());
     let options = ServeOptions {
         until_eof: true,
-        ..options(front, &reports)
+        ..options(front, None, &reports)
     };
     if let Ok(listening) = Listening::bind(rt, rt.alloc(), group, &options) {
         listens.store(true, Ordering::SeqCst);
