@@ -1,5 +1,5 @@
--- How a cancel request has ended (own), by where it was sent, if anywhere, and by the last call of its
--- sender's stream: one that failed is reported to its sender by a byte, and no other.
+-- How a cancel request has ended (own), by where it was sent, if anywhere, and by the last call of
+-- its sender's stream: one that failed is reported to its sender by a byte, and no other.
 use Rattle.std.specs.Prelude.{Option, Some, None}
 use Rattle.group_server.specs.declared.cancel_end.Target.{Target}
 use Rattle.group_server.specs.declared.cancel_end.CancelEnd.{CancelEnd}

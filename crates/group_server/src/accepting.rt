@@ -149,8 +149,8 @@ fn time_of(serves: Serves) -> u64 {
     }
 }
 
-/// Sees to it that threads wait for connections at a listener, as long as threads can be started. It
-/// returns when the listener is closed.
+/// Sees to it that threads wait for connections at a listener, as long as threads can be started.
+/// It returns when the listener is closed.
 pub fn keep_accepting<H: Host>(host: &H, alloc: Global, acceptor: &Arc<Acceptor<H>, Global>) {
     for _ in host.forever() {
         if !acceptor.crew.wait_until_few(host) {

@@ -56,8 +56,8 @@ pub struct ClientStream<'a, M: Machine> {
     reads_briefly: bool,
     // What the last call was.
     last: LastCall,
-    // Whether the last call before the one under way was a write that the client took: so nothing of
-    // a request was read.
+    // Whether the last call before this one was a write that the client took: so nothing of a
+    // request was read.
     is_idle: bool,
     // Whether the last read filled its buffer, so that more may be under way.
     is_sending: bool,
@@ -294,8 +294,8 @@ impl<'a, M: Machine> ClientStream<'a, M> {
         self.end_if_draining()
     }
 
-    // Fails if the group drains and the client has no link and sent nothing of a request. It is told
-    // so when nothing is held for it any more.
+    // Fails if the group drains and the client has no link and sent nothing of a request. The error
+    // is kept, and is written when nothing is held for the client any more.
     #[inline]
     fn end_if_draining(&mut self) -> io::Result<()> {
         if self.is_idle && self.entry.doorway.is_draining() && self.connection.link().is_none() {

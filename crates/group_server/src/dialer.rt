@@ -168,20 +168,27 @@ impl<M: Machine> Dialer<M> {
 
     // The fields that name where a cancel request was sent, as they stand in a line.
     fn names_of(&self, target: Option<Target>) -> io::Result<String> {
-        let settings = self.settings()?;
-        let mut names = String::new(self.alloc);
-        match target {
-            Some(Target::Server(database)) => {
-                if let Some(entry) = settings.database(database) {
-                    put_fields(self.alloc, &mut names, &server_fields(&entry))?;
-                }
-            }
-            Some(Target::Peer(peer)) => {
-                let number = Value::Number(u64::from(peer.get()));
-                put_fields(self.alloc, &mut names, &[("peer", number)])?;
-            }
-            None => {}
+        match &target {
+            Some(Target::Server(database)) => self.server_names(*database),
+            Some(Target::Peer(peer)) => self.peer_names(*peer),
+            None => Ok(String::new(self.alloc)),
         }
+    }
+
+    // The fields that name the server of a database.
+    fn server_names(&self, database: DatabaseNo) -> io::Result<String> {
+        let mut names = String::new(self.alloc);
+        if let Some(entry) = self.settings()?.database(database) {
+            put_fields(self.alloc, &mut names, &server_fields(&entry))?;
+        }
+        Ok(names)
+    }
+
+    // The field that names a peer.
+    fn peer_names(&self, peer: PeerNo) -> io::Result<String> {
+        let mut names = String::new(self.alloc);
+        let number = Value::Number(u64::from(peer.get()));
+        put_fields(self.alloc, &mut names, &[("peer", number)])?;
         Ok(names)
     }
 

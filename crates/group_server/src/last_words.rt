@@ -1,4 +1,4 @@
-//! What a client is told at last of its session's end.
+//! The errors by which sessions end that a server or the group ends.
 use startup::{ErrorCode, Severity, write_error};
 use std::alloc::{AllocError, Global};
 use std::os::fd::RawFd;

@@ -31,7 +31,7 @@ pub struct ServeOptions<'a> {
     pub metrics: Option<u16>,
 }
 
-// What an operator who gives no boot number is told.
+// What the log says where no boot number was given.
 const GIVE_BOOT: &str = "give another --boot at each start";
 
 /// Writes to the log that a group has begun to listen, and where its nodes do.

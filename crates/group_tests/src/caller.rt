@@ -91,7 +91,7 @@ impl<R: TestHost> Caller<R> {
         expect_no_line(rt, &self.log)
     }
 
-    // The log is told that a cancel request has ended so that was sent there, in 3 milliseconds.
+    // Writes to the log that a cancel request has ended so that was sent there, in 3 milliseconds.
     pub(crate) fn tell_cancel_end(&self, target: Option<Target>, end: CancelEnd) {
         self.dialer.tell_cancel_end(target, end, 3);
     }
