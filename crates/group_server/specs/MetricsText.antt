@@ -21,9 +21,13 @@ abbrev pub with_label : List ℕ → List ℕ → List ℕ
 with_label [] one = one
 with_label (byte ∷ labels) one = (byte ∷ labels) ++ 44 ∷ one
 
--- a line with a value: the name, the labels in braces, a blank, and the value in digits
+-- a line with a value: the name, the labels in braces, a blank, and the value
+abbrev pub line : List ℕ → List ℕ → List ℕ → List ℕ
+line name labels value = name ++ 123 ∷ labels ++ 125 ∷ 32 ∷ value ++ 10 ∷ []
+
+-- such a line with a whole number, in digits
 abbrev pub sample : List ℕ → List ℕ → ℕ → List ℕ
-sample name labels value = name ++ 123 ∷ labels ++ 125 ∷ 32 ∷ decimal value ++ 10 ∷ []
+sample name labels value = line name labels (decimal value)
 
 -- a value is counted at the first of these rising bounds that isn't below it, or behind the last
 pub record IsBucketOf (bounds : List ℕ) (value place : ℕ) : Type 0 where

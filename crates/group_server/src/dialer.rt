@@ -246,7 +246,7 @@ impl<'a, M: Machine> Opener for ClientDialer<'a, M> {
 
     fn cancel<R: Wait>(&self, _rt: &R, database: DatabaseNo) -> io::Result<LinkStream<M>> {
         self.connection.set_target(Target::Server(database));
-        self.connection.meter().occupy(database);
+        self.connection.meter().ask(database);
         let settings = self.dialer.settings()?;
         let Some(entry) = settings.database(database) else {
             return Err(io::Error::from(ErrorKind::NotFound));

@@ -51,8 +51,8 @@ pub use log::{Event, Field, Level, Log, Value, line_of};
 pub use login_answer::{LoginAnswer, Refusal, field_of};
 pub use looks::Looks;
 pub use metrics::{
-    Answer, BOUNDS_MICROS, BOUNDS_TEXT, Counters, Meter, NodeCounters, NodeState, Passed,
-    PoolState, WaitCounts, answer_to, bucket_of, labels_with, page_of, put_sample,
+    Answer, BOUNDS_MICROS, Counters, Meter, NodeCounters, NodeState, Passed, PoolState, WaitCounts,
+    answer_to, bucket_of, labels_with, page_of, put_sample,
 };
 pub use options::ServeOptions;
 pub use origin::Origin;

@@ -23,9 +23,9 @@ pub struct NodeCounters {
 /// What is counted of a database of a node.
 #[derive(Drop)]
 pub struct PoolCounters {
-    // How many links it may have, and how many clients have or open one, or cancel on one.
+    // How many links it may have, and how many connections ask for one, or have one.
     places: u64,
-    occupied: AtomicU64,
+    asking: AtomicU64,
     // How many transactions have ended on its links.
     transactions: AtomicU64,
     // How many bytes came from its clients, and went to them.
@@ -96,7 +96,7 @@ impl PoolCounters {
     fn new(alloc: Global, places: u64) -> Result<PoolCounters, AllocError> {
         Ok(PoolCounters {
             places,
-            occupied: AtomicU64::new(0),
+            asking: AtomicU64::new(0),
             transactions: AtomicU64::new(0),
             received: AtomicU64::new(0),
             sent: AtomicU64::new(0),
@@ -104,22 +104,23 @@ impl PoolCounters {
         })
     }
 
-    /// Whether all links that there may be are occupied, so that the next client waits.
+    /// One more connection asks for a link. Returns whether as many as there are links do so
+    /// already, so that it may have to wait.
     #[inline]
-    pub fn is_full(&self) -> bool {
-        self.occupied.load(Ordering::SeqCst) >= self.places
+    pub fn ask(&self) -> bool {
+        self.asking.fetch_add(1, Ordering::SeqCst) >= self.places
     }
 
-    /// One more link is occupied.
+    /// A connection that asked has no link any more, or gets none.
     #[inline]
-    pub fn occupy(&self) {
-        self.occupied.fetch_add(1, Ordering::SeqCst);
+    pub fn leave(&self) {
+        self.asking.fetch_sub(1, Ordering::SeqCst);
     }
 
-    /// A link that was occupied isn't any more.
+    /// Whether more connections ask for a link than there are.
     #[inline]
-    pub fn vacate(&self) {
-        self.occupied.fetch_sub(1, Ordering::SeqCst);
+    pub fn is_crowded(&self) -> bool {
+        self.asking.load(Ordering::SeqCst) > self.places
     }
 
     /// A transaction has ended.

@@ -7,8 +7,8 @@ use std::sync::Arc;
 use std::time::{Clock, Duration};
 
 /// What is counted of one connection, if anything is. The clock is read only where its client waits
-/// for a link, or is about to since none is free. (Where clients come at the same moment to the
-/// last link that is free, the wait of one may seem shorter than it is.)
+/// for a link, or may have to since others ask for all of them. (Where clients come at the same
+/// moment, or one sends its next request early, a wait may seem shorter than it is.)
 #[derive(Drop)]
 pub struct Meter {
     node: Option<Arc<NodeCounters, Global>>,
@@ -17,12 +17,22 @@ pub struct Meter {
     // How many bytes came from the client and went to it since it was added up last.
     received: Cell<u64>,
     sent: Cell<u64>,
-    // Whether it occupies a link of its database.
-    occupies: Cell<bool>,
+    stage: Cell<Stage>,
     // Whether its client waits for a link.
     waits: Cell<bool>,
     // Since when, as far as that is known.
     since: Cell<Option<Duration>>,
+}
+
+// How far a connection is with a request.
+#[derive(Clone, Copy, PartialEq, Eq)]
+enum Stage {
+    // None came, as far as its database knows.
+    Idle,
+    // It asks for a link.
+    Asks,
+    // It has one.
+    Linked,
 }
 
 impl Meter {
@@ -38,25 +48,35 @@ impl Meter {
             pool: OnceCell::new(),
             received: Cell::new(0),
             sent: Cell::new(0),
-            occupies: Cell::new(false),
+            stage: Cell::new(Stage::Idle),
             waits: Cell::new(false),
             since: Cell::new(None),
         }
     }
 
-    /// This many bytes of its session came from the client. Where no link may be free, the time of
-    /// its request counts from now on.
+    /// This many bytes of its session came from the client. Where it may have to wait for a link,
+    /// the time of its request counts from now on.
     #[inline]
     pub fn receive<R: Clock>(&self, rt: &R, count: usize) {
         if self.node.is_none() {
             return;
         }
         add(&self.received, count);
-        if !self.occupies.get() {
-            match self.pool.get() {
-                Some(pool) if !pool.is_full() => self.since.set(None),
-                _ => self.since.set(rt.monotonic().ok()),
+        if self.stage.get() != Stage::Linked && self.may_wait() {
+            self.since.set(rt.monotonic().ok());
+        }
+    }
+
+    // A request came, or a part of one. Returns whether it may have to wait for a link.
+    #[inline]
+    fn may_wait(&self) -> bool {
+        match self.pool.get() {
+            Some(pool) if self.stage.get() == Stage::Idle => {
+                self.stage.set(Stage::Asks);
+                pool.ask()
             }
+            Some(pool) => pool.is_crowded(),
+            None => true,
         }
     }
 
@@ -69,7 +89,7 @@ impl Meter {
         add(&self.sent, count);
         if self.waits.get() {
             self.end_wait(rt);
-            self.vacate();
+            self.leave();
         }
     }
 
@@ -87,7 +107,7 @@ impl Meter {
     /// The client waits for a link of this database that is opened for it.
     pub fn open<R: Clock>(&self, rt: &R, database: DatabaseNo) {
         self.wait(rt);
-        self.occupy(database);
+        self.ask(database);
     }
 
     // The client waits no longer.
@@ -108,23 +128,20 @@ impl Meter {
         }
     }
 
-    /// The connection occupies a link of this database from now on.
-    #[inline]
-    pub fn occupy(&self, database: DatabaseNo) {
-        if self.occupies.get() {
-            return;
-        }
+    /// The connection asks for a link of this database, or sends a cancel request to its server.
+    pub fn ask(&self, database: DatabaseNo) {
         if self.pool.get().is_none() {
             self.find_pool(database);
         }
-        if let Some(pool) = self.pool.get() {
-            self.occupies.set(true);
-            pool.occupy();
+        if self.stage.get() == Stage::Idle {
+            if let Some(pool) = self.pool.get() {
+                self.stage.set(Stage::Asks);
+                pool.ask();
+            }
         }
     }
 
     // Finds what is counted of a database.
-    #[inline(never)]
     fn find_pool(&self, database: DatabaseNo) {
         if let Some(node) = &self.node {
             if let Some(pool) = node.pool(usize::from(database.get())) {
@@ -135,22 +152,16 @@ impl Meter {
         }
     }
 
-    // The connection occupies no link any more.
-    fn vacate(&self) {
-        if let Some(pool) = self.pool.get() {
-            if self.occupies.replace(false) {
-                pool.vacate();
-            }
-        }
-    }
-
     /// The client has a link of this database.
     #[inline]
     pub fn begin<R: Clock>(&self, rt: &R, database: DatabaseNo) {
         if self.node.is_none() {
             return;
         }
-        self.occupy(database);
+        if self.stage.get() == Stage::Idle {
+            self.ask(database);
+        }
+        self.stage.set(Stage::Linked);
         if self.waits.get() {
             self.end_wait(rt);
         }
@@ -162,9 +173,7 @@ impl Meter {
         if let Some(pool) = self.pool.get() {
             pool.end();
             pool.pass(self.received.replace(0), self.sent.replace(0));
-            if self.occupies.replace(false) {
-                pool.vacate();
-            }
+            self.leave();
         }
     }
 
@@ -176,7 +185,18 @@ impl Meter {
         if let Some(pool) = self.pool.get() {
             pool.pass(self.received.replace(0), self.sent.replace(0));
         }
-        self.vacate();
+        self.leave();
+    }
+
+    // The connection asks for no link any more, and has none.
+    #[inline]
+    fn leave(&self) {
+        self.since.set(None);
+        if self.stage.replace(Stage::Idle) != Stage::Idle {
+            if let Some(pool) = self.pool.get() {
+                pool.leave();
+            }
+        }
     }
 }
 

@@ -15,4 +15,4 @@ pub use request::{Answer, answer_to};
 pub use server::{Exporter, Sources, keep_exporting};
 pub use state::{Census, NodeState, PoolState};
 pub use text::{labels_with, put_sample};
-pub use waits::{BOUNDS_MICROS, BOUNDS_TEXT, WaitCounts, bucket_of};
+pub use waits::{BOUNDS_MICROS, WaitCounts, bucket_of};

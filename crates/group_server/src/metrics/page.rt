@@ -1,8 +1,8 @@
 //! The metrics of a group, in Prometheus' text format.
 use crate::log::{EVENTS, KINDS};
 use crate::metrics::state::{NodeState, PoolState};
-use crate::metrics::text::{Kind, labels_with, put, put_head, put_sample};
-use crate::metrics::waits::{BOUNDS_TEXT, WaitCounts};
+use crate::metrics::text::{Kind, labels_with, put_head, put_line, put_sample};
+use crate::metrics::waits::{BOUNDS_MICROS, WaitCounts};
 use std::alloc::{AllocError, Global};
 
 /// The metrics of the nodes of a group, and of the log of their process, whose events are given in
@@ -295,22 +295,34 @@ impl Page {
         let mut total: u64 = 0;
         for (place, count) in waits.buckets.iter().enumerate() {
             total = total.wrapping_add(*count);
-            let bound = BOUNDS_TEXT.get(place).copied().unwrap_or("+Inf");
-            self.put_with("pgpeer_wait_seconds_bucket", labels, "le", bound, total)?;
+            self.put_bucket(labels, BOUNDS_MICROS.get(place), total)?;
         }
-        self.put_seconds("pgpeer_wait_seconds_sum", labels, waits.micros)?;
+        let sum = seconds_text(self.alloc, waits.micros)?;
+        put_line(
+            &mut self.text,
+            "pgpeer_wait_seconds_sum",
+            labels,
+            sum.as_str(),
+        )?;
         self.put("pgpeer_wait_seconds_count", labels, total)
     }
 
-    // Appends a time, in seconds.
-    fn put_seconds(&mut self, name: &str, labels: &[u8], micros: u64) -> Result<(), AllocError> {
-        let seconds = micros / MICROS;
-        let rest = micros % MICROS;
-        put(&mut self.text, name)?;
-        self.text.push(b'{')?;
-        self.text.extend_from_slice(labels)?;
-        let value = format!(in self.alloc; "}} {seconds}.{rest:06}\n")?;
-        put(&mut self.text, value.as_str())
+    // Appends how many waits there were up to this bound, or in all.
+    fn put_bucket(
+        &mut self,
+        labels: &[u8],
+        bound: Option<&u64>,
+        total: u64,
+    ) -> Result<(), AllocError> {
+        let name = "pgpeer_wait_seconds_bucket";
+        match bound {
+            Some(micros) => {
+                let text = seconds_text(self.alloc, *micros)?;
+                let bound = text.as_str().trim_end_matches('0').trim_end_matches('.');
+                self.put_with(name, labels, "le", bound, total)
+            }
+            None => self.put_with(name, labels, "le", "+Inf", total),
+        }
     }
 
     // Appends how many events of each kind there were.
@@ -336,3 +348,10 @@ const WAITS: &str = "pgpeer_wait_seconds";
 
 // A second, in microseconds.
 const MICROS: u64 = 1_000_000;
+
+// A time in seconds, with six digits behind the point.
+fn seconds_text(alloc: Global, micros: u64) -> Result<String, AllocError> {
+    let seconds = micros / MICROS;
+    let rest = micros % MICROS;
+    format!(in alloc; "{seconds}.{rest:06}")
+}

@@ -195,7 +195,7 @@ fn read_request<M: Machine>(machine: &M, socket: &TcpStream) -> io::Result<Answe
             return Ok(Answer::TooLarge);
         }
         let count = read_some(machine, socket, deadline, room)?;
-        read += count;
+        read = read.saturating_add(count);
         let answer = answer_to(buffer.get(..read).unwrap_or(&[]));
         if answer != Answer::More {
             return Ok(answer);

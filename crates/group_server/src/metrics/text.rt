@@ -1,6 +1,6 @@
 //! Lines of Prometheus' text format (its manual, "Exposition formats").
 ghost use Rattle.std.specs.Prelude.{◌≡◌, ◌++◌, ◌∷◌, IfOk, OnOk};
-ghost use Rattle.group_server.specs.MetricsText.{escaped, escaped_byte, label, with_label, sample};
+ghost use Rattle.group_server.specs.MetricsText.{escaped, escaped_byte, label, line, with_label, sample};
 
 use std::alloc::{AllocError, Global};
 
@@ -50,12 +50,25 @@ pub fn put_sample(
     ensures { OnOk result (text.new.items
         ≡ text.old.items ++ sample name.now labels.now value) }
 {
+    let digits = value.to_string(alloc)?;
+    put_line(text, name, labels, digits.as_str())
+}
+
+/// Appends the line of a value that is written like this.
+pub fn put_line(
+    text: &mut Vec<u8>,
+    name: &str,
+    labels: &[u8],
+    value: &str,
+) -> Result<(), AllocError>
+    ensures { OnOk result (text.new.items
+        ≡ text.old.items ++ line name.now labels.now value.now) }
+{
     put(text, name)?;
     text.push(b'{')?;
     text.extend_from_slice(labels)?;
     put(text, "} ")?;
-    let digits = value.to_string(alloc)?;
-    put(text, digits.as_str())?;
+    put(text, value)?;
     text.push(b'\n')?;
     Ok(())
 }

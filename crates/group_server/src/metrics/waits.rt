@@ -18,12 +18,6 @@ pub const BOUNDS_MICROS: [u64; BOUNDS] = [
     5_000_000, 10_000_000, 30_000_000, 60_000_000,
 ];
 
-/// The same, as the label `le` says them: in seconds.
-pub const BOUNDS_TEXT: [&str; BOUNDS] = [
-    "0.001", "0.0025", "0.005", "0.01", "0.025", "0.05", "0.1", "0.25", "0.5", "1", "2.5", "5",
-    "10", "30", "60",
-];
-
 /// How many clients waited for a link, and for how long.
 #[derive(Drop)]
 pub struct Waits {
