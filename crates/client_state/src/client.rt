@@ -78,6 +78,13 @@ impl Client {
         }
     }
 
+    /// The limit of a request.
+    pub fn limit(&self) -> MessageLimit
+        ensures { result ≡ self.now.limit }
+    {
+        self.limit
+    }
+
     /// The database that the client logged in to.
     pub fn database(&self) -> DatabaseNo
         ensures { result ≡ self.now.database }

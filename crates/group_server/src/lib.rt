@@ -44,4 +44,5 @@ pub use login_answer::{LoginAnswer, Refusal, field_of};
 pub use looks::Looks;
 pub use options::ServeOptions;
 pub use origin::Origin;
+pub use pg_frames::MessageLimit;
 pub use serving::Serving;

@@ -1,6 +1,7 @@
 //! What a group is served with.
 use crate::log::{Event, Log, Value, put_fields};
 use ini_config::{Group, Settings};
+use pg_frames::MessageLimit;
 use startup::Reports;
 use std::alloc::{AllocError, Global};
 use std::sync::Wait;
@@ -22,6 +23,8 @@ pub struct ServeOptions<'a> {
     pub boot: u32,
     /// The parameters that logins report beside those that every login has.
     pub reports: &'a Reports,
+    /// How long a message may be, of a client and of a server.
+    pub max_message: MessageLimit,
 }
 
 /// Writes to the log that a group has begun to listen, and where its nodes do.

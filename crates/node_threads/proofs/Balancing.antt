@@ -554,14 +554,14 @@ not_close : (reply : List ℕ) → stayed.End reply ≡ stayed.Close → ⊥
 not_close reply is = cc
 
 -- where a session goes on it is as at its start
-pub goes_on_as_at_start : (end : Stayed) (old new : Session) (database : ℕ)
+pub goes_on_as_at_start : (limit : ℕ) (end : Stayed) (old new : Session) (database : ℕ)
     → (end ≡ stayed.Release) ⊎ (end ≡ stayed.Close) → GoesOnWithout end old new
-    → old ≡ asking database → new ≡ start database
-goes_on_as_at_start stayed.Release old new database is goes asked =
-    goes ∙ ap (λ (s : Session). start s.database) asked
-goes_on_as_at_start stayed.Close old new database is goes asked =
-    goes ∙ ap (λ (s : Session). start s.database) asked
-goes_on_as_at_start (stayed.End reply) old new database is goes asked = elim is [
+    → old ≡ asking limit database → new ≡ start limit database
+goes_on_as_at_start limit stayed.Release old new database is goes asked =
+    goes ∙ ap (λ (s : Session). start s.limit s.database) asked
+goes_on_as_at_start limit stayed.Close old new database is goes asked =
+    goes ∙ ap (λ (s : Session). start s.limit s.database) asked
+goes_on_as_at_start limit (stayed.End reply) old new database is goes asked = elim is [
   | inl is_release ↦ absurd (not_release reply is_release)
   | inr is_close ↦ absurd (not_close reply is_close)
 ]

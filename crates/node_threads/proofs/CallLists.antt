@@ -1,5 +1,5 @@
 -- Calls of a stream, one list after another.
-use Rattle.std.proofs.Common.{◌≡◌, ℕ, List, [], ◌∷◌, ◌++◌, take, Ok, Err, refl, sym, ap, ◌∙◌, append_assoc, append-nil}
+use Rattle.std.proofs.Common.{◌≡◌, ℕ, List, [], ◌∷◌, ◌++◌, take, Ok, Err, refl, sym, ap, ◌∙◌, append_assoc}
 use Rattle.peer_forward.specs.Calls.{Call, WriteCall, ReadCall}
 use Rattle.peer_forward.proofs.CallLemmas.{each-append}
 use Rattle.node_threads.specs.StreamCalls.{given, IsRead, IsFailedRead, Wrote, Read, ReadToEnd}

@@ -24,7 +24,7 @@ use Rattle.startup.specs.declared.first.First.TheVariants as first
 use Rattle.client_state.specs.Acts.{fatal}
 use Rattle.node_threads.specs.declared.login.first_packets.Opened.{Opened}
 use Rattle.node_threads.specs.declared.login.first_packets.Opened.TheVariants.{Session, Cancel, Over}
-use Rattle.node_threads.specs.StreamCalls.{given, IsDone, IsWrite, IsFailedWrite, IsRead, Wrote, WroteSome, Read, SomeCalls}
+use Rattle.node_threads.specs.StreamCalls.{given, IsDone, IsWrite, IsRead, Wrote, WroteSome, Read, SomeCalls}
 use Rattle.node_threads.specs.Opening.{Negotiation, Ssl, Gss, packet_of, Asks, Negotiated, WritesError, IsRefusedFor, EndsBy, Ends, Opens, Begins, IsSession}
 use Rattle.peer_forward.proofs.CallLemmas.{Makes-append, taken-append, each-append, taken_is}
 use Rattle.node_threads.proofs.CallLists.{given-append}
@@ -127,25 +127,25 @@ read_some_more wrote gave a b buffer count old new some call is = (
 )
 
 -- no frame begins no bytes, and no fault stands there
-no_frame : BeginsNoFrame []
+no_frame : (limit : ℕ) → BeginsNoFrame limit []
 unfolding text
-no_frame frame more is e = cc
+no_frame limit frame more is e = cc
 
-no_fault : HasFault [] None
+no_fault : (limit : ℕ) → HasFault limit [] None
 unfolding fault_at
-no_fault = record {
+no_fault limit = record {
   frames = [];
   rest = [];
-  cuts = record { whole = refl; each = tt; longest = no_frame };
+  cuts = record { whole = refl; each = tt; longest = no_frame limit };
   stands = refl;
 }
 
 -- the bytes were taken for the session
-pub begun : {T : Type 0} (wrote gave : Effect T) (a : T) (kept rest behind : List ℕ)
-    → kept ≡ [] → (HasFault kept None → behind ≡ kept ++ rest)
+pub begun : {T : Type 0} (limit : ℕ) (wrote gave : Effect T) (a : T) (kept rest behind : List ℕ)
+    → kept ≡ [] → (HasFault limit kept None → behind ≡ kept ++ rest)
     → SomeCalls wrote gave a a (λ calls. (calls ≡ []) × (behind ≡ rest))
-begun wrote gave a kept rest behind empty fed =
-    let none = subst (λ (xs : List ℕ). HasFault xs None) (sym empty) no_fault in
+begun limit wrote gave a kept rest behind empty fed =
+    let none = subst (λ (xs : List ℕ). HasFault limit xs None) (sym empty) (no_fault limit) in
     ([], refl, (refl, fed none ∙ ap (λ xs. xs ++ rest) empty))
 
 -- writes wrote, reads read

@@ -1,7 +1,7 @@
 //! `serve`: a group of nodes serves clients, until the process is stopped.
 use crate::standing_in::stand_in_for_servers;
 use command_line::{ServeRequest, version};
-use group_server::{Host, ServeError, ServeOptions, serve_group};
+use group_server::{Host, MessageLimit, ServeError, ServeOptions, serve_group};
 use ini_config::Group;
 use std::alloc::Global;
 use std::io::Write;
@@ -26,6 +26,7 @@ pub(crate) fn serve<H: Host, W: Write>(
         seed,
         boot: request.boot,
         reports: &request.reports,
+        max_message: MessageLimit::DEFAULT,
     };
     serve_group(host, alloc, group, &options, out)
 }

@@ -9,6 +9,7 @@ use node_core::{
 };
 use node_threads::{Admission, Gate, Opener, Service, serve_cancel};
 use peer_forward::WriteCalls;
+use pg_frames::MessageLimit;
 use pg_ids::{AnyKey, Boot, Kind, PeerNo, Secret};
 use startup::Reports;
 use stat_board::{Board, BoardSeat};
@@ -141,6 +142,7 @@ impl Node {
             shared: &self.shared,
             settings: &self.settings,
             reports: &Reports::new(alloc),
+            limit: &MessageLimit::DEFAULT,
             admission: &self.admission,
             opener,
             gate,

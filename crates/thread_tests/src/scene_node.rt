@@ -8,7 +8,7 @@ use link_pool::Claim;
 use locked_node::{Caller as LockCaller, Journal, Shared};
 use node_core::NodeCore;
 use node_threads::{Admission, Gate, Link, Service, serve_cancel, serve_client};
-use pg_frames::Cutter;
+use pg_frames::{Cutter, MessageLimit};
 use pg_ids::{AnyKey, Boot, DatabaseNo, Kind, PeerNo, Secret};
 use startup::Reports;
 use stat_board::Board;
@@ -105,6 +105,7 @@ impl Node {
             shared: &self.lock,
             settings: &self.settings,
             reports: &Reports::new(alloc),
+            limit: &MessageLimit::DEFAULT,
             admission: &admission,
             opener: &visit.dialer(),
             gate,
@@ -139,6 +140,7 @@ impl Node {
             shared: &self.lock,
             settings: &self.settings,
             reports: &Reports::new(alloc),
+            limit: &MessageLimit::DEFAULT,
             admission: &admission,
             opener: &visit.dialer(),
             gate,
