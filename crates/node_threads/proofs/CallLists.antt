@@ -19,7 +19,8 @@ pub Read-append : (a b : List ℕ) (xs ys : List Call) → Read a xs → Read b 
     → Read (a ++ b) (xs ++ ys)
 Read-append a b xs ys first more = record {
   each = each-append IsRead xs ys first.each more.each;
-  whole = given-append xs ys ∙ ap (λ zs. zs ++ given ys) first.whole ∙ ap (λ zs. a ++ zs) more.whole;
+  whole = given-append xs ys ∙ ap (λ zs. zs ++ given ys) first.whole
+      ∙ ap (λ zs. a ++ zs) more.whole;
 }
 
 pub Read-nothing : Read [] []

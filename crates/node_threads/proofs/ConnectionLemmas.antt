@@ -25,14 +25,17 @@ place_is group read settings name found place was is of same =
     ap (λ (s : NodeSettings). place_of name s.databases) (sym one) ∙ sym of ∙ same
 
 -- the database at this place has it, and these are the parameters that logins report
-pub serves_some : {T C : Type 0} (limit at : ℕ) (wrote gave : Effect T) (wrote' gave' : Effect C) (a b : C)
+pub serves_some : {T C : Type 0} (limit at : ℕ) (wrote gave : Effect T) (wrote' gave' : Effect C)
+    (a b : C)
     (reports same : List Report) (place : Option ℕ) (database secret : ℕ) (kind : Kind)
-    (kept left : List ℕ) (old new : CallerView) → at ≡ limit → reports ≡ same → place ≡ Some database
+    (kept left : List ℕ) (old new : CallerView) → at ≡ limit → reports ≡ same
+    → place ≡ Some database
     → SomeCalls wrote' gave' a b
     (λ calls. ServesClient at wrote gave reports database secret kind kept calls left old new)
     → SomeCalls wrote' gave' a b
     (λ calls. ServesAt limit wrote gave same place kind kept calls left old new)
-serves_some limit at wrote gave wrote' gave' a b reports same place database secret kind kept left old new
+serves_some limit at wrote gave wrote' gave' a b reports same place database secret kind kept left
+    old new
     limit_is are is serves =
     let here : SomeCalls wrote' gave' a b
     (λ calls. ServesClient limit wrote gave reports database secret kind kept calls left old new) =

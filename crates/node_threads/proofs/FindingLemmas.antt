@@ -16,21 +16,25 @@ use Rattle.node_threads.specs.Progress.{asking}
 use Rattle.node_threads.specs.Finding.{gathering, Comes, Finds}
 
 -- what follows a message that was gathered
-comes_later : (limit : ℕ) (leased : Bool) (database : ℕ) (gathered kept more : List ℕ) (frame : Frame) (parts : List Frame)
+comes_later : (limit : ℕ) (leased : Bool) (database : ℕ) (gathered kept more : List ℕ)
+    (frame : Frame) (parts : List Frame)
     (last : Frame) (says : ClientMessage) (left : List ℕ) → IsFrame limit frame
     → client_message limit (length gathered) frame ≡ message.Gathered → kept ≡ text frame ++ more
-    → Comes limit (gathering limit leased database (gathered ++ text frame)) more parts last says left
+    → Comes limit (gathering limit leased database (gathered ++ text frame)) more parts last says
+    left
     → Comes limit (gathering limit leased database gathered) kept (frame ∷ parts) last says left
-comes_later limit leased database gathered kept more frame parts last says left is means whole comes = record {
-  whole = whole ∙ ap (λ xs. text frame ++ xs) comes.whole
-      ∙ sym (append_assoc (text frame) (texts parts) (text last ++ left));
-  gathered = (is, means, comes.gathered);
-  is_frame = comes.is_frame;
-  means = ap (λ xs. client_message limit (length xs) last)
-      (sym (append_assoc gathered (text frame) (texts parts))) ∙ comes.means;
-}
+comes_later limit leased database gathered kept more frame parts last says left is means whole
+    comes = record {
+      whole = whole ∙ ap (λ xs. text frame ++ xs) comes.whole
+          ∙ sym (append_assoc (text frame) (texts parts) (text last ++ left));
+      gathered = (is, means, comes.gathered);
+      is_frame = comes.is_frame;
+      means = ap (λ xs. client_message limit (length xs) last)
+          (sym (append_assoc gathered (text frame) (texts parts))) ∙ comes.means;
+    }
 
-pub finds_later : (limit : ℕ) (leased : Bool) (database : ℕ) (gathered kept more : List ℕ) (frame : Frame) (found : Found)
+pub finds_later : (limit : ℕ) (leased : Bool) (database : ℕ) (gathered kept more : List ℕ)
+    (frame : Frame) (found : Found)
     (new : Session) (left : List ℕ) → IsFrame limit frame
     → client_message limit (length gathered) frame ≡ message.Gathered → kept ≡ text frame ++ more
     → Finds limit (gathering limit leased database (gathered ++ text frame)) more found new left
@@ -41,23 +45,29 @@ finds_later limit leased database gathered kept more frame More new left is mean
       ∙ sym (append_assoc (text frame) (texts finds.0) left),
   (is, means, finds.2),
   finds.3,
-  finds.4 ∙ ap (λ xs. gathering limit leased database xs) (append_assoc gathered (text frame) (texts finds.0)),
+  finds.4
+      ∙ ap (λ xs. gathering limit leased database xs) (append_assoc gathered (text frame) (texts
+      finds.0)),
 )
-finds_later limit leased database gathered kept more frame (Request request) new left is means whole finds = (
-  frame ∷ finds.0,
-  finds.1,
-  comes_later limit leased database gathered kept more frame finds.0 finds.1 message.Request left is means whole
-      finds.2,
-  finds.3 ∙ ap (λ xs. xs ++ text finds.1) (append_assoc gathered (text frame) (texts finds.0)),
-  finds.4,
-)
-finds_later limit leased database gathered kept more frame (End reply) new left is means whole finds =
+finds_later limit leased database gathered kept more frame (Request request) new left is means
+    whole finds = (
+      frame ∷ finds.0,
+      finds.1,
+      comes_later limit leased database gathered kept more frame finds.0 finds.1 message.Request left
+          is means whole
+          finds.2,
+      finds.3 ∙ ap (λ xs. xs ++ text finds.1) (append_assoc gathered (text frame) (texts finds.0)),
+      finds.4,
+    )
+finds_later limit leased database gathered kept more frame (End reply) new left is means whole
+    finds =
     elim finds [
       | inl says ↦ inl (
         frame ∷ says.0,
         says.1,
         says.2,
-        comes_later limit leased database gathered kept more frame says.0 says.1 says.2 left is means whole
+        comes_later limit leased database gathered kept more frame says.0 says.1 says.2 left is
+            means whole
             says.3,
         says.4,
       )
@@ -72,12 +82,14 @@ finds_later limit leased database gathered kept more frame (End reply) new left 
     ]
 
 -- memory was refused at once
-pub finds_no_memory : (limit : ℕ) (old new : Session) (kept left : List ℕ) (reply : List ℕ) → reply ≡ []
+pub finds_no_memory : (limit : ℕ) (old new : Session) (kept left : List ℕ) (reply : List ℕ)
+    → reply ≡ []
     → Finds limit old kept (End reply) new left
 finds_no_memory limit old new kept left reply is = inr ([], kept, refl, tt, is)
 
 -- the message is the first of what is there
-comes_first : (limit : ℕ) (leased : Bool) (database : ℕ) (gathered kept left : List ℕ) (frame : Frame) (says : ClientMessage)
+comes_first : (limit : ℕ) (leased : Bool) (database : ℕ) (gathered kept left : List ℕ)
+    (frame : Frame) (says : ClientMessage)
     → IsFrame limit frame → kept ≡ text frame ++ left
     → client_message limit (length gathered) frame ≡ says
     → Comes limit (gathering limit leased database gathered) kept [] frame says left
@@ -175,7 +187,8 @@ act_gathered : (limit : ℕ) (says : ClientMessage) (leased : Bool) (database : 
     → ActsOn says (gathering limit leased database gathered) frame act new
     → (says ≡ message.Gathered) × (new ≡ gathering limit leased database (gathered ++ text frame))
 act_gathered limit message.Request leased database gathered frame act new has acts = elim acts [
-  | inl is ↦ absurd (not_true (has_gone act _ false is.0 has (asks_goes leased (gathered ++ text frame))))
+  | inl is ↦ absurd (not_true (has_gone act _ false is.0 has (asks_goes leased (gathered ++ text
+      frame))))
   | inr is ↦ absurd (not_true (has_gone act _ false is.0 has (ends_goes leased [])))
 ]
 act_gathered limit message.Gathered leased database gathered frame act new has acts = elim acts [
@@ -186,37 +199,47 @@ act_gathered limit message.Terminate leased database gathered frame act new has 
   | inl is ↦ absurd (not_true (has_gone act _ false is.0 has (ends_goes leased [])))
   | inr is ↦ absurd (not_true (has_gone act _ false is.0 has (ends_goes leased [])))
 ]
-act_gathered limit (message.Refused code) leased database gathered frame act new has acts = elim acts [
-  | inl is ↦ absurd (not_true (has_gone act _ false is.0 has (ends_goes leased (fatal code))))
-  | inr is ↦ absurd (not_true (has_gone act _ false is.0 has (ends_goes leased [])))
-]
+act_gathered limit (message.Refused code) leased database gathered frame act new has acts = elim
+    acts [
+      | inl is ↦ absurd (not_true (has_gone act _ false is.0 has (ends_goes leased (fatal code))))
+      | inr is ↦ absurd (not_true (has_gone act _ false is.0 has (ends_goes leased [])))
+    ]
 
 act_request : (limit : ℕ) (says : ClientMessage) (leased : Bool) (database : ℕ) (gathered : List ℕ)
     (frame : Frame) (act : Act) (request : List ℕ) (new : Session)
     → request_in act ≡ Some request
     → ActsOn says (gathering limit leased database gathered) frame act new
     → (says ≡ message.Request) × (request ≡ gathered ++ text frame) × (new ≡ asking limit database)
-act_request limit message.Request leased database gathered frame act request new has acts = elim acts [
-  | inl is ↦ (
-    refl,
-    sym (some_same (gathered ++ text frame) request
-        (has_request act _ request _ is.0 has (asks_requests leased (gathered ++ text frame)))),
-    is.1,
-  )
-  | inr is ↦ absurd (no_request request (has_request act _ request None is.0 has (ends_requests leased [])))
-]
-act_request limit message.Gathered leased database gathered frame act request new has acts = elim acts [
-  | inl is ↦ absurd (no_request request (has_request act _ request None is.0 has refl))
-  | inr is ↦ absurd (no_request request (has_request act _ request None is.0 has (ends_requests leased [])))
-]
-act_request limit message.Terminate leased database gathered frame act request new has acts = elim acts [
-  | inl is ↦ absurd (no_request request (has_request act _ request None is.0 has (ends_requests leased [])))
-  | inr is ↦ absurd (no_request request (has_request act _ request None is.0 has (ends_requests leased [])))
-]
+act_request limit message.Request leased database gathered frame act request new has acts = elim
+    acts [
+      | inl is ↦ (
+        refl,
+        sym (some_same (gathered ++ text frame) request
+            (has_request act _ request _ is.0 has (asks_requests leased (gathered ++ text frame)))),
+        is.1,
+      )
+      | inr is ↦ absurd (no_request request (has_request act _ request None is.0 has (ends_requests
+          leased [])))
+    ]
+act_request limit message.Gathered leased database gathered frame act request new has acts = elim
+    acts [
+      | inl is ↦ absurd (no_request request (has_request act _ request None is.0 has refl))
+      | inr is ↦ absurd (no_request request (has_request act _ request None is.0 has (ends_requests
+          leased [])))
+    ]
+act_request limit message.Terminate leased database gathered frame act request new has acts = elim
+    acts [
+      | inl is ↦ absurd (no_request request (has_request act _ request None is.0 has (ends_requests
+          leased [])))
+      | inr is ↦ absurd (no_request request (has_request act _ request None is.0 has (ends_requests
+          leased [])))
+    ]
 act_request limit (message.Refused code) leased database gathered frame act request new has acts =
     elim acts [
-      | inl is ↦ absurd (no_request request (has_request act _ request None is.0 has (ends_requests leased (fatal code))))
-      | inr is ↦ absurd (no_request request (has_request act _ request None is.0 has (ends_requests leased [])))
+      | inl is ↦ absurd (no_request request (has_request act _ request None is.0 has (ends_requests
+          leased (fatal code))))
+      | inr is ↦ absurd (no_request request (has_request act _ request None is.0 has (ends_requests
+          leased [])))
     ]
 
 -- the session ends without an error where memory was refused
@@ -230,7 +253,8 @@ act_close : (limit : ℕ) (says : ClientMessage) (leased : Bool) (database : ℕ
     → ActsOn says (gathering limit leased database gathered) frame act new
     → IsSaid says reply ⊎ (reply ≡ [])
 act_close limit message.Request leased database gathered frame act reply new has acts = elim acts [
-  | inl is ↦ absurd (no_request reply (has_reply act _ reply None is.0 has (asks_replies leased (gathered ++ text frame))))
+  | inl is ↦ absurd (no_request reply (has_reply act _ reply None is.0 has (asks_replies leased
+      (gathered ++ text frame))))
   | inr is ↦ inr (act_silent leased act reply has is.0)
 ]
 act_close limit message.Gathered leased database gathered frame act reply new has acts = elim acts [
@@ -251,44 +275,55 @@ act_close limit (message.Refused code) leased database gathered frame act reply 
 -- the session as it is known
 at_session : (limit : ℕ) (old : Session) (frame : Frame) (act : Act) (new : Session)
     → old ≡ gathering limit old.leased old.database old.gathered → ActsOnClient old frame act new
-    → ActsOn (client_message limit (length old.gathered) frame) (gathering limit old.leased old.database old.gathered)
+    → ActsOn (client_message limit (length old.gathered) frame) (gathering limit old.leased
+    old.database old.gathered)
     frame act new
 at_session limit old frame act new is acts =
     let here : ActsOn (client_message limit (length old.gathered) frame) old frame act new =
     subst (λ (n : ℕ). ActsOn (client_message n (length old.gathered) frame) old frame act new)
     (ap (λ (s : Session). s.limit) is) acts in
-    subst (λ (s : Session). ActsOn (client_message limit (length old.gathered) frame) s frame act new) is
+    subst (λ (s : Session). ActsOn (client_message limit
+    (length old.gathered) frame) s frame act new) is
     here
 
 -- a message that is gathered
 pub gathers : (limit : ℕ) (old : Session) (frame : Frame) (reply : List ℕ) (new : Session)
-    → old ≡ gathering limit old.leased old.database old.gathered → ActsOnClient old frame (ToClient reply) new
+    → old ≡ gathering limit old.leased old.database old.gathered
+    → ActsOnClient old frame (ToClient reply) new
     → (client_message limit (length old.gathered) frame ≡ message.Gathered)
     × (new ≡ gathering limit old.leased old.database (old.gathered ++ text frame))
 gathers limit old frame reply new is acts =
-    act_gathered limit (client_message limit (length old.gathered) frame) old.leased old.database old.gathered
+    act_gathered limit (client_message limit (length old.gathered) frame) old.leased old.database
+    old.gathered
     frame (ToClient reply) new refl (at_session limit old frame (ToClient reply) new is acts)
 
 -- a message with which a request is whole
-pub finds_request : (limit : ℕ) (old new : Session) (kept left request : List ℕ) (act : Act) (frame : Frame)
+pub finds_request : (limit : ℕ) (old new : Session) (kept left request : List ℕ) (act : Act)
+    (frame : Frame)
     → request_in act ≡ Some request
-    → old ≡ gathering limit old.leased old.database old.gathered → IsFrame limit frame → kept ≡ text frame ++ left
+    → old ≡ gathering limit old.leased old.database old.gathered → IsFrame limit frame
+    → kept ≡ text frame ++ left
     → ActsOnClient old frame act new
-    → Finds limit (gathering limit old.leased old.database old.gathered) kept (Request request) new left
+    → Finds limit (gathering limit old.leased old.database old.gathered) kept (Request request) new
+    left
 finds_request limit old new kept left request act frame has is frame_is whole acts =
-    let asked = act_request limit (client_message limit (length old.gathered) frame) old.leased old.database
+    let asked = act_request limit (client_message limit (length old.gathered) frame) old.leased
+    old.database
     old.gathered frame act request new has (at_session limit old frame act new is acts) in (
       [],
       frame,
-      comes_first limit old.leased old.database old.gathered kept left frame message.Request frame_is whole asked.0,
+      comes_first limit old.leased old.database old.gathered kept left frame message.Request
+          frame_is whole asked.0,
       asked.1 ∙ ap (λ xs. xs ++ text frame) (sym (append-nil old.gathered)),
       asked.2,
     )
 
 -- a message that ends the session
-pub finds_end : (limit : ℕ) (old new : Session) (kept left reply : List ℕ) (act : Act) (frame : Frame)
+pub finds_end : (limit : ℕ) (old new : Session) (kept left reply : List ℕ) (act : Act)
+    (frame : Frame)
     → reply_in act ≡ Some reply
-    → old ≡ gathering limit old.leased old.database old.gathered → IsFrame limit frame → kept ≡ text frame ++ left
+    → old ≡ gathering limit old.leased old.database old.gathered → IsFrame limit frame
+    → kept ≡ text frame ++ left
     → ActsOnClient old frame act new
     → Finds limit (gathering limit old.leased old.database old.gathered) kept (End reply) new left
 finds_end limit old new kept left reply act frame has is frame_is whole acts =
@@ -299,31 +334,39 @@ finds_end limit old new kept left reply act frame has is frame_is whole acts =
         [],
         frame,
         says,
-        comes_first limit old.leased old.database old.gathered kept left frame says frame_is whole refl,
+        comes_first limit old.leased old.database old.gathered kept left frame says frame_is whole
+            refl,
         said,
       )
-      | inr none ↦ finds_no_memory limit (gathering limit old.leased old.database old.gathered) new kept left reply none
+      | inr none ↦ finds_no_memory limit (gathering limit old.leased old.database old.gathered) new
+          kept left reply none
     ]
 
 -- no more whole message is there
 pub finds_more : (limit : ℕ) (session : Session) (kept left : List ℕ)
-    → session ≡ gathering limit session.leased session.database session.gathered → BeginsNoFrame limit kept → left ≡ kept
-    → Finds limit (gathering limit session.leased session.database session.gathered) kept More session left
+    → session ≡ gathering limit session.leased session.database session.gathered
+    → BeginsNoFrame limit kept → left ≡ kept
+    → Finds limit (gathering limit session.leased session.database session.gathered) kept More
+    session left
 finds_more limit session kept left is none same = (
   [],
   sym same,
   tt,
   subst (BeginsNoFrame limit) (sym same) none,
   is
-      ∙ ap (λ xs. gathering limit session.leased session.database xs) (sym (append-nil session.gathered)),
+      ∙ ap (λ xs. gathering limit session.leased session.database xs) (sym (append-nil
+      session.gathered)),
 )
 
 -- a message was gathered, and the next is looked for
-pub gathered_on : (limit : ℕ) (old session new : Session) (start kept left reply : List ℕ) (frame : Frame)
-    → session ≡ gathering limit session.leased session.database session.gathered → IsFrame limit frame
+pub gathered_on : (limit : ℕ) (old session new : Session) (start kept left reply : List ℕ)
+    (frame : Frame)
+    → session ≡ gathering limit session.leased session.database session.gathered
+    → IsFrame limit frame
     → kept ≡ text frame ++ left → ActsOnClient session frame (ToClient reply) new
     → ((found : Found) (last : Session) (rest : List ℕ)
-    → Finds limit (gathering limit session.leased session.database session.gathered) kept found last rest
+    → Finds limit (gathering limit session.leased session.database session.gathered) kept found
+    last rest
     → Finds limit old start found last rest)
     → (new ≡ gathering limit new.leased new.database new.gathered)
     × ((found : Found) (last : Session) (rest : List ℕ)
@@ -335,7 +378,8 @@ gathered_on limit old session new start kept left reply frame is frame_is whole 
     subst (λ (s : Session). s ≡ gathering limit s.leased s.database s.gathered) (sym act.1) refl in (
       same,
       λ found last rest finds. before found last rest (
-          finds_later limit session.leased session.database session.gathered kept left frame found last rest frame_is act.0
+          finds_later limit session.leased session.database session.gathered kept left frame found
+          last rest frame_is act.0
           whole
           (subst (λ (s : Session). Finds limit s left found last rest) (sym same ∙ act.1) finds)
           ),

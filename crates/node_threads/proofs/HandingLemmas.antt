@@ -70,13 +70,15 @@ none_open limit AtReady shown is = absurd (none_some 1 is.0)
 none_open limit (Status status) shown is = absurd (none_some 0 is.0)
 
 -- the head that was handed out between two frames
-head_between : (limit : ℕ) (stream written : List ℕ) (old new : Passage) (kind size : ℕ) (m : LinkMessage)
+head_between : (limit : ℕ) (stream written : List ℕ) (old new : Passage) (kind size : ℕ)
+    (m : LinkMessage)
     (handed : Handed) → HandedOut limit stream written Between old → IsHead limit kind size
     → old.bytes ≡ head_text kind size ++ new.bytes → new.left ≡ Some (size - 4)
     → new.passed ≡ old.passed ++ head_text kind size → new.limit ≡ old.limit
     → link_message kind size ≡ m
     → HeadMeans (act_on_head m 1) handed → HandsOut limit stream written handed new
-head_between limit stream written old new kind size PassOn handed out head bytes_are left_is passed_is
+head_between limit stream written old new kind size PassOn handed out head bytes_are left_is
+    passed_is
     same means seen =
     let shown_is : IsShown limit Inside new.left (head_text kind size) = (
       kind,
@@ -109,7 +111,8 @@ head_between limit stream written old new kind size PassOn handed out head bytes
           ∙ append-nil (texts out.frames));
     } in
     subst (λ (h : Handed). HandsOut limit stream written h new) (sym seen) here
-head_between limit stream written old new kind size ReadyHead handed out head bytes_are left_is passed_is
+head_between limit stream written old new kind size ReadyHead handed out head bytes_are left_is
+    passed_is
     same means seen =
     let is = ready_head kind size means in
     let text_same : head_text kind size ≡ head_text 90 5 =
@@ -130,7 +133,8 @@ head_between limit stream written old new kind size ReadyHead handed out head by
           ∙ out.written_is ∙ ap (λ xs. texts out.frames ++ xs) out.is_shown.1;
     } in
     subst (λ (h : Handed). HandsOut limit stream written h new) (sym seen) here
-head_between limit stream written old new kind size (RefusedHead code) handed out head bytes_are left_is
+head_between limit stream written old new kind size (RefusedHead code) handed out head bytes_are
+    left_is
     passed_is same means seen =
     let here : (reply : List ℕ) → (reply ≡ fatal code) ⊎ (reply ≡ [])
     → HandedUnfit limit stream written reply new = λ reply error. record {
@@ -158,7 +162,8 @@ head_between limit stream written old new kind size (RefusedHead code) handed ou
     ]
 
 -- the head that was handed out
-hands_head : (limit : ℕ) (stream written : List ℕ) (place : Place) (old new : Passage) (kind size : ℕ)
+hands_head : (limit : ℕ) (stream written : List ℕ) (place : Place) (old new : Passage)
+    (kind size : ℕ)
     (handed : Handed) → HandedOut limit stream written place old
     → Hands old (Some (Head kind size)) new
     → HeadMeans (act_on_head (link_message kind size) 1) handed
@@ -168,7 +173,8 @@ hands_head limit stream written place old new kind size handed out hands seen =
     (subst (λ (l : Option ℕ). IsShown limit place l out.shown) hands.0 out.is_shown) in
     head_between limit stream written old new kind size (link_message kind size) handed
     (subst (λ (p : Place). HandedOut limit stream written p old) closed.0 out)
-    (subst (λ (n : ℕ). IsHead n kind size) out.limit_is hands.1) hands.2 hands.3 hands.4 hands.5 refl
+    (subst
+    (λ (n : ℕ). IsHead n kind size) out.limit_is hands.1) hands.2 hands.3 hands.4 hands.5 refl
     seen
 
 -- a part of a body inside a frame that is passed on
@@ -217,7 +223,8 @@ part_at_ready : (limit : ℕ) (stream written : List ℕ) (old new : Passage) (p
     → old.left ≡ Some (length part + more) → old.bytes ≡ part ++ new.bytes
     → new.left ≡ Some more → new.passed ≡ old.passed ++ part → new.limit ≡ old.limit
     → HandedOut limit stream written (after_part AtReady part) new
-part_at_ready limit stream written old new [] more out some left_was bytes_are left_is passed_is same =
+part_at_ready limit stream written old new [] more out some left_was bytes_are left_is passed_is
+    same =
     absurd (omega (arith, some))
 part_at_ready limit stream written old new (status ∷ rest) more out some left_was bytes_are left_is
     passed_is same =
@@ -242,24 +249,31 @@ part_at_ready limit stream written old new (status ∷ rest) more out some left_
     }
 
 -- the part that was handed out
-hands_part : (limit : ℕ) (stream written : List ℕ) (place : Place) (old new : Passage) (part : List ℕ)
+hands_part : (limit : ℕ) (stream written : List ℕ) (place : Place) (old new : Passage)
+    (part : List ℕ)
     (more : ℕ) → HandedOut limit stream written place old → 0 < length part
     → old.left ≡ Some (length part + more) → old.bytes ≡ part ++ new.bytes
     → new.left ≡ Some more → new.passed ≡ old.passed ++ part → new.limit ≡ old.limit
     → HandedOut limit stream written (after_part place part) new
-hands_part limit stream written Between old new part more out some left_was bytes_are left_is passed_is same =
+hands_part limit stream written Between old new part more out some left_was bytes_are left_is
+    passed_is same =
     absurd (none_some (length part + more) (sym out.is_shown.0 ∙ left_was))
-hands_part limit stream written Inside old new part more out some left_was bytes_are left_is passed_is same =
+hands_part limit stream written Inside old new part more out some left_was bytes_are left_is
+    passed_is same =
     part_inside limit stream written old new part more out left_was bytes_are left_is passed_is same
-hands_part limit stream written AtReady old new part more out some left_was bytes_are left_is passed_is same =
-    part_at_ready limit stream written old new part more out some left_was bytes_are left_is passed_is same
-hands_part limit stream written (Status status) old new part more out some left_was bytes_are left_is
+hands_part limit stream written AtReady old new part more out some left_was bytes_are left_is
+    passed_is same =
+    part_at_ready limit stream written old new part more out some left_was bytes_are left_is
+    passed_is same
+hands_part limit stream written (Status status) old new part more out some left_was bytes_are
+    left_is
     passed_is same =
     let count = some_some 0 (length part + more) (sym out.is_shown.0 ∙ left_was) in
     absurd (omega (arith, count, some))
 
 -- the tail of a frame that is passed on
-tail_inside : (limit : ℕ) (stream written : List ℕ) (old new : Passage) → HandedOut limit stream written Inside old
+tail_inside : (limit : ℕ) (stream written : List ℕ) (old new : Passage)
+    → HandedOut limit stream written Inside old
     → old.left ≡ Some 0 → new.left ≡ None → new.bytes ≡ old.bytes → new.passed ≡ old.passed
     → new.limit ≡ old.limit → HandedOut limit stream written Between new
 tail_inside limit stream written old new out left_was left_is bytes_are passed_is same =
@@ -271,7 +285,11 @@ tail_inside limit stream written old new out left_was left_is bytes_are passed_i
     let sizes : size ≡ 4 + length body = omega (arith, was.8, count) in
     let frame : Frame = record { kind = kind; body = body } in
     let is : IsPassedOn limit frame = record {
-      is_frame = record { type_byte = was.4.type_byte; size = omega (arith, sizes, was.4.high); fits = omega (arith, sizes, was.4.fits) };
+      is_frame = record {
+        type_byte = was.4.type_byte;
+        size = omega (arith, sizes, was.4.high);
+        fits = omega (arith, sizes, was.4.fits);
+      };
       means = ap (λ n. link_message kind n) (sym sizes) ∙ was.5;
     } in
     let shown_is : out.shown ≡ text frame =
@@ -323,12 +341,15 @@ hands_tail limit stream written Inside old new out left_was left_is bytes_are pa
     tail_inside limit stream written old new out left_was left_is bytes_are passed_is same
 hands_tail limit stream written AtReady old new out left_was left_is bytes_are passed_is same =
     let count = some_some 1 0 (sym out.is_shown.0 ∙ left_was) in absurd (omega (arith, count))
-hands_tail limit stream written (Status status) old new out left_was left_is bytes_are passed_is same =
+hands_tail limit stream written (Status status) old new out left_was left_is bytes_are passed_is
+    same =
     tail_at_status limit stream written status old new out left_is bytes_are passed_is same
 
 -- a whole frame that is passed on
-pub hands_whole : (limit : ℕ) (stream written : List ℕ) (place : Place) (old new : Passage) (head : Header)
-    → HandedOut limit stream written place old → old.left ≡ None → BeginsWith old.limit old.bytes head
+pub hands_whole : (limit : ℕ) (stream written : List ℕ) (place : Place) (old new : Passage)
+    (head : Header)
+    → HandedOut limit stream written place old → old.left ≡ None
+    → BeginsWith old.limit old.bytes head
     → 1 + head.length ≤ length old.bytes → link_message head.kind head.length ≡ PassOn
     → new.passed ≡ old.passed ++ take (1 + head.length) old.bytes → new.left ≡ None
     → new.bytes ≡ drop (1 + head.length) old.bytes → new.limit ≡ old.limit
@@ -359,11 +380,14 @@ hands_whole limit stream written place old new head out closed begins whole mean
       left = Some 0;
       bytes = rest;
     } in
-    let inside : HandedOut limit stream written Inside begun = head_between limit stream written old begun
+    let inside : HandedOut limit stream written Inside begun = head_between limit stream written
+    old begun
     head.kind head.length PassOn (More Inside) between
-    (subst (λ (n : ℕ). IsHead n head.kind head.length) out.limit_is begins.head) begins.whole refl refl
+    (subst
+    (λ (n : ℕ). IsHead n head.kind head.length) out.limit_is begins.head) begins.whole refl refl
     refl means refl in
-    let full : HandedOut limit stream written Inside filled = part_inside limit stream written begun filled body 0
+    let full : HandedOut limit stream written Inside filled = part_inside limit stream written
+    begun filled body 0
     inside (ap Some (omega (arith, long))) (sym (take-append-drop size more)) refl refl refl in
     let all : old.bytes ≡ (front ++ body) ++ rest =
     begins.whole ∙ ap (λ xs. front ++ xs) (sym (take-append-drop size more))
@@ -378,22 +402,27 @@ hands_whole limit stream written place old new head out closed begins whole mean
     ∙ drop_at (front ++ body) rest (1 + head.length) (sym fits) in
     let passed : new.passed ≡ filled.passed =
     passed_is ∙ ap (λ xs. old.passed ++ xs) front_is ∙ sym (append_assoc old.passed front body) in
-    let done = tail_inside limit stream written filled new full refl left_is (bytes_are ∙ rest_is) passed
+    let done = tail_inside limit stream written filled new full refl left_is (bytes_are
+    ∙ rest_is) passed
     same in
     subst (λ (p : Place). HandedOut limit stream written p new) (sym here.0) done
 
 -- the piece that was handed out
-pub hands_piece : (limit : ℕ) (stream written : List ℕ) (place : Place) (old new : Passage) (piece : Piece)
+pub hands_piece : (limit : ℕ) (stream written : List ℕ) (place : Place) (old new : Passage)
+    (piece : Piece)
     (handed : Handed) (session session' : Session) → session ≡ asking session.limit session.database
     → HandedOut limit stream written place old → Hands old (Some piece) new
     → PieceMeans place session piece handed session' → HandsOut limit stream written handed new
-hands_piece limit stream written place old new (Head kind size) handed session session' is out hands seen =
+hands_piece limit stream written place old new (Head kind size) handed session session' is out
+    hands seen =
     hands_head limit stream written place old new kind size handed out hands
     (subst (λ n. HeadMeans (act_on_head (link_message kind size) n) handed)
     (ap (λ s. s.outstanding) is) seen.0)
-hands_piece limit stream written place old new (Part part) handed session session' is out hands seen =
+hands_piece limit stream written place old new (Part part) handed session session' is out hands
+    seen =
     subst (λ (h : Handed). HandsOut limit stream written h new) (sym seen.0)
-    (hands_part limit stream written place old new part.now hands.0 out hands.1 hands.2 hands.3 hands.4
+    (hands_part limit stream written place old new part.now hands.0 out hands.1 hands.2 hands.3
+    hands.4
     hands.5 hands.6)
 hands_piece limit stream written place old new Tail handed session session' is out hands seen =
     subst (λ (h : Handed). HandsOut limit stream written h new) (sym seen.0)
@@ -421,7 +450,8 @@ tail_session (Status status) session = refl
 
 -- the session after a piece
 pub piece_session : (place : Place) (piece : Piece) (handed : Handed) (session session' : Session)
-    → session ≡ asking session.limit session.database → PieceMeans place session piece handed session'
+    → session ≡ asking session.limit session.database
+    → PieceMeans place session piece handed session'
     → KeepsSession handed session session'
 piece_session place (Head kind size) handed session session' is seen =
     let outstanding : session.outstanding ≡ 1 = ap (λ s. s.outstanding) is in

@@ -37,8 +37,10 @@ pub same_link : {T : Type 0} (limit : ℕ) (wrote gave : Effect T) (opens : Open
     → IsLoggedIn limit wrote gave opens entries is.database key opened.stream
     → IsLoggedIn limit wrote gave opens entries at.database key link.stream
 same_link limit wrote gave opens entries key at is link opened place stream logged =
-    subst (λ (l : Link _). IsLoggedIn limit wrote gave opens entries at.database key l.stream) (sym stream)
-    (subst (λ (p : LinkPlace). IsLoggedIn limit wrote gave opens entries p.database key opened.stream)
+    subst (λ (l : Link _). IsLoggedIn limit wrote gave opens entries at.database key l.stream)
+    (sym stream)
+    (subst
+    (λ (p : LinkPlace). IsLoggedIn limit wrote gave opens entries p.database key opened.stream)
     (sym place) logged)
 
 -- the node was asked for a link, or told that one is up
@@ -64,7 +66,12 @@ is_denied {S} pass reply old new is counted =
     let said : AcquireReply (LinkValue S) PermitRecord → AcquireReply _ PermitRecord =
     λ r. acquire_said r in
     inl (elim is [
-      | inl holding ↦ (acquire.Holding, refl, subst (λ r. WasAnswered pass r new) (ap said holding) was)
+      | inl holding ↦ (
+        acquire.Holding,
+        refl,
+        subst (λ r. WasAnswered pass r new) (ap said holding)
+            was,
+      )
       | inr none ↦ (acquire.Exhausted, refl, subst (λ r. WasAnswered pass r new) (ap said none) was)
     ])
 

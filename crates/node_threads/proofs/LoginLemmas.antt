@@ -45,7 +45,8 @@ handed_piece before now (piece.Part part) hands = (part, hands)
 handed_piece before now piece.Tail hands = hands
 
 -- where no body's bytes are to come, the reader is between two messages
-between_only : (limit : ℕ) (place : LoginPlace) (login : Login) (frames : List Frame) (shown : List ℕ)
+between_only : (limit : ℕ) (place : LoginPlace) (login : Login) (frames : List Frame)
+    (shown : List ℕ)
     (left : Option ℕ) (kept : List ℕ) → left ≡ None → IsAt limit place login frames shown left kept
     → HasRead login frames × (shown ≡ [])
 between_only limit Between login frames shown left kept none is = (is.0, is.1)
@@ -57,7 +58,8 @@ between_only limit (Up key) login frames shown left kept none is =
     absurd (none_some is.3.more (sym none ∙ is.3.left_is))
 
 -- of the messages that were read, and of one more the head
-record IsBegun (limit : ℕ) (stream : List ℕ) (login : Login) (kind size : ℕ) (now : Passage) : Type 0 where
+record IsBegun (limit : ℕ) (stream : List ℕ) (login : Login) (kind size : ℕ) (now : Passage)
+    : Type 0 where
   pub limit_is : now.limit ≡ limit
   pub frames : List Frame
   pub each : AllByRecursion (IsFrame limit) frames
@@ -65,7 +67,8 @@ record IsBegun (limit : ℕ) (stream : List ℕ) (login : Login) (kind size : �
   pub stream_is : stream ≡ texts frames ++ (head_text kind size ++ now.bytes)
   pub opened : IsOpen limit kind size [] (head_text kind size) now.left
 
-head_begins : (limit : ℕ) (stream : List ℕ) (place : LoginPlace) (login : Login) (before now : Passage)
+head_begins : (limit : ℕ) (stream : List ℕ) (place : LoginPlace) (login : Login)
+    (before now : Passage)
     (kind size : ℕ) → HasCome limit stream place login before
     → Hands before (Some (piece.Head kind size)) now → IsBegun limit stream login kind size now
 head_begins limit stream place login before now kind size come hands =
@@ -94,7 +97,8 @@ pub head_skipped : (limit : ℕ) (stream : List ℕ) (place : LoginPlace) (old n
     → ((frames : List Frame) → HasRead old frames → ReadsOn answer new frames kind size)
     → HasCome limit stream place old before → Hands before (Some (piece.Head kind size)) now
     → HasCome limit stream Passing new after
-head_skipped limit stream place old new before now after kind size answer is after_is reads come hands =
+head_skipped limit stream place old new before now after kind size answer is after_is reads come
+    hands =
     let begun = head_begins limit stream place old before now kind size come hands in
     let whole = subst (λ (a : Result LoginHead LinkError). ReadsOn a new begun.frames kind size) is
     (reads begun.frames begun.read) in
@@ -136,7 +140,8 @@ pub head_read : (limit : ℕ) (stream : List ℕ) (place : LoginPlace) (old new 
     → (answer ≡ Ok (ReadBody n)) ↔ (GoOn frames × (body_part kind size ≡ Some n)))
     → HasCome limit stream place old before → Hands before (Some (piece.Head kind size)) now
     → HasCome limit stream (Reading wanted) new after
-head_read limit stream place old new before now after kind size wanted answer is after_is reads wants come
+head_read limit stream place old new before now after kind size wanted answer is after_is reads
+    wants come
     hands =
     let begun = head_begins limit stream place old before now kind size come hands in
     let head = subst (λ (a : Result LoginHead LinkError). ReadsOn a new begun.frames kind size) is
@@ -162,7 +167,8 @@ head_read limit stream place old new before now after kind size wanted answer is
     subst (λ (p : Passage). HasCome limit stream (Reading wanted) new p) (sym after_is) here
 
 -- a part more of a body
-open_more : (limit : ℕ) (kind size : ℕ) (body shown : List ℕ) (left left' : Option ℕ) (part : List ℕ)
+open_more : (limit : ℕ) (kind size : ℕ) (body shown : List ℕ) (left left' : Option ℕ)
+    (part : List ℕ)
     (more : ℕ) → IsOpen limit kind size body shown left → left ≡ Some (length part + more)
     → left' ≡ Some more → IsOpen limit kind size (body ++ part) (shown ++ part) left'
 open_more limit kind size body shown left left' part more is was now =
@@ -207,7 +213,8 @@ over_more limit shown left left' kept part more P is was now = (
 )
 
 -- a part of a body of which nothing is read
-part_here : (limit : ℕ) (stream : List ℕ) (place : LoginPlace) (login : Login) (before now : Passage)
+part_here : (limit : ℕ) (stream : List ℕ) (place : LoginPlace) (login : Login)
+    (before now : Passage)
     → ((wanted : ℕ) → place ≡ Reading wanted → ⊥) → HasCome limit stream place login before
     → Handed before Part now → HasCome limit stream place login (emptied now)
 part_here limit stream Between login before now not come hands =
@@ -219,7 +226,8 @@ part_here limit stream Passing login before now not come hands =
       frames = come.frames;
       each = come.each;
       shown = come.shown ++ part;
-      stream_is = stream_more stream come.shown part before.bytes now.bytes come.frames come.stream_is
+      stream_is = stream_more stream come.shown part before.bytes now.bytes come.frames
+          come.stream_is
           hands.1.3;
       is_at = over_more limit come.shown before.left now.left before.passed part hands.1.0
           (λ frame. HasRead login (come.frames ++ frame ∷ [])) come.is_at hands.1.2 hands.1.4;
@@ -232,7 +240,8 @@ part_here limit stream (Up key) login before now not come hands =
       frames = come.frames;
       each = come.each;
       shown = come.shown ++ part;
-      stream_is = stream_more stream come.shown part before.bytes now.bytes come.frames come.stream_is
+      stream_is = stream_more stream come.shown part before.bytes now.bytes come.frames
+          come.stream_is
           hands.1.3;
       is_at = over_more limit come.shown before.left now.left before.passed part hands.1.0
           (λ frame. IsUpAt come.frames frame key) come.is_at hands.1.2 hands.1.4;
@@ -247,7 +256,8 @@ part_passed limit stream place login before now after not after_is come hands =
     (part_here limit stream place login before now not come hands)
 
 -- a part more of a body that is read: all that was handed out of it is kept
-record IsKept (limit : ℕ) (stream : List ℕ) (login : Login) (wanted : ℕ) (now : Passage) : Type 0 where
+record IsKept (limit : ℕ) (stream : List ℕ) (login : Login) (wanted : ℕ) (now : Passage)
+    : Type 0 where
   pub limit_is : now.limit ≡ limit
   pub frames : List Frame
   pub each : AllByRecursion (IsFrame limit) frames
@@ -272,7 +282,8 @@ part_kept limit stream login wanted before now come hands =
       frames = come.frames;
       each = come.each;
       shown = come.shown ++ part;
-      stream_is = stream_more stream come.shown part before.bytes now.bytes come.frames come.stream_is
+      stream_is = stream_more stream come.shown part before.bytes now.bytes come.frames
+          come.stream_is
           hands.1.3;
       kind = at.0;
       size = at.1;
@@ -315,7 +326,8 @@ reaches login frames kind size wanted passed rest begun part_is whole is =
     }
 
 -- all that is read of it is there
-body_taken : (limit : ℕ) (stream : List ℕ) (old new : Login) (wanted : ℕ) (now : Passage) (taken : Taken)
+body_taken : (limit : ℕ) (stream : List ℕ) (old new : Login) (wanted : ℕ) (now : Passage)
+    (taken : Taken)
     → wanted ≤ length now.passed → IsKept limit stream old wanted now
     → TakesBody old (take wanted now.passed) taken new → Takes limit stream taken new (emptied now)
 body_taken limit stream old new wanted now (More Between) whole is takes = absurd takes
@@ -357,12 +369,14 @@ body_taken limit stream old new wanted now (More (Up key)) whole is takes = reco
 body_taken limit stream old new wanted now (Done key) whole is takes = absurd takes
 body_taken limit stream old new wanted now Failed whole is takes = tt
 
-pub part_whole : (limit : ℕ) (stream : List ℕ) (old new : Login) (wanted : ℕ) (before now after : Passage)
+pub part_whole : (limit : ℕ) (stream : List ℕ) (old new : Login) (wanted : ℕ)
+    (before now after : Passage)
     (bytes : List ℕ) (taken : Taken) → wanted ≤ length now.passed → after ≡ emptied now
     → bytes ≡ take wanted now.passed → TakesBody old bytes taken new
     → HasCome limit stream (Reading wanted) old before → Handed before Part now
     → Takes limit stream taken new after
-part_whole limit stream old new wanted before now after bytes taken whole after_is bytes_are takes come
+part_whole limit stream old new wanted before now after bytes taken whole after_is bytes_are takes
+    come
     hands =
     subst (λ (p : Passage). Takes limit stream taken new p) (sym after_is)
     (body_taken limit stream old new wanted now taken whole
@@ -400,7 +414,8 @@ stream_whole stream shown bytes bytes' frames frame is shown_is bytes_are =
     ∙ ap (λ xs. texts (frames ++ frame ∷ []) ++ xs) (sym bytes_are)
 
 -- the tail of a message
-tail_here : (limit : ℕ) (stream : List ℕ) (place : LoginPlace) (login : Login) (before now : Passage)
+tail_here : (limit : ℕ) (stream : List ℕ) (place : LoginPlace) (login : Login)
+    (before now : Passage)
     → HasCome limit stream place login before → Hands before (Some piece.Tail) now
     → Takes limit stream (after_tail place) login now
 tail_here limit stream Between login before now come hands = tt
@@ -433,7 +448,8 @@ tail_here limit stream (Up key) login before now come hands =
       passed_is = hands.3 ∙ come.is_at.4;
     }
 
-pub tail_taken : (limit : ℕ) (stream : List ℕ) (place : LoginPlace) (login : Login) (before now : Passage)
+pub tail_taken : (limit : ℕ) (stream : List ℕ) (place : LoginPlace) (login : Login)
+    (before now : Passage)
     (taken : Taken) → taken ≡ after_tail place → HasCome limit stream place login before
     → Hands before (Some piece.Tail) now → Takes limit stream taken login now
 tail_taken limit stream place login before now taken is come hands =
@@ -442,7 +458,8 @@ tail_taken limit stream place login before now taken is come hands =
 
 -- few bytes are kept
 kept_few : (limit : ℕ) (place : LoginPlace) (login : Login) (frames : List Frame) (shown : List ℕ)
-    (left : Option ℕ) (kept : List ℕ) → IsAt limit place login frames shown left kept → length kept ≤ 8
+    (left : Option ℕ) (kept : List ℕ) → IsAt limit place login frames shown left kept
+    → length kept ≤ 8
 kept_few limit Between login frames shown left kept is = omega (arith, ap length is.3)
 kept_few limit Passing login frames shown left kept is = omega (arith, ap length is.4)
 kept_few limit (Reading wanted) login frames shown left kept is =
@@ -450,7 +467,8 @@ kept_few limit (Reading wanted) login frames shown left kept is =
     omega (arith, ap length is.4, is.5, most)
 kept_few limit (Up key) login frames shown left kept is = omega (arith, ap length is.4)
 
-pub come_few : (limit : ℕ) (stream : List ℕ) (place : LoginPlace) (login : Login) (passage : Passage)
+pub come_few : (limit : ℕ) (stream : List ℕ) (place : LoginPlace) (login : Login)
+    (passage : Passage)
     → HasCome limit stream place login passage → length passage.passed ≤ 8
 come_few limit stream place login passage come =
     kept_few limit place login come.frames come.shown passage.left passage.passed come.is_at
@@ -485,7 +503,8 @@ coming_start limit wrote gave old login passage none is =
     }
 
 -- more was read
-fed_more : (limit : ℕ) (stream bytes : List ℕ) (place : LoginPlace) (login : Login) (passage : Passage)
+fed_more : (limit : ℕ) (stream bytes : List ℕ) (place : LoginPlace) (login : Login)
+    (passage : Passage)
     → HasCome limit stream place login passage
     → HasCome limit (stream ++ bytes) place login (fed passage bytes)
 fed_more limit stream bytes place login passage come = record {
@@ -506,7 +525,8 @@ pub coming_more : {T : Type 0} (limit : ℕ) (wrote gave : Effect T) (old new ne
     → SomeCalls wrote gave new new'
     (λ calls. (bytes : List ℕ) × Read bytes calls × (passage' ≡ fed taken bytes))
     → Coming limit wrote gave old place' login' passage' new'
-coming_more limit wrote gave old new new' place place' login login' passage taken passage' so_far come more =
+coming_more limit wrote gave old new new' place place' login login' passage taken passage' so_far
+    come more =
     let bytes = more.2.0 in
     record {
       calls = so_far.calls ++ more.0;
@@ -550,9 +570,11 @@ key_found limit wrote gave old new place login passage taken key (Some found) so
     (coming_done limit wrote gave old new place login passage taken key so_far done is.1)
 
 -- the StartupMessage was written whole before
-pub logged_in : {T : Type 0} (limit at : ℕ) (wrote gave : Effect T) (old new new' : T) (request : List ℕ)
+pub logged_in : {T : Type 0} (limit at : ℕ) (wrote gave : Effect T) (old new new' : T)
+    (request : List ℕ)
     (user database key : List ℕ) → at ≡ limit → request ≡ startup_request user database
-    → SomeCalls wrote gave old new (Wrote request) → SomeCalls wrote gave new new' (ReadsLogin at key)
+    → SomeCalls wrote gave old new (Wrote request)
+    → SomeCalls wrote gave new new' (ReadsLogin at key)
     → SomeCalls wrote gave old new' (LogsIn limit user database key)
 logged_in limit at wrote gave old new new' request user database key limit_is is sent answered = (
   sent.0 ++ answered.0,

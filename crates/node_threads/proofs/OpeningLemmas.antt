@@ -34,7 +34,13 @@ pub took_nothing : (byte : ℕ) (calls : List Call) → WroteSome (byte ∷ []) 
     → taken calls ≡ []
 took_nothing byte calls some =
     let none : length (taken some.writes) ≡ 0 =
-    omega (arith, ap length some.beginning, length-append (taken some.writes) some.left, some.some_left) in
+    omega (
+      arith,
+      ap length some.beginning,
+      length-append
+          (taken some.writes) some.left,
+      some.some_left,
+    ) in
     taken_is calls some.writes some.last some.all some.failed
     ∙ nil_from_length (taken some.writes) none
 
@@ -211,7 +217,8 @@ negotiated_asked calls more seen seen' rest rest' one is asks rest_is wrote =
           ∙ append-nil (given calls) ∙ is.read
           ∙ ap (λ xs. flat_map packet_of is.asked ++ xs) rest_is
           ∙ sym (append_assoc (flat_map packet_of is.asked) (packet_of one) rest')
-          ∙ ap (λ xs. (flat_map packet_of is.asked ++ xs) ++ rest') (sym (append-nil (packet_of one)))
+          ∙ ap (λ xs. (flat_map packet_of is.asked ++ xs) ++ rest') (sym (append-nil (packet_of
+          one)))
           ∙ ap (λ xs. xs ++ rest') (sym (flat_map-append packet_of is.asked (one ∷ [])));
       written = taken-append calls more ∙ ap (λ xs. xs ++ taken more) is.written
           ∙ ap (λ xs. replicate (length is.asked) 78 ++ xs) wrote.whole
@@ -309,7 +316,8 @@ pub underway_asked : {T : Type 0} (wrote gave : Effect T) (old new new' : T)
     → Answers seen text false (Ok found) → seen' ≡ seen_after seen (Ok found)
     → rest ≡ drop 8 text → SomeCalls wrote gave new new' (Wrote (78 ∷ []))
     → Underway wrote gave old seen' rest new'
-underway_asked wrote gave old new new' seen seen' text rest found so_far which answer after is more =
+underway_asked wrote gave old new new' seen seen' text rest found so_far which answer after is more
+    =
     let here = asks_here seen seen' text found which answer after in
     record {
       calls = so_far.calls ++ more.0;
@@ -343,7 +351,8 @@ opens_cancel wrote gave old new seen text behind key so_far answer = (
     text,
     [],
     decided (subst (λ (o : Outcome). IsOutcome seen text false o) answer.told answer.is),
-    subst (λ (r : List ℕ). Negotiated so_far.calls seen r) (sym (append-nil text)) so_far.negotiated,
+    subst (λ (r : List ℕ). Negotiated so_far.calls seen r)
+        (sym (append-nil text)) so_far.negotiated,
   ),
 )
   where
@@ -404,7 +413,8 @@ pub opens_session : {T : Type 0} (wrote gave : Effect T) (old new new' : T) (see
     → SomeCalls wrote gave new new' (λ calls. Begins rest result calls behind)
     → IsSession result (string_bytes database) kind
     → SomeCalls wrote gave old new' (λ calls. Opens calls result behind)
-opens_session wrote gave old new new' seen text rest behind kind user database used (Session name of_kind) so_far answer is more same =
+opens_session wrote gave old new new' seen text rest behind kind user database used (Session name
+    of_kind) so_far answer is more same =
     let here = starts_here seen text kind (string_bytes user) (string_bytes database) used
     (subst (λ (o : Outcome). IsOutcome seen text false o) answer.told answer.is) in (
       so_far.calls ++ more.0,
@@ -420,11 +430,14 @@ opens_session wrote gave old new new' seen text rest behind kind user database u
         subst (λ (calls : List Call). Negotiated calls seen (here.packet ++ behind))
             (sym (ap (λ xs. so_far.calls ++ xs) more.2.0 ∙ append-nil so_far.calls))
             (subst (λ (r : List ℕ). Negotiated so_far.calls seen r)
-            (here.text_is ∙ ap (λ xs. here.packet ++ xs) (sym is ∙ sym more.2.1)) so_far.negotiated),
+            (here.text_is ∙ ap (λ xs. here.packet ++ xs) (sym is
+            ∙ sym more.2.1)) so_far.negotiated),
       ),
     )
-opens_session wrote gave old new new' seen text rest behind kind user database used (Cancel key) so_far answer is more same =
+opens_session wrote gave old new new' seen text rest behind kind user database used (Cancel key)
+    so_far answer is more same =
     absurd same
-opens_session wrote gave old new new' seen text rest behind kind user database used Over so_far answer is more same =
+opens_session wrote gave old new new' seen text rest behind kind user database used Over so_far
+    answer is more same =
     opens_over wrote gave old new new' seen text behind so_far
     (more.0, more.1, (Some Memory, (inl refl, more.2)))

@@ -37,7 +37,8 @@ writes_after (Cut kind size body) a b xs ys first more = Wrote-append a b xs ys 
 writes_after (Untold begun after) a b xs ys first more = WroteSome-append a b xs ys first more
 
 -- a reply whose front was read and written before
-pub finishes_after : (limit : ℕ) (before bytes text : List ℕ) (end : ReplyEnd) (xs ys reads tells : List Call)
+pub finishes_after : (limit : ℕ) (before bytes text : List ℕ) (end : ReplyEnd)
+    (xs ys reads tells : List Call)
     → CanEnd limit end → Unfinished limit before xs → Read bytes xs → Wrote text ys
     → Finishes limit (before ++ bytes) text end reads tells
     → Finishes limit before [] end (xs ++ reads) (ys ++ tells)
@@ -48,7 +49,8 @@ finishes_after limit before bytes text end xs ys reads tells can unfinished read
   bytes = bytes ++ more.bytes;
   bytes_are = sym (append_assoc before bytes more.bytes) ∙ more.bytes_are;
   read = reads_after end bytes more.bytes xs reads read more.read;
-  stops = stops_after limit more.frames end before bytes more.bytes xs reads more.each can read unfinished
+  stops = stops_after limit more.frames end before bytes more.bytes xs reads more.each can read
+      unfinished
       more.bytes_are more.stops;
   text = text ++ more.text;
   text_is = more.text_is;
@@ -56,7 +58,8 @@ finishes_after limit before bytes text end xs ys reads tells can unfinished read
 }
 
 -- so far the reply was read by some calls, and written by others
-pub record Passing {L C : Type 0} (limit : ℕ) (wrote gave : Effect L) (wrote' gave' : Effect C) (link : L)
+pub record Passing {L C : Type 0} (limit : ℕ) (wrote gave : Effect L) (wrote' gave' : Effect C)
+    (link : L)
     (client : C) (before : List ℕ) (place : Place) (passage : Passage) (link' : L) (client' : C)
     : Type 0 where
   pub reads : List Call
@@ -70,7 +73,8 @@ pub record Passing {L C : Type 0} (limit : ℕ) (wrote gave : Effect L) (wrote' 
   pub told : Wrote text tells
   pub out : HandedOut limit (before ++ bytes) text place passage
 
-pub passing_start : {L C : Type 0} (limit : ℕ) (wrote gave : Effect L) (wrote' gave' : Effect C) (link : L)
+pub passing_start : {L C : Type 0} (limit : ℕ) (wrote gave : Effect L) (wrote' gave' : Effect C)
+    (link : L)
     (client : C) (passage : Passage) → passage.limit ≡ limit → passage.left ≡ None
     → passage.passed ≡ []
     → Passing limit wrote gave wrote' gave' link client passage.bytes Between passage link client
@@ -110,25 +114,28 @@ pub passing_more : {L C : Type 0} (limit : ℕ) (wrote gave : Effect L) (wrote' 
     × ((limit : ℕ) (stream written : List ℕ) → HandedOut limit stream written place' handed
     → HandedOut limit (stream ++ bytes) (written ++ text) place' passage')))
     → Passing limit wrote gave wrote' gave' link client before place' passage' link'' client''
-passing_more limit wrote gave wrote' gave' link link' link'' client client' client'' before place place'
+passing_more limit wrote gave wrote' gave' link link' link'' client client' client'' before place
+    place'
     passage handed passage' so_far out dry more =
     let told = more.2 in
     let here = told.2.4 limit (before ++ so_far.bytes) so_far.text out in
     record {
       reads = so_far.reads ++ more.0 ∷ [];
-      made = Makes-append wrote gave link link' link'' so_far.reads (more.0 ∷ []) so_far.made more.1;
+      made = Makes-append wrote gave link link' link'' so_far.reads (more.0 ∷ []) so_far.made
+          more.1;
       tells = so_far.tells ++ told.0;
       made' = Makes-append wrote' gave' client client' client'' so_far.tells told.0 so_far.made'
           told.1;
       bytes = so_far.bytes ++ told.2.0;
       read = Read-append so_far.bytes told.2.0 so_far.reads (more.0 ∷ []) so_far.read told.2.1;
-      unfinished = unfinished_more limit before so_far.bytes so_far.reads more.0 so_far.read (record {
-        written = so_far.text;
-        place = place';
-        passage = handed;
-        out = out;
-        dry = subst (λ (n : ℕ). HasNoNext n handed.left handed.bytes) out.limit_is dry;
-      });
+      unfinished = unfinished_more limit before so_far.bytes so_far.reads more.0 so_far.read
+          (record {
+            written = so_far.text;
+            place = place';
+            passage = handed;
+            out = out;
+            dry = subst (λ (n : ℕ). HasNoNext n handed.left handed.bytes) out.limit_is dry;
+          });
       text = so_far.text ++ told.2.2;
       told = Wrote-append so_far.text told.2.2 so_far.tells told.0 so_far.told told.2.3;
       out = subst
@@ -146,7 +153,8 @@ pub passing_ends : {L C : Type 0} (limit : ℕ) (wrote gave : Effect L) (wrote' 
     → EndsHere limit (before ++ so_far.bytes) so_far.text reads tells stayed
     → SomeCalls wrote gave link link'' (λ reads. SomeCalls wrote' gave' client client''
     (λ tells. EndsHere limit before [] reads tells stayed))
-passing_ends limit wrote gave wrote' gave' link link' link'' client client' client'' before place passage
+passing_ends limit wrote gave wrote' gave' link link' link'' client client' client'' before place
+    passage
     stayed so_far reads tells made made' ends = (
       so_far.reads ++ reads,
       Makes-append wrote gave link link' link'' so_far.reads reads so_far.made made,
@@ -155,8 +163,10 @@ passing_ends limit wrote gave wrote' gave' link link' link'' client client' clie
         Makes-append wrote' gave' client client' client'' so_far.tells tells so_far.made' made',
         (
           ends.0,
-          finishes_after limit before so_far.bytes so_far.text ends.0 so_far.reads so_far.tells reads tells
-              (can_end limit ends.0 stayed ends.1.head ends.2) so_far.unfinished so_far.read so_far.told ends.1,
+          finishes_after limit before so_far.bytes so_far.text ends.0 so_far.reads so_far.tells
+              reads tells
+              (can_end limit ends.0 stayed ends.1.head ends.2) so_far.unfinished so_far.read
+              so_far.told ends.1,
           ends.2,
         ),
       ),
@@ -181,7 +191,8 @@ passing_goes_on limit wrote gave wrote' gave' link link' link'' client client' c
         Makes-append wrote' gave' client client' client'' so_far.tells tells so_far.made' made',
         (
           goes.0,
-          finishes_after limit before so_far.bytes so_far.text (Ready goes.0 []) so_far.reads so_far.tells
+          finishes_after limit before so_far.bytes so_far.text (Ready goes.0 []) so_far.reads
+              so_far.tells
               reads tells goes.1.head so_far.unfinished so_far.read so_far.told goes.1,
           goes.2,
         ),
@@ -201,14 +212,18 @@ pub passing_finished : {L C : Type 0} (limit : ℕ) (wrote gave : Effect L) (wro
     (so_far : Passing limit wrote gave wrote' gave' link client before place passage link' client')
     → HandedLast limit (before ++ so_far.bytes) so_far.text (ready_text status) handed
     → IfSome found (λ stayed. SomeCalls wrote' gave' client' client''
-    (λ tells. (limit : ℕ) (stream written : List ℕ) → HandedLast limit stream written (ready_text status) handed
+    (λ tells. (limit : ℕ) (stream written : List ℕ)
+    → HandedLast limit stream written (ready_text status) handed
     → EndsHere limit stream written [] tells stayed))
     → IfSome found (λ stayed. SomeCalls wrote gave link link'
     (λ reads. SomeCalls wrote' gave' client client''
     (λ tells. EndsHere limit before [] reads tells stayed)))
-passing_finished limit wrote gave wrote' gave' link link' client client' client'' before place passage
+passing_finished limit wrote gave wrote' gave' link link' client client' client'' before place
+    passage
     handed status None so_far last ends = tt
-passing_finished limit wrote gave wrote' gave' link link' client client' client'' before place passage
+passing_finished limit wrote gave wrote' gave' link link' client client' client'' before place
+    passage
     handed status (Some stayed) so_far last ends =
     passing_ends limit wrote gave wrote' gave' link link' link' client client' client'' before place
-    passage stayed so_far [] ends.0 refl ends.1 (ends.2 limit (before ++ so_far.bytes) so_far.text last)
+    passage stayed so_far [] ends.0 refl ends.1 (ends.2 limit (before ++ so_far.bytes) so_far.text
+    last)

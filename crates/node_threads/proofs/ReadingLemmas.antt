@@ -30,7 +30,8 @@ no_frame limit bytes none frame more is e =
     ∙ append_assoc (head_text frame.kind (4 + length frame.body)) frame.body more)
 
 -- the fault of a stream that begins with no frame
-pub fault_here : (limit : ℕ) (stream : List ℕ) (fault : Option FrameError) → BeginsNoFrame limit stream
+pub fault_here : (limit : ℕ) (stream : List ℕ) (fault : Option FrameError)
+    → BeginsNoFrame limit stream
     → HasFault limit stream fault → fault_at limit stream ≡ fault
 fault_here limit stream fault none has =
     go has.frames has.cuts.each has.cuts.whole
@@ -54,16 +55,19 @@ none_some : (fault : FrameError) → None ≡ Some fault → ⊥
 none_some fault e = cc
 
 -- inside a frame of which nothing more is there, no fault stands
-no_fault_inside : (limit : ℕ) (left : ℕ) (bytes : List ℕ) (fault : FrameError) → HasNoNext limit (Some left) bytes
+no_fault_inside : (limit : ℕ) (left : ℕ) (bytes : List ℕ) (fault : FrameError) → HasNoNext limit
+    (Some left) bytes
     → HasFault limit (drop left bytes) (Some fault) → ⊥
 no_fault_inside limit left bytes fault dry has =
     let nothing : drop left bytes ≡ [] =
     drop_all left bytes (omega (arith, ap length dry.1)) in
-    none_some fault (sym (fault_at-nothing limit) ∙ fault_here limit [] (Some fault) (no_frame-nothing limit)
+    none_some fault (sym (fault_at-nothing limit)
+    ∙ fault_here limit [] (Some fault) (no_frame-nothing limit)
     (subst (λ xs. HasFault limit xs (Some fault)) nothing has))
 
 -- what of the frame at a place is for the client
-for_client : (limit : ℕ) (place : Place) (left : Option ℕ) (bytes shown : List ℕ) → IsShown limit place left shown
+for_client : (limit : ℕ) (place : Place) (left : Option ℕ) (bytes shown : List ℕ)
+    → IsShown limit place left shown
     → HasNoNext limit left bytes → IsForClient limit shown
 for_client limit Between left bytes shown is dry = inl is.1
 for_client limit Inside left bytes shown is dry =
@@ -92,7 +96,8 @@ found_at limit passage found is has =
     subst (λ (n : ℕ). HasFault n (after passage) found) is has
 
 -- the client doesn't take what was handed out
-pub untold_ends : (limit : ℕ) (stream written : List ℕ) (place : Place) (passage : Passage) (count : ℕ)
+pub untold_ends : (limit : ℕ) (stream written : List ℕ) (place : Place) (passage : Passage)
+    (count : ℕ)
     (tells : List Call) (stayed : Stayed) → count ≡ length (withheld place)
     → HasNoNext passage.limit passage.left passage.bytes
     → WroteSome (take (length passage.passed - count) passage.passed) tells → stayed ≡ End []
@@ -122,9 +127,11 @@ faulty_between limit stream written passage fault tells reply stayed out dry has
     let none : BeginsNoHead limit passage.bytes =
     subst (λ l. HasNoNext limit l passage.bytes) out.is_shown.0 dry in
     let here : HasFault limit passage.bytes (Some fault) =
-    subst (λ l. HasFault limit (drop (unwrap_or l 0) passage.bytes) (Some fault)) out.is_shown.0 has in (
+    subst (λ l. HasFault limit (drop (unwrap_or l 0) passage.bytes)
+    (Some fault)) out.is_shown.0 has in (
       Faulty passage.bytes fault,
-      ends_with limit stream written out.frames (Faulty passage.bytes fault) out.front [] tells tt out.each
+      ends_with limit stream written out.frames (Faulty passage.bytes fault) out.front [] tells tt
+          out.each
           (out.stream_is ∙ ap (λ xs. texts out.frames ++ (xs ++ passage.bytes)) out.is_shown.1)
           Read-nothing tt
           (out.written_is ∙ ap (λ xs. texts out.frames ++ xs) out.is_shown.1
@@ -137,7 +144,8 @@ faulty_between limit stream written passage fault tells reply stayed out dry has
       ),
     )
 
-fault_ends : (limit : ℕ) (stream written : List ℕ) (place : Place) (passage : Passage) (fault : FrameError)
+fault_ends : (limit : ℕ) (stream written : List ℕ) (place : Place) (passage : Passage)
+    (fault : FrameError)
     (tells : List Call) (reply : List ℕ) (stayed : Stayed)
     → HandedOut limit stream written place passage → HasNoNext limit passage.left passage.bytes
     → HasFault limit (after passage) (Some fault)
@@ -154,7 +162,8 @@ fault_ends limit stream written AtReady passage fault tells reply stayed out dry
     let left_is = out.is_shown.0 in absurd (no_fault_inside limit 1 passage.bytes fault
     (subst (λ l. HasNoNext limit l passage.bytes) left_is dry)
     (subst (λ l. HasFault limit (drop (unwrap_or l 0) passage.bytes) (Some fault)) left_is has))
-fault_ends limit stream written (Status status) passage fault tells reply stayed out dry has told error
+fault_ends limit stream written (Status status) passage fault tells reply stayed out dry has told
+    error
     is =
     let left_is = out.is_shown.0 in absurd (no_fault_inside limit 0 passage.bytes fault
     (subst (λ l. HasNoNext limit l passage.bytes) left_is dry)
@@ -163,13 +172,16 @@ fault_ends limit stream written (Status status) passage fault tells reply stayed
 pub faulty_ends : (limit : ℕ) (stream written : List ℕ) (place : Place) (passage : Passage)
     (found : Option FrameError) (count : ℕ) (tells : List Call) (reply : List ℕ) (stayed : Stayed)
     → count ≡ length (withheld place) → is_some found ≡ true
-    → HasNoNext passage.limit passage.left passage.bytes → HasFault passage.limit (after passage) found
+    → HasNoNext passage.limit passage.left passage.bytes
+    → HasFault passage.limit (after passage) found
     → Wrote (take (length passage.passed - count) passage.passed) tells
     → IsError ConnectionFailure reply → stayed ≡ End reply
     → HandedOut limit stream written place passage → EndsHere limit stream written [] tells stayed
-faulty_ends limit stream written place passage None count tells reply stayed count_is some dry has told
+faulty_ends limit stream written place passage None count tells reply stayed count_is some dry has
+    told
     error is out = absurd (false≢true some)
-faulty_ends limit stream written place passage (Some fault) count tells reply stayed count_is some dry
+faulty_ends limit stream written place passage (Some fault) count tells reply stayed count_is some
+    dry
     has told error is out =
     fault_ends limit stream written place passage fault tells reply stayed out
     (dry_at limit passage out.limit_is dry)
@@ -184,7 +196,8 @@ pub cut_ends : (limit : ℕ) (stream written : List ℕ) (place : Place) (passag
     → Wrote (take (length passage.passed - count) passage.passed) tells → IsFailedRead call
     → stayed ≡ End [] → HandedOut limit stream written place passage
     → EndsHere limit stream written (call ∷ []) tells stayed
-cut_ends limit stream written place passage count call tells stayed inside count_is dry told failed is
+cut_ends limit stream written place passage count call tells stayed inside count_is dry told failed
+    is
     out =
     let here : HandedOut limit stream written Inside passage =
     subst (λ (p : Place). HandedOut limit stream written p passage) inside out in
@@ -195,7 +208,8 @@ cut_ends limit stream written place passage count call tells stayed inside count
     let some : 0 < was.3 = now.0 in
     let nothing : passage.bytes ≡ [] = now.1 in (
       Cut was.0 was.1 was.2,
-      ends_with limit stream written here.frames (Cut was.0 was.1 was.2) here.front (call ∷ []) tells
+      ends_with limit stream written here.frames (Cut was.0 was.1 was.2) here.front (call ∷ [])
+          tells
           tt here.each
           (here.stream_is ∙ ap (λ xs. texts here.frames ++ (here.shown ++ xs)) nothing
           ∙ ap (λ xs. texts here.frames ++ xs) (append-nil here.shown ∙ was.6))
@@ -243,12 +257,15 @@ none_found (Some fault) clean = absurd (false≢true (sym clean))
 pub lost_ends : (limit : ℕ) (stream written : List ℕ) (place : Place) (passage : Passage)
     (found : Option FrameError) (count : ℕ)
     (call : Call) (tells : List Call) (reply : List ℕ) (stayed : Stayed) → place ≢ Inside
-    → count ≡ length (withheld place) → is_some found ≡ false → HasFault passage.limit (after passage) found
+    → count ≡ length (withheld place) → is_some found ≡ false
+    → HasFault passage.limit (after passage) found
     → HasNoNext passage.limit passage.left passage.bytes
     → Wrote (take (length passage.passed - count) passage.passed) tells → IsFailedRead call
     → IsError ConnectionFailure reply → stayed ≡ End reply
-    → HandedOut limit stream written place passage → EndsHere limit stream written (call ∷ []) tells stayed
-lost_ends limit stream written Between passage found count call tells reply stayed outside count_is clean
+    → HandedOut limit stream written place passage
+    → EndsHere limit stream written (call ∷ []) tells stayed
+lost_ends limit stream written Between passage found count call tells reply stayed outside count_is
+    clean
     has dry told failed error is out =
     let unbegun : BeginsNoHead limit passage.bytes =
     subst (λ l. HasNoNext limit l passage.bytes) out.is_shown.0
@@ -256,19 +273,24 @@ lost_ends limit stream written Between passage found count call tells reply stay
     let here : HasFault limit passage.bytes found =
     subst (λ l. HasFault limit (drop (unwrap_or l 0) passage.bytes) found) out.is_shown.0
     (found_at limit passage found out.limit_is has) in
-    lost_at limit stream written Between passage passage.bytes call tells reply stayed out out.is_shown.1
+    lost_at limit stream written Between passage passage.bytes call tells reply stayed out
+    out.is_shown.1
     refl (inl unbegun)
-    (fault_here limit passage.bytes found (no_frame limit passage.bytes unbegun) here ∙ none_found found clean)
+    (fault_here limit passage.bytes found (no_frame limit passage.bytes unbegun) here
+    ∙ none_found found clean)
     (subst (λ n. Wrote (take (length passage.passed - n) passage.passed) tells) count_is told)
     failed error is
-lost_ends limit stream written Inside passage found count call tells reply stayed outside count_is clean has
+lost_ends limit stream written Inside passage found count call tells reply stayed outside count_is
+    clean has
     dry told failed error is out = absurd (outside refl)
-lost_ends limit stream written AtReady passage found count call tells reply stayed outside count_is clean has
+lost_ends limit stream written AtReady passage found count call tells reply stayed outside count_is
+    clean has
     dry told failed error is out =
     let now = subst (λ l. HasNoNext limit l passage.bytes) out.is_shown.0
     (dry_at limit passage out.limit_is dry) in
     lost_at limit stream written AtReady passage (head_text 90 5) call tells reply stayed out
-    out.is_shown.1 (ap (λ xs. head_text 90 5 ++ xs) now.1) (inr refl) (no_fault-ready limit out.is_shown.2)
+    out.is_shown.1 (ap (λ xs. head_text 90 5 ++ xs) now.1) (inr refl)
+    (no_fault-ready limit out.is_shown.2)
     (subst (λ n. Wrote (take (length passage.passed - n) passage.passed) tells) count_is told)
     failed error is
 lost_ends limit stream written (Status status) passage found count call tells reply stayed outside
@@ -278,14 +300,17 @@ lost_ends limit stream written (Status status) passage found count call tells re
     absurd (omega (arith, now.0))
 
 -- more of the reply was read
-pub more_read : (limit : ℕ) (stream written : List ℕ) (place : Place) (old new : Passage) (count : ℕ)
+pub more_read : (limit : ℕ) (stream written : List ℕ) (place : Place) (old new : Passage)
+    (count : ℕ)
     (bytes : List ℕ) → count ≡ length (withheld place)
     → new ≡ fed (forgotten old (length old.passed - count)) bytes
     → HandedOut limit stream written place old
-    → HandedOut limit (stream ++ bytes) (written ++ take (length old.passed - count) old.passed) place new
+    → HandedOut limit (stream ++ bytes) (written ++ take (length old.passed - count) old.passed)
+    place new
 more_read limit stream written place old new count bytes count_is new_is out =
     let front = front_is old.passed out.front (withheld place) count out.passed_is count_is in
-    let here : HandedOut limit (stream ++ bytes) (written ++ take (length old.passed - count) old.passed)
+    let here : HandedOut limit (stream ++ bytes) (written ++ take (length old.passed - count)
+    old.passed)
     place (fed (forgotten old (length old.passed - count)) bytes) = record {
       frames = out.frames;
       limit_is = out.limit_is;

@@ -74,7 +74,8 @@ wrote_one wrote gave a b c xs ys first more = (
 )
 
 -- the beginning of a text
-some_of_more : (xs ys : List ℕ) (calls : List Call) → WroteSome xs calls → WroteSome (xs ++ ys) calls
+some_of_more : (xs ys : List ℕ) (calls : List Call) → WroteSome xs calls → WroteSome
+    (xs ++ ys) calls
 some_of_more xs ys calls some = record {
   writes = some.writes;
   last = some.last;
@@ -95,7 +96,8 @@ told_cancelled wrote gave a b c error ready is then first more =
     let calls = wrote_both wrote gave a b c error ready first more in (
       calls.0,
       calls.1,
-      subst (λ xs. Wrote xs calls.0) (ap (λ xs. xs ++ ready) is ∙ ap (λ xs. error_text Error QueryCanceled ++ xs) then) calls.2,
+      subst (λ xs. Wrote xs calls.0) (ap (λ xs. xs ++ ready) is ∙ ap
+          (λ xs. error_text Error QueryCanceled ++ xs) then) calls.2,
     )
 
 pub told_cancelled_some : {T : Type 0} (wrote gave : Effect T) (a b c : T)
@@ -108,7 +110,9 @@ told_cancelled_some wrote gave a b c error ready reply is then none first more =
       calls.0,
       calls.1,
       (
-        inr (subst (λ xs. WroteSome xs calls.0) (ap (λ xs. xs ++ ready) is ∙ ap (λ xs. error_text Error QueryCanceled ++ xs) then) calls.2),
+        inr (subst (λ xs. WroteSome xs calls.0)
+            (ap (λ xs. xs ++ ready) is ∙ ap
+            (λ xs. error_text Error QueryCanceled ++ xs) then) calls.2),
         none,
       ),
     )
@@ -135,10 +139,12 @@ none_of stayed is = elim is [
 ]
 
 -- a link that isn't as it was left is closed
-pub spoilt : {T C : Type 0} (limit : ℕ) (wrote gave : Effect T) (wrote' gave' : Effect C) (client : C)
+pub spoilt : {T C : Type 0} (limit : ℕ) (wrote gave : Effect T) (wrote' gave' : Effect C)
+    (client : C)
     (lease : LinkValue (Link T)) (request reply kept : List ℕ) (said : CloseReply (Link T))
     (old new : CallerView)
-    → Counted (step.Close lease.details (close_said said)) said (close.Exhausted lease.stream) old new
+    → Counted (step.Close lease.details (close_said said)) said (close.Exhausted lease.stream) old
+    new
     → IsError ConnectionFailure reply
     → SomeCalls wrote' gave' client client (λ calls. ComesOf limit wrote gave (acquired.Lease lease)
     request (Some reply) kept calls kept old new)
@@ -161,23 +167,27 @@ pub stay_at_start : {T C : Type 0} (limit : ℕ) (wrote gave : Effect T) (wrote'
     (λ on_client. Stay limit request flow.bytes kept on_link on_client stayed left))
     → SomeCalls wrote gave stream after (λ on_link. SomeCalls wrote' gave' client client'
     (λ on_client. Stay limit request [] kept on_link on_client stayed left))
-stay_at_start limit wrote gave wrote' gave' stream after client client' flow request kept left stayed is
+stay_at_start limit wrote gave wrote' gave' stream after client client' flow request kept left
+    stayed is
     stays =
     subst (λ (f : Passage). SomeCalls wrote gave stream after
     (λ on_link. SomeCalls wrote' gave' client client'
     (λ on_client. Stay limit request f.bytes kept on_link on_client stayed left))) is stays
 
 -- a stay on a link, after which the session goes on or ends
-pub rides : {T C : Type 0} (limit : ℕ) (wrote gave : Effect T) (wrote' gave' : Effect C) (client client' : C)
+pub rides : {T C : Type 0} (limit : ℕ) (wrote gave : Effect T) (wrote' gave' : Effect C)
+    (client client' : C)
     (lease : LinkValue (Link T)) (stream : T) (request kept left : List ℕ) (stayed : Stayed)
     (end : Option (List ℕ)) (old new : CallerView)
     → ((after : T) × SomeCalls wrote gave stream after (λ on_link.
     SomeCalls wrote' gave' client client' (λ on_client.
     Stay limit request [] kept on_link on_client stayed left)))
     → Tells (handed_in stayed lease.details) old new → end ≡ end_of stayed
-    → SomeCalls wrote' gave' client client' (λ calls. ComesOf limit wrote gave (acquired.Lease lease)
+    → SomeCalls wrote' gave' client client' (λ calls. ComesOf limit wrote gave (acquired.Lease
+    lease)
     request end kept calls left old new)
-rides limit wrote gave wrote' gave' client client' lease stream request kept left stayed end old new stays
+rides limit wrote gave wrote' gave' client client' lease stream request kept left stayed end old
+    new stays
     told is =
     let on_link = stays.1 in
     let on_client = on_link.2 in (
@@ -202,11 +212,14 @@ pub rides_on : {T C : Type 0} (limit : ℕ) (wrote gave : Effect T) (wrote' gave
     SomeCalls wrote' gave' client client' (λ on_client.
     Stay limit request [] kept on_link on_client stayed left)))
     → Tells (handed_in stayed lease.details) old new → (stayed ≡ Release) ⊎ (stayed ≡ Close)
-    → SomeCalls wrote' gave' client client' (λ calls. ComesOf limit wrote gave (acquired.Lease lease)
+    → SomeCalls wrote' gave' client client' (λ calls. ComesOf limit wrote gave (acquired.Lease
+    lease)
     request None kept calls left old new)
-rides_on limit wrote gave wrote' gave' client client' lease stream request kept left stayed old new stays
+rides_on limit wrote gave wrote' gave' client client' lease stream request kept left stayed old new
+    stays
     told is =
-    rides limit wrote gave wrote' gave' client client' lease stream request kept left stayed None old new
+    rides limit wrote gave wrote' gave' client client' lease stream request kept left stayed None
+    old new
     stays told (none_of stayed is)
 
 -- what came of a request, by what came of asking for a link
@@ -218,7 +231,8 @@ comes_of : {T : Type 0} (limit : ℕ) (wrote gave : Effect T) (pass : PassRecord
     → ComesOf limit wrote gave given request end kept calls left between new
     → (fate : Fate) × Comes limit wrote gave pass database request fate end kept calls left old new
     × EndsWith fate end
-comes_of limit wrote gave pass database (acquired.Lease lease) request end kept calls left old between new
+comes_of limit wrote gave pass database (acquired.Lease lease) request end kept calls left old
+    between new
     answer is moves comes =
     let gets : Gets pass database lease.details old between =
     record { given = answer; place = is; moves = moves } in
@@ -234,7 +248,8 @@ comes_of limit wrote gave pass database (acquired.Lease lease) request end kept 
         closed.1,
       )
     ]
-comes_of limit wrote gave pass database acquired.Cancelled request end kept calls left old between new
+comes_of limit wrote gave pass database acquired.Cancelled request end kept calls left old between
+    new
     answer is moves comes = (
       Cancelled,
       (
@@ -248,7 +263,8 @@ comes_of limit wrote gave pass database acquired.Cancelled request end kept call
           → (end ≡ None) ⊎ (end ≡ Some [])
       ended None calls told = inl refl
       ended (Some reply) calls told = inr (ap Some told.1)
-comes_of limit wrote gave pass database (acquired.Refused code) request end kept calls left old between new
+comes_of limit wrote gave pass database (acquired.Refused code) request end kept calls left old
+    between new
     answer is moves comes = (
       Refused code,
       (
@@ -258,7 +274,8 @@ comes_of limit wrote gave pass database (acquired.Refused code) request end kept
       ),
       comes.0,
     )
-comes_of limit wrote gave pass database acquired.Ended request end kept calls left old between new answer
+comes_of limit wrote gave pass database acquired.Ended request end kept calls left old between new
+    answer
     is moves comes = (Dropped, (comes.1, comes.2), comes.0)
 
 -- a request is one of a session
@@ -270,7 +287,8 @@ served_by limit wrote gave pass database None kept calls left old new is = is
 served_by limit wrote gave pass database (Some reply) kept calls left old new is = inl is
 
 -- the next request was read, a link asked for, and it was served
-pub request_served : {T C : Type 0} (limit : ℕ) (wrote gave : Effect T) (wrote' gave' : Effect C) (a b c : C)
+pub request_served : {T C : Type 0} (limit : ℕ) (wrote gave : Effect T) (wrote' gave' : Effect C)
+    (a b c : C)
     (pass : PassRecord) (database : ℕ) (given : Acquired (LinkValue (Link T))) (request : List ℕ)
     (end : Option (List ℕ)) (kept behind left : List ℕ) (old between new : CallerView)
     → SomeCalls wrote' gave' a b (λ calls. AsksNext limit kept calls (Ok request) behind)
@@ -280,9 +298,11 @@ pub request_served : {T C : Type 0} (limit : ℕ) (wrote gave : Effect T) (wrote
     (λ calls. ComesOf limit wrote gave given request end behind calls left between new)
     → SomeCalls wrote' gave' a c
     (λ calls. Serves limit wrote gave pass database end kept calls left old new)
-request_served limit wrote gave wrote' gave' a b c pass database given request end kept behind left old
+request_served limit wrote gave wrote' gave' a b c pass database given request end kept behind left
+    old
     between new asks answer is moves comes =
-    let came = comes_of limit wrote gave pass database given request end behind comes.0 left old between
+    let came = comes_of limit wrote gave pass database given request end behind comes.0 left old
+    between
     new answer is moves comes.2 in (
       asks.0 ++ comes.0,
       Makes-append wrote' gave' a b c asks.0 comes.0 asks.1 comes.1,
@@ -299,7 +319,8 @@ request_served limit wrote gave wrote' gave' a b c pass database given request e
       }),
     )
 
-pub request_served_at : {T C : Type 0} (limit limit' : ℕ) (wrote gave : Effect T) (wrote' gave' : Effect C)
+pub request_served_at : {T C : Type 0} (limit limit' : ℕ) (wrote gave : Effect T)
+    (wrote' gave' : Effect C)
     (a b c : C) (pass : PassRecord) (at database : ℕ) (given : Acquired (LinkValue (Link T)))
     (request : List ℕ) (end : Option (List ℕ)) (kept behind left : List ℕ)
     (old between new : CallerView) → at ≡ database → limit' ≡ limit
@@ -310,18 +331,21 @@ pub request_served_at : {T C : Type 0} (limit limit' : ℕ) (wrote gave : Effect
     (λ calls. ComesOf limit' wrote gave given request end behind calls left between new)
     → SomeCalls wrote' gave' a c
     (λ calls. Serves limit wrote gave pass database end kept calls left old new)
-request_served_at limit limit' wrote gave wrote' gave' a b c pass at database given request end kept behind left old
+request_served_at limit limit' wrote gave wrote' gave' a b c pass at database given request end
+    kept behind left old
     between new same limit_is asks answer is moves comes =
     subst (λ d. SomeCalls wrote' gave' a c
     (λ calls. Serves limit wrote gave pass d end kept calls left old new)) same
-    (request_served limit wrote gave wrote' gave' a b c pass at given request end kept behind left old between
+    (request_served limit wrote gave wrote' gave' a b c pass at given request end kept behind left
+    old between
     new asks answer is moves
     (subst (λ (n : ℕ). SomeCalls wrote' gave' b c
     (λ calls. ComesOf n wrote gave given request end behind calls left between new)) limit_is
     comes))
 
 -- the client leaves
-pub request_left : {T C : Type 0} (limit : ℕ) (wrote gave : Effect T) (wrote' gave' : Effect C) (a b : C)
+pub request_left : {T C : Type 0} (limit : ℕ) (wrote gave : Effect T) (wrote' gave' : Effect C)
+    (a b : C)
     (pass : PassRecord) (database : ℕ) (reply kept left : List ℕ) (old : CallerView)
     → SomeCalls wrote' gave' a b (λ calls. AsksNext limit kept calls (Err reply) left)
     → SomeCalls wrote' gave' a b
@@ -335,24 +359,30 @@ requests_more : {T : Type 0} (limit : ℕ) (wrote gave : Effect T) (pass : PassR
     (first : List Call) (left : List ℕ) (old between new : CallerView)
     → Requests limit wrote gave pass database each kept calls behind old between
     → Serves limit wrote gave pass database None behind first left between new
-    → Requests limit wrote gave pass database (each ++ first ∷ []) kept (calls ++ first) left old new
-requests_more limit wrote gave pass database [] kept calls behind first left old between new so_far one = (
-  [],
-  ap (λ xs. xs ++ first) so_far.0 ∙ sym (append-nil first),
-  left,
-  new,
-  subst (λ v. Serves limit wrote gave pass database None kept first left v new) so_far.2
-      (subst (λ xs. Serves limit wrote gave pass database None xs first left between new) so_far.1 one),
-  (refl, refl, refl),
-)
-requests_more limit wrote gave pass database (head ∷ others) kept calls behind first left old between new
+    → Requests limit wrote gave pass database (each ++ first ∷ []) kept (calls ++ first) left old
+    new
+requests_more limit wrote gave pass database [] kept calls behind first left old between new so_far
+    one = (
+      [],
+      ap (λ xs. xs ++ first) so_far.0 ∙ sym (append-nil first),
+      left,
+      new,
+      subst (λ v. Serves limit wrote gave pass database None kept first left v new) so_far.2
+          (subst
+          (λ xs. Serves limit wrote gave pass database None xs first left between new) so_far.1
+          one),
+      (refl, refl, refl),
+    )
+requests_more limit wrote gave pass database (head ∷ others) kept calls behind first left old
+    between new
     so_far one = (
       so_far.0 ++ first,
       ap (λ xs. xs ++ first) so_far.1 ∙ append_assoc head so_far.0 first,
       so_far.2,
       so_far.3,
       so_far.4,
-      requests_more limit wrote gave pass database others so_far.2 so_far.0 behind first left so_far.3
+      requests_more limit wrote gave pass database others so_far.2 so_far.0 behind first left
+          so_far.3
           between new so_far.5 one,
     )
 
@@ -372,50 +402,58 @@ pub serving_start : {T C : Type 0} (limit : ℕ) (wrote gave : Effect T) (wrote'
     (old : CallerView)
     → SomeCalls wrote' gave' client client' (Greets reports pass.key None)
     → Serving limit wrote gave wrote' gave' reports pass database kept client client' kept old old
-serving_start limit wrote gave wrote' gave' reports pass database kept client client' old greets = record {
-  greeting = greets.0;
-  served = [];
-  made = subst (λ xs. Makes wrote' gave' client xs client') (sym (append-nil greets.0)) greets.1;
-  greets = greets.2;
-  each = [];
-  requests = (refl, refl, refl);
-}
+serving_start limit wrote gave wrote' gave' reports pass database kept client client' old greets =
+    record {
+      greeting = greets.0;
+      served = [];
+      made = subst (λ xs. Makes wrote' gave' client xs client') (sym (append-nil greets.0)) greets.1;
+      greets = greets.2;
+      each = [];
+      requests = (refl, refl, refl);
+    }
 
 pub serving_more : {T C : Type 0} (limit : ℕ) (wrote gave : Effect T) (wrote' gave' : Effect C)
     (reports : List Report) (pass : PassRecord) (database : ℕ) (kept : List ℕ)
     (client client' client'' : C) (behind left : List ℕ) (old between new : CallerView)
-    → Serving limit wrote gave wrote' gave' reports pass database kept client client' behind old between
+    → Serving limit wrote gave wrote' gave' reports pass database kept client client' behind old
+    between
     → SomeCalls wrote' gave' client' client''
     (λ calls. Serves limit wrote gave pass database None behind calls left between new)
     → Serving limit wrote gave wrote' gave' reports pass database kept client client'' left old new
-serving_more limit wrote gave wrote' gave' reports pass database kept client client' client'' behind left
+serving_more limit wrote gave wrote' gave' reports pass database kept client client' client''
+    behind left
     old between new so_far one = record {
       greeting = so_far.greeting;
       served = so_far.served ++ one.0;
       made = subst (λ xs. Makes wrote' gave' client xs client'')
           (append_assoc so_far.greeting so_far.served one.0)
-          (Makes-append wrote' gave' client client' client'' (so_far.greeting ++ so_far.served) one.0
+          (Makes-append wrote' gave' client client' client'' (so_far.greeting ++ so_far.served)
+          one.0
           so_far.made one.1);
       greets = so_far.greets;
       each = so_far.each ++ one.0 ∷ [];
-      requests = requests_more limit wrote gave pass database so_far.each kept so_far.served behind one.0
+      requests = requests_more limit wrote gave pass database so_far.each kept so_far.served behind
+          one.0
           left old between new so_far.requests one.2;
     }
 
 pub serving_ends : {T C : Type 0} (limit : ℕ) (wrote gave : Effect T) (wrote' gave' : Effect C)
     (reports : List Report) (pass : PassRecord) (database : ℕ) (kept : List ℕ)
     (client client' client'' : C) (behind left reply : List ℕ) (old between new : CallerView)
-    → Serving limit wrote gave wrote' gave' reports pass database kept client client' behind old between
+    → Serving limit wrote gave wrote' gave' reports pass database kept client client' behind old
+    between
     → SomeCalls wrote' gave' client' client''
     (λ calls. Serves limit wrote gave pass database (Some reply) behind calls left between new)
     → SomeCalls wrote' gave' client client''
     (λ calls. Stays limit wrote gave reports pass database reply kept calls left old new)
-serving_ends limit wrote gave wrote' gave' reports pass database kept client client' client'' behind left
+serving_ends limit wrote gave wrote' gave' reports pass database kept client client' client''
+    behind left
     reply old between new so_far last = (
       so_far.greeting ++ (so_far.served ++ last.0),
       subst (λ xs. Makes wrote' gave' client xs client'')
           (append_assoc so_far.greeting so_far.served last.0)
-          (Makes-append wrote' gave' client client' client'' (so_far.greeting ++ so_far.served) last.0
+          (Makes-append wrote' gave' client client' client'' (so_far.greeting ++ so_far.served)
+          last.0
           so_far.made last.1),
       inl (record {
         greeting = so_far.greeting;
@@ -432,7 +470,8 @@ serving_ends limit wrote gave wrote' gave' reports pass database kept client cli
     )
 
 -- a client that isn't greeted
-pub stays_unmade : {T C : Type 0} (limit : ℕ) (wrote gave : Effect T) (wrote' gave' : Effect C) (client : C)
+pub stays_unmade : {T C : Type 0} (limit : ℕ) (wrote gave : Effect T) (wrote' gave' : Effect C)
+    (client : C)
     (reports : List Report) (pass : PassRecord) (database : ℕ) (reply kept : List ℕ)
     (old : CallerView)
     → IsError OutOfMemory reply
@@ -448,11 +487,13 @@ pub stays_ungreeted : {T C : Type 0} (limit : ℕ) (wrote gave : Effect T) (wrot
     (Greets reports pass.key (Some reply))
     → SomeCalls wrote' gave' client client'
     (λ calls. Stays limit wrote gave reports pass database reply kept calls kept old old)
-stays_ungreeted limit wrote gave wrote' gave' client client' reports pass database reply kept old greets =
+stays_ungreeted limit wrote gave wrote' gave' client client' reports pass database reply kept old
+    greets =
     (greets.0, greets.1, inr (greets.2, refl, refl))
 
 -- a client that got a slot
-pub client_served : {T C : Type 0} (limit : ℕ) (wrote gave : Effect T) (wrote' gave' : Effect C) (a b c : C)
+pub client_served : {T C : Type 0} (limit : ℕ) (wrote gave : Effect T) (wrote' gave' : Effect C)
+    (a b c : C)
     (reports : List Report) (database secret : ℕ) (kind : Kind) (pass : PassRecord)
     (reply text kept left : List ℕ) (old joined done new : CallerView) (whole : Bool)
     → Joins database secret kind (Ok pass) old joined
@@ -463,9 +504,11 @@ pub client_served : {T C : Type 0} (limit : ℕ) (wrote gave : Effect T) (wrote'
     → (whole ≡ false → SomeCalls wrote' gave' b c (WroteSome text))
     → SomeCalls wrote' gave' a c
     (λ calls. ServesClient limit wrote gave reports database secret kind kept calls left old new)
-client_served limit wrote gave wrote' gave' a b c reports database secret kind pass reply text kept left
+client_served limit wrote gave wrote' gave' a b c reports database secret kind pass reply text kept
+    left
     old joined done new whole joins stays leaves is did some =
-    let said = sends_same wrote' gave' b c text reply is (sends wrote' gave' b c text whole did some) in (
+    let said = sends_same wrote' gave' b c text reply is (sends wrote' gave' b c text whole did
+    some) in (
       stays.0 ++ said.0,
       Makes-append wrote' gave' a b c stays.0 said.0 stays.1 said.1,
       inl (record {
@@ -484,7 +527,8 @@ client_served limit wrote gave wrote' gave' a b c reports database secret kind p
     )
 
 -- a client that got none
-pub client_refused : {T C : Type 0} (limit : ℕ) (wrote gave : Effect T) (wrote' gave' : Effect C) (a b : C)
+pub client_refused : {T C : Type 0} (limit : ℕ) (wrote gave : Effect T) (wrote' gave' : Effect C)
+    (a b : C)
     (reports : List Report) (database secret : ℕ) (kind : Kind)
     (answer : Result PassRecord JoinRefusal) (kept : List ℕ)
     (old new : CallerView) → ((pass : PassRecord) → answer ≡ Ok pass → ⊥)
@@ -492,10 +536,12 @@ pub client_refused : {T C : Type 0} (limit : ℕ) (wrote gave : Effect T) (wrote
     → SomeCalls wrote' gave' a b (SendsError TooManyConnections)
     → SomeCalls wrote' gave' a b
     (λ calls. ServesClient limit wrote gave reports database secret kind kept calls kept old new)
-client_refused limit wrote gave wrote' gave' a b reports database secret kind (Ok pass) kept old new none
+client_refused limit wrote gave wrote' gave' a b reports database secret kind (Ok pass) kept old
+    new none
     joins said =
     absurd (none pass refl)
-client_refused limit wrote gave wrote' gave' a b reports database secret kind (Err refusal) kept old new
+client_refused limit wrote gave wrote' gave' a b reports database secret kind (Err refusal) kept
+    old new
     none joins said = (said.0, said.1, inr (refusal, joins, said.2, refl))
 
 -- the session goes on with a request more, and is as at its start
@@ -505,18 +551,21 @@ pub serving_next : {T C : Type 0} (limit : ℕ) (wrote gave : Effect T) (wrote' 
     (behind left : List ℕ) (old between new : CallerView) (session next : Session)
     (result : Option (List ℕ)) → session ≡ begun limit database → result ≡ None
     → (result ≡ None → next ≡ begun session.limit session.database)
-    → Serving limit wrote gave wrote' gave' reports pass database kept client client' behind old between
+    → Serving limit wrote gave wrote' gave' reports pass database kept client client' behind old
+    between
     → SomeCalls wrote' gave' client' client''
     (λ calls. Serves session.limit wrote gave pass session.database result behind calls left
     between new)
     → (next ≡ begun limit database)
     × Serving limit wrote gave wrote' gave' reports pass database kept client client'' left old new
-serving_next limit wrote gave wrote' gave' reports pass database kept client client' client'' behind left
+serving_next limit wrote gave wrote' gave' reports pass database kept client client' client''
+    behind left
     old between new session next result is none after so_far one =
     let same : session.database ≡ database = ap (λ (s : Session). s.database) is in
     let limit_is : session.limit ≡ limit = ap (λ (s : Session). s.limit) is in (
       after none ∙ ap (λ (s : Session). begun s.limit s.database) is,
-      serving_more limit wrote gave wrote' gave' reports pass database kept client client' client'' behind
+      serving_more limit wrote gave wrote' gave' reports pass database kept client client' client''
+          behind
           left old between new so_far
           (subst (λ (r : Option (List ℕ)). SomeCalls wrote' gave' client' client''
           (λ calls. Serves limit wrote gave pass database r behind calls left between new)) none
@@ -532,18 +581,22 @@ pub serving_last : {T C : Type 0} (limit : ℕ) (wrote gave : Effect T) (wrote' 
     (reports : List Report) (pass : PassRecord) (database : ℕ) (kept : List ℕ)
     (client client' client'' : C)
     (behind left : List ℕ) (old between new : CallerView) (session : Session)
-    (result : Option (List ℕ)) (reply : List ℕ) → session ≡ begun limit database → result ≡ Some reply
-    → Serving limit wrote gave wrote' gave' reports pass database kept client client' behind old between
+    (result : Option (List ℕ)) (reply : List ℕ) → session ≡ begun limit database
+    → result ≡ Some reply
+    → Serving limit wrote gave wrote' gave' reports pass database kept client client' behind old
+    between
     → SomeCalls wrote' gave' client' client''
     (λ calls. Serves session.limit wrote gave pass session.database result behind calls left
     between new)
     → SomeCalls wrote' gave' client client''
     (λ calls. Stays limit wrote gave reports pass database reply kept calls left old new)
-serving_last limit wrote gave wrote' gave' reports pass database kept client client' client'' behind left
+serving_last limit wrote gave wrote' gave' reports pass database kept client client' client''
+    behind left
     old between new session result reply is some so_far last =
     let same : session.database ≡ database = ap (λ (s : Session). s.database) is in
     let limit_is : session.limit ≡ limit = ap (λ (s : Session). s.limit) is in
-    serving_ends limit wrote gave wrote' gave' reports pass database kept client client' client'' behind
+    serving_ends limit wrote gave wrote' gave' reports pass database kept client client' client''
+    behind
     left reply old between new so_far
     (subst (λ (r : Option (List ℕ)). SomeCalls wrote' gave' client' client''
     (λ calls. Serves limit wrote gave pass database r behind calls left between new)) some
@@ -559,7 +612,8 @@ pub serving_greeted : {T C : Type 0} (limit : ℕ) (wrote gave : Effect T) (wrot
     (old : CallerView) (result : Option (List ℕ)) → result ≡ None
     → SomeCalls wrote' gave' client client' (Greets reports pass.key result)
     → Serving limit wrote gave wrote' gave' reports pass database kept client client' kept old old
-serving_greeted limit wrote gave wrote' gave' reports pass database kept client client' old result none
+serving_greeted limit wrote gave wrote' gave' reports pass database kept client client' old result
+    none
     greets =
     serving_start limit wrote gave wrote' gave' reports pass database kept client client' old
     (subst (λ (r : Option (List ℕ)). SomeCalls wrote' gave' client client'

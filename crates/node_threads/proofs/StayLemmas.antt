@@ -29,7 +29,8 @@ replies limit before end reads tells finishes = record {
 }
 
 -- So far there were rounds, and this is in hand: what follows it follows the rounds.
-pub record Staying {L C : Type 0} (limit : ℕ) (wrote gave : Effect L) (wrote' gave' : Effect C) (link : L)
+pub record Staying {L C : Type 0} (limit : ℕ) (wrote gave : Effect L) (wrote' gave' : Effect C)
+    (link : L)
     (client : C) (request before kept : List ℕ) (request' before' kept' : List ℕ) (link' : L)
     (client' : C) : Type 0 where
   pub on_link : List Call
@@ -40,10 +41,12 @@ pub record Staying {L C : Type 0} (limit : ℕ) (wrote gave : Effect L) (wrote' 
   pub follows : (more : List Round) (ending : Ending) (calls calls' : List Call)
       (outcome : Stayed) (left : List ℕ)
       → Runs limit more ending request' before' kept' calls calls' outcome left
-      → Runs limit (rounds ++ more) ending request before kept (on_link ++ calls) (on_client ++ calls')
+      → Runs limit (rounds ++ more) ending request before kept (on_link ++ calls) (on_client ++
+      calls')
       outcome left
 
-pub staying_start : {L C : Type 0} (limit : ℕ) (wrote gave : Effect L) (wrote' gave' : Effect C) (link : L)
+pub staying_start : {L C : Type 0} (limit : ℕ) (wrote gave : Effect L) (wrote' gave' : Effect C)
+    (link : L)
     (client : C) (request before kept : List ℕ)
     → Staying limit wrote gave wrote' gave' link client request before kept request before kept link
     client
@@ -61,19 +64,23 @@ pub staying_ends : {L C : Type 0} (limit : ℕ) (wrote gave : Effect L) (wrote' 
     (link link' link'' : L) (client client' client'' : C) (request before kept : List ℕ)
     (request' before' kept' : List ℕ) (ending : Ending) (calls calls' : List Call)
     (outcome : Stayed) (left : List ℕ)
-    → Staying limit wrote gave wrote' gave' link client request before kept request' before' kept' link'
+    → Staying limit wrote gave wrote' gave' link client request before kept request' before' kept'
+    link'
     client' → Makes wrote gave link' calls link'' → Makes wrote' gave' client' calls' client''
     → Ends limit ending request' before' kept' calls calls' outcome left
     → SomeCalls wrote gave link link'' (λ on_link. SomeCalls wrote' gave' client client''
     (λ on_client. Stay limit request before kept on_link on_client outcome left))
-staying_ends limit wrote gave wrote' gave' link link' link'' client client' client'' request before kept
+staying_ends limit wrote gave wrote' gave' link link' link'' client client' client'' request before
+    kept
     request' before' kept' ending calls calls' outcome left so_far made made' ends = (
       so_far.on_link ++ calls,
       Makes-append wrote gave link link' link'' so_far.on_link calls so_far.made made,
       (
         so_far.on_client ++ calls',
-        Makes-append wrote' gave' client client' client'' so_far.on_client calls' so_far.made' made',
-        stay_of limit request before kept (so_far.on_link ++ calls) (so_far.on_client ++ calls') outcome left
+        Makes-append wrote' gave' client client' client'' so_far.on_client calls' so_far.made'
+            made',
+        stay_of limit request before kept (so_far.on_link ++ calls) (so_far.on_client ++ calls')
+            outcome left
             (so_far.rounds ++ []) ending (so_far.follows [] ending calls calls' outcome left ends),
       ),
     )
@@ -82,14 +89,17 @@ staying_ends limit wrote gave wrote' gave' link link' link'' client client' clie
 pub staying_unsent : {L C : Type 0} (limit : ℕ) (wrote gave : Effect L) (wrote' gave' : Effect C)
     (link link' link'' : L) (client client' : C) (request before kept : List ℕ)
     (request' before' kept' reply : List ℕ)
-    → Staying limit wrote gave wrote' gave' link client request before kept request' before' kept' link'
+    → Staying limit wrote gave wrote' gave' link client request before kept request' before' kept'
+    link'
     client' → SomeCalls wrote gave link' link'' (WroteSome request')
     → IsError ConnectionFailure reply
     → SomeCalls wrote gave link link'' (λ on_link. SomeCalls wrote' gave' client client'
     (λ on_client. Stay limit request before kept on_link on_client (End reply) kept'))
-staying_unsent limit wrote gave wrote' gave' link link' link'' client client' request before kept request'
+staying_unsent limit wrote gave wrote' gave' link link' link'' client client' request before kept
+    request'
     before' kept' reply so_far sent error =
-    staying_ends limit wrote gave wrote' gave' link link' link'' client client' client' request before
+    staying_ends limit wrote gave wrote' gave' link link' link'' client client' client' request
+    before
     kept request' before' kept' Unsent sent.0 [] (End reply) kept' so_far sent.1 refl
     (sent.2, refl, refl, (reply, error, refl))
 
@@ -97,16 +107,19 @@ staying_unsent limit wrote gave wrote' gave' link link' link'' client client' re
 pub staying_replied : {L C : Type 0} (limit : ℕ) (wrote gave : Effect L) (wrote' gave' : Effect C)
     (link link' sent_link link'' : L) (client client' client'' : C) (request before kept : List ℕ)
     (request' before' kept' : List ℕ) (outcome : Stayed)
-    → Staying limit wrote gave wrote' gave' link client request before kept request' before' kept' link'
+    → Staying limit wrote gave wrote' gave' link client request before kept request' before' kept'
+    link'
     client' → SomeCalls wrote gave link' sent_link (Wrote request')
     → SomeCalls wrote gave sent_link link'' (λ reads. SomeCalls wrote' gave' client' client''
     (λ tells. EndsHere limit before' [] reads tells outcome))
     → SomeCalls wrote gave link link'' (λ on_link. SomeCalls wrote' gave' client client''
     (λ on_client. Stay limit request before kept on_link on_client outcome kept'))
-staying_replied limit wrote gave wrote' gave' link link' sent_link link'' client client' client'' request
+staying_replied limit wrote gave wrote' gave' link link' sent_link link'' client client' client''
+    request
     before kept request' before' kept' outcome so_far sent ends =
     let tells = ends.2 in
-    staying_ends limit wrote gave wrote' gave' link link' link'' client client' client'' request before
+    staying_ends limit wrote gave wrote' gave' link link' link'' client client' client'' request
+    before
     kept request' before' kept' (Replied tells.2.1.frames tells.2.0) (sent.0 ++ ends.0) tells.0
     outcome kept' so_far
     (Makes-append wrote gave link' sent_link link'' sent.0 ends.0 sent.1 ends.1) tells.1 (
@@ -123,18 +136,22 @@ staying_replied limit wrote gave wrote' gave' link link' sent_link link'' client
 pub staying_deserted : {L C : Type 0} (limit : ℕ) (wrote gave : Effect L) (wrote' gave' : Effect C)
     (link link' sent_link link'' : L) (client client' told_client client'' : C)
     (request before kept : List ℕ) (request' before' kept' reply left : List ℕ)
-    → Staying limit wrote gave wrote' gave' link client request before kept request' before' kept' link'
+    → Staying limit wrote gave wrote' gave' link client request before kept request' before' kept'
+    link'
     client' → SomeCalls wrote gave link' sent_link (Wrote request')
     → SomeCalls wrote gave sent_link link'' (λ reads. SomeCalls wrote' gave' client' told_client
     (λ tells. GoesOn limit before' [] reads tells))
-    → SomeCalls wrote' gave' told_client client'' (λ calls. AsksNext limit kept' calls (Err reply) left)
+    → SomeCalls wrote' gave' told_client client'' (λ calls. AsksNext limit kept' calls (Err reply)
+    left)
     → SomeCalls wrote gave link link'' (λ on_link. SomeCalls wrote' gave' client client''
     (λ on_client. Stay limit request before kept on_link on_client (End reply) left))
-staying_deserted limit wrote gave wrote' gave' link link' sent_link link'' client client' told_client
+staying_deserted limit wrote gave wrote' gave' link link' sent_link link'' client client'
+    told_client
     client'' request before kept request' before' kept' reply left so_far sent goes asks =
     let tells = goes.2 in
     let round = tells.2 in
-    staying_ends limit wrote gave wrote' gave' link link' link'' client client' client'' request before
+    staying_ends limit wrote gave wrote' gave' link link' link'' client client' client'' request
+    before
     kept request' before' kept' (Deserted round.1.frames round.0 asks.2.0) (sent.0 ++ goes.0)
     (tells.0 ++ asks.0) (End reply) left so_far
     (Makes-append wrote gave link' sent_link link'' sent.0 goes.0 sent.1 goes.1)
@@ -157,13 +174,17 @@ staying_deserted limit wrote gave wrote' gave' link link' sent_link link'' clien
 pub staying_more : {L C : Type 0} (limit : ℕ) (wrote gave : Effect L) (wrote' gave' : Effect C)
     (link link' sent_link link'' : L) (client client' told_client client'' : C)
     (request before kept : List ℕ) (request' before' kept' next left : List ℕ)
-    → Staying limit wrote gave wrote' gave' link client request before kept request' before' kept' link'
+    → Staying limit wrote gave wrote' gave' link client request before kept request' before' kept'
+    link'
     client' → SomeCalls wrote gave link' sent_link (Wrote request')
     → SomeCalls wrote gave sent_link link'' (λ reads. SomeCalls wrote' gave' client' told_client
     (λ tells. GoesOn limit before' [] reads tells))
-    → SomeCalls wrote' gave' told_client client'' (λ calls. AsksNext limit kept' calls (Ok next) left)
-    → Staying limit wrote gave wrote' gave' link client request before kept next [] left link'' client''
-staying_more limit wrote gave wrote' gave' link link' sent_link link'' client client' told_client client''
+    → SomeCalls wrote' gave' told_client client'' (λ calls. AsksNext limit kept' calls (Ok next)
+    left)
+    → Staying limit wrote gave wrote' gave' link client request before kept next [] left link''
+    client''
+staying_more limit wrote gave wrote' gave' link link' sent_link link'' client client' told_client
+    client''
     request before kept request' before' kept' next left so_far sent goes asks =
     let tells = goes.2 in
     let reply = tells.2 in
@@ -176,7 +197,8 @@ staying_more limit wrote gave wrote' gave' link link' sent_link link'' client cl
       parts = parts;
       last = last;
     } in
-    let is : IsRound limit request' before' kept' round (sent.0 ++ goes.0) (tells.0 ++ asks.0) left =
+    let is : IsRound limit request' before' kept' round (sent.0 ++ goes.0) (tells.0 ++ asks.0) left
+    =
     record {
       sends = sent.0;
       reads = goes.0;
@@ -202,7 +224,8 @@ staying_more limit wrote gave wrote' gave' link link' sent_link link'' client cl
           (Makes-append wrote' gave' client' told_client client'' tells.0 asks.0 tells.1 asks.1);
       rounds = so_far.rounds ++ round ∷ [];
       follows = λ more ending calls calls' outcome rest runs.
-          let now : Runs limit (round ∷ more) ending request' before' kept' ((sent.0 ++ goes.0) ++ calls)
+          let now : Runs limit (round ∷ more) ending request' before' kept' ((sent.0 ++ goes.0) ++
+          calls)
           ((tells.0 ++ asks.0) ++ calls') outcome rest = (
             sent.0 ++ goes.0,
             calls,
@@ -294,18 +317,25 @@ pub staying_on : {L C : Type 0} (limit : ℕ) (wrote gave : Effect L) (wrote' ga
     (link link' sent_link link'' : L) (client client' told_client client'' : C)
     (request before kept : List ℕ) (request' before' kept' next left : List ℕ) (flow : Passage)
     → flow ≡ start limit
-    → Staying limit wrote gave wrote' gave' link client request before kept request' before' kept' link'
+    → Staying limit wrote gave wrote' gave' link client request before kept request' before' kept'
+    link'
     client' → SomeCalls wrote gave link' sent_link (Wrote request')
     → SomeCalls wrote gave sent_link link'' (λ reads. SomeCalls wrote' gave' client' told_client
     (λ tells. GoesOn limit before' [] reads tells))
-    → SomeCalls wrote' gave' told_client client'' (λ calls. AsksNext limit kept' calls (Ok next) left)
-    → Staying limit wrote gave wrote' gave' link client request before kept next flow.bytes left link''
+    → SomeCalls wrote' gave' told_client client'' (λ calls. AsksNext limit kept' calls (Ok next)
+    left)
+    → Staying limit wrote gave wrote' gave' link client request before kept next flow.bytes left
+    link''
     client'' × (flow.left ≡ None) × (flow.passed ≡ []) × (flow.limit ≡ limit)
-staying_on limit wrote gave wrote' gave' link link' sent_link link'' client client' told_client client''
+staying_on limit wrote gave wrote' gave' link link' sent_link link'' client client' told_client
+    client''
     request before kept request' before' kept' next left flow drained so_far sent goes asks = (
-      subst (λ xs. Staying limit wrote gave wrote' gave' link client request before kept next xs left link''
+      subst
+          (λ xs. Staying limit wrote gave wrote' gave' link client request before kept next xs left
+          link''
           client'') (sym (ap (λ p. p.bytes) drained))
-          (staying_more limit wrote gave wrote' gave' link link' sent_link link'' client client' told_client
+          (staying_more limit wrote gave wrote' gave' link link' sent_link link'' client client'
+          told_client
           client'' request before kept request' before' kept' next left so_far sent goes asks),
       ap (λ p. p.left) drained,
       ap (λ p. p.passed) drained,

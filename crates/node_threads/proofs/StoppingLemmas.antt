@@ -38,7 +38,8 @@ same_head limit kind size kind' size' more more' is is' e =
     let b0 : size % 256 ≡ size' % 256 = ap (λ xs. get_or xs 4 0) e in
     (ap (λ xs. get_or xs 0 0) e, omega (arith, is.fits, is'.fits), ap (λ xs. drop 5 xs) e)
 
-head_of : (limit : ℕ) (frame : Frame) → IsFrame limit frame → IsHead limit frame.kind (4 + length frame.body)
+head_of : (limit : ℕ) (frame : Frame) → IsFrame limit frame → IsHead limit frame.kind
+    (4 + length frame.body)
 head_of limit frame is =
     record { type_byte = is.type_byte; low = omega arith; high = is.size; fits = is.fits }
 
@@ -83,7 +84,8 @@ unfit_over limit kind size code head refused = record {
 
 -- what is read of the frame at a place isn't a head that isn't passed on
 head_misses : (limit : ℕ) (place : Place) (left : Option ℕ) (bytes shown : List ℕ) (kind size : ℕ)
-    (more after : List ℕ) → IsShown limit place left shown → HasNoNext limit left bytes → IsOver limit kind size more
+    (more after : List ℕ) → IsShown limit place left shown → HasNoNext limit left bytes
+    → IsOver limit kind size more
     → shown ++ (withheld place ++ bytes) ≡ (head_text kind size ++ more) ++ after → ⊥
 head_misses limit Between left bytes shown kind size more after is dry over e =
     subst (λ l. HasNoNext limit l bytes) is.0 dry kind size (more ++ after) over.head
@@ -108,10 +110,12 @@ head_misses limit (Status status) left bytes shown kind size more after is dry o
 
 -- nor a whole frame that is passed on
 frame_misses : (limit : ℕ) (place : Place) (left : Option ℕ) (bytes shown : List ℕ) (frame : Frame)
-    (after : List ℕ) → IsShown limit place left shown → HasNoNext limit left bytes → IsPassedOn limit frame
+    (after : List ℕ) → IsShown limit place left shown → HasNoNext limit left bytes
+    → IsPassedOn limit frame
     → shown ++ (withheld place ++ bytes) ≡ text frame ++ after → ⊥
 frame_misses limit Between left bytes shown frame after is dry passed e =
-    subst (λ l. HasNoNext limit l bytes) is.0 dry frame.kind (4 + length frame.body) (frame.body ++ after)
+    subst (λ l. HasNoNext limit l bytes) is.0 dry frame.kind (4 + length frame.body)
+    (frame.body ++ after)
     (head_of limit frame passed.is_frame)
     (ap (λ xs. xs ++ bytes) (sym is.1) ∙ e ∙ text_is frame after)
 frame_misses limit Inside left bytes shown frame after is dry passed e =
@@ -120,7 +124,16 @@ frame_misses limit Inside left bytes shown frame after is dry passed e =
     (frame.body ++ after) is.4 (head_of limit frame passed.is_frame)
     (sym (append_assoc (head_text is.0 is.1) is.2 bytes) ∙ ap (λ xs. xs ++ bytes) (sym is.6) ∙ e
     ∙ text_is frame after) in
-    omega (arith, now.0, is.8, same.1, ap length same.2, ap length now.1, length-append is.2 bytes, length-append frame.body after)
+    omega (
+      arith,
+      now.0,
+      is.8,
+      same.1,
+      ap length same.2,
+      ap length now.1,
+      length-append is.2 bytes,
+      length-append frame.body after,
+    )
 frame_misses limit AtReady left bytes shown frame after is dry passed e =
     let same = same_head limit 90 5 frame.kind (4 + length frame.body) bytes (frame.body ++ after)
     (ready_head limit is.2) (head_of limit frame passed.is_frame)
@@ -132,33 +145,40 @@ frame_misses limit (Status status) left bytes shown frame after is dry passed e 
 
 -- what is read of a reply that isn't over isn't a reply
 misses : (limit : ℕ) (place : Place) (left : Option ℕ) (bytes shown : List ℕ) (kind size : ℕ)
-    (more after : List ℕ) → IsShown limit place left shown → HasNoNext limit left bytes → IsOver limit kind size more
+    (more after : List ℕ) → IsShown limit place left shown → HasNoNext limit left bytes
+    → IsOver limit kind size more
     → (mine frames : List Frame) → AllByRecursion (IsPassedOn limit) mine
     → AllByRecursion (IsPassedOn limit) frames
     → texts mine ++ (shown ++ (withheld place ++ bytes))
     ≡ texts frames ++ ((head_text kind size ++ more) ++ after) → ⊥
 misses limit place left bytes shown kind size more after is dry over [] [] each each' e =
     head_misses limit place left bytes shown kind size more after is dry over e
-misses limit place left bytes shown kind size more after is dry over [] (frame ∷ frames) each each' e =
+misses limit place left bytes shown kind size more after is dry over [] (frame ∷ frames) each each'
+    e =
     frame_misses limit place left bytes shown frame
     (texts frames ++ ((head_text kind size ++ more) ++ after)) is dry each'.0
     (e ∙ append_assoc (text frame) (texts frames) ((head_text kind size ++ more) ++ after))
-misses limit place left bytes shown kind size more after is dry over (frame ∷ mine) [] each each' e =
+misses limit place left bytes shown kind size more after is dry over (frame ∷ mine) [] each each' e
+    =
     let rest = shown ++ (withheld place ++ bytes) in
     let same = same_head limit frame.kind (4 + length frame.body) kind size
-    (frame.body ++ (texts mine ++ rest)) (more ++ after) (head_of limit frame each.0.is_frame) over.head
+    (frame.body ++ (texts mine ++ rest)) (more ++ after) (head_of limit frame each.0.is_frame)
+    over.head
     (sym (text_is frame (texts mine ++ rest)) ∙ sym (append_assoc (text frame) (texts mine) rest)
     ∙ e ∙ append_assoc (head_text kind size) more after) in
     over.not_passed (ap (λ k. link_message k size) (sym same.0)
     ∙ ap (λ n. link_message frame.kind n) (sym same.1) ∙ each.0.means)
-misses limit place left bytes shown kind size more after is dry over (frame ∷ mine) (frame' ∷ frames) each
+misses limit place left bytes shown kind size more after is dry over (frame ∷ mine) (frame' ∷
+    frames) each
     each' e =
     let rest = shown ++ (withheld place ++ bytes) in
     let last = (head_text kind size ++ more) ++ after in
-    let same = same_front limit frame frame' (texts mine ++ rest) (texts frames ++ last) each.0.is_frame
+    let same = same_front limit frame frame' (texts mine ++ rest) (texts frames ++ last)
+    each.0.is_frame
     each'.0.is_frame (sym (append_assoc (text frame) (texts mine) rest) ∙ e
     ∙ append_assoc (text frame') (texts frames) last) in
-    misses limit place left bytes shown kind size more after is dry over mine frames each.1 each'.1 same.1
+    misses limit place left bytes shown kind size more after is dry over mine frames each.1 each'.1
+    same.1
 
 less_or_not : (a b : ℕ) → (a < b) ⊎ (b ≤ a)
 less_or_not a zero = inr (omega arith)
@@ -169,8 +189,10 @@ less_or_not (suc a) (suc b) = elim (less_or_not a b) [
 ]
 
 -- so a reply that was read later is longer than that
-pub is_longer : (limit : ℕ) (stream bytes : List ℕ) (frames : List Frame) (kind size : ℕ) (more after : List ℕ)
-    → IsUnfinished limit stream → AllByRecursion (IsPassedOn limit) frames → IsOver limit kind size more
+pub is_longer : (limit : ℕ) (stream bytes : List ℕ) (frames : List Frame) (kind size : ℕ)
+    (more after : List ℕ)
+    → IsUnfinished limit stream → AllByRecursion (IsPassedOn limit) frames
+    → IsOver limit kind size more
     → stream ++ bytes ≡ texts frames ++ ((head_text kind size ++ more) ++ after)
     → length stream < length (texts frames ++ (head_text kind size ++ more))
 is_longer limit stream bytes frames kind size more after unfinished each over e =
@@ -187,7 +209,9 @@ is_longer limit stream bytes frames kind size more after unfinished each over e 
           sym (take-append-drop (length whole) stream)
           ∙ ap (λ xs. xs ++ drop (length whole) stream) front in
           let out = unfinished.out in
-          absurd (misses limit unfinished.place unfinished.passage.left unfinished.passage.bytes out.shown
+          absurd
+          (misses limit unfinished.place unfinished.passage.left unfinished.passage.bytes
+          out.shown
           kind size more (drop (length whole) stream) out.is_shown unfinished.dry over out.frames
           frames out.each each
           (sym out.stream_is ∙ is ∙ append_assoc (texts frames) (head_text kind size ++ more)
@@ -242,7 +266,8 @@ pub unfinished_none : (limit : ℕ) (before : List ℕ) → Unfinished limit bef
 unfinished_none limit before earlier last e = absurd (no_last earlier last e)
 
 -- one read more, where the reply isn't over
-pub unfinished_more : (limit : ℕ) (before bytes : List ℕ) (reads : List Call) (call : Call) → Read bytes reads
+pub unfinished_more : (limit : ℕ) (before bytes : List ℕ) (reads : List Call) (call : Call)
+    → Read bytes reads
     → IsUnfinished limit (before ++ bytes) → Unfinished limit before (reads ++ call ∷ [])
 unfinished_more limit before bytes reads call read is earlier last e =
     elim (split_last reads (call ∷ []) earlier last e) [
@@ -277,18 +302,21 @@ can_end limit (Cut kind size body) stayed head ends = tt
 can_end limit (Untold begun after) stayed head ends = tt
 
 -- nothing was read behind the end, before these reads or with them
-no_further : (limit : ℕ) (frames : List Frame) (kind size : ℕ) (more after before bytes rest : List ℕ)
+no_further : (limit : ℕ) (frames : List Frame) (kind size : ℕ)
+    (more after before bytes rest : List ℕ)
     (xs reads : List Call) → AllByRecursion (IsPassedOn limit) frames → IsOver limit kind size more
     → Read bytes xs → Unfinished limit before xs
     → (before ++ bytes) ++ rest ≡ texts frames ++ ((head_text kind size ++ more) ++ after)
     → ReadsNoFurther (texts frames ++ (head_text kind size ++ more)) (before ++ bytes) reads
     → ReadsNoFurther (texts frames ++ (head_text kind size ++ more)) before (xs ++ reads)
-no_further limit frames kind size more after before bytes rest xs reads each over read unfinished is stops
+no_further limit frames kind size more after before bytes rest xs reads each over read unfinished
+    is stops
     earlier last e = elim (split_last xs reads earlier last e) [
       | inl at ↦
           let parts : bytes ≡ given earlier ++ given (last ∷ []) =
           sym read.whole ∙ ap given at.1 ∙ given-append earlier (last ∷ []) in
-          is_longer limit (before ++ given earlier) (given (last ∷ []) ++ rest) frames kind size more after
+          is_longer limit (before ++ given earlier) (given (last ∷ []) ++ rest) frames kind size
+          more after
           (unfinished earlier last at.1) each over
           (sym (append_assoc (before ++ given earlier) (given (last ∷ [])) rest)
           ∙ ap (λ ys. ys ++ rest) (append_assoc before (given earlier) (given (last ∷ [])))
@@ -298,28 +326,39 @@ no_further limit frames kind size more after before bytes rest xs reads each ove
           ap (λ ys. before ++ given ys) at.2 ∙ ap (λ ys. before ++ ys) (given-append xs at.0)
           ∙ ap (λ ys. before ++ (ys ++ given at.0)) read.whole
           ∙ sym (append_assoc before bytes (given at.0)) in
-          subst (λ ys. length ys < length (texts frames ++ (head_text kind size ++ more))) (sym same)
+          subst (λ ys. length ys < length (texts frames ++ (head_text kind size ++ more)))
+          (sym same)
           (stops at.0 last at.1)
     ]
 
 pub stops_after : (limit : ℕ) (frames : List Frame) (end : ReplyEnd) (before bytes rest : List ℕ)
-    (xs reads : List Call) → AllByRecursion (IsPassedOn limit) frames → CanEnd limit end → Read bytes xs
+    (xs reads : List Call) → AllByRecursion (IsPassedOn limit) frames → CanEnd limit end
+    → Read bytes xs
     → Unfinished limit before xs → (before ++ bytes) ++ rest ≡ heard frames end
     → StopsAt frames end (before ++ bytes) reads → StopsAt frames end before (xs ++ reads)
-stops_after limit frames (Ready status after) before bytes rest xs reads each can read unfinished is stops =
-    no_further limit frames 90 5 (status ∷ []) after before bytes rest xs reads each (ready_over limit status can)
+stops_after limit frames (Ready status after) before bytes rest xs reads each can read unfinished
+    is stops =
+    no_further limit frames 90 5 (status ∷ []) after before bytes rest xs reads each (ready_over
+    limit status can)
     read unfinished is stops
-stops_after limit frames (Unclear status after) before bytes rest xs reads each can read unfinished is stops =
-    no_further limit frames 90 5 (status ∷ []) after before bytes rest xs reads each (ready_over limit status can)
+stops_after limit frames (Unclear status after) before bytes rest xs reads each can read unfinished
+    is stops =
+    no_further limit frames 90 5 (status ∷ []) after before bytes rest xs reads each (ready_over
+    limit status can)
     read unfinished is stops
-stops_after limit frames (Unfit kind size after) before bytes rest xs reads each can read unfinished is stops =
+stops_after limit frames (Unfit kind size after) before bytes rest xs reads each can read
+    unfinished is stops =
     let none : head_text kind size ++ [] ≡ head_text kind size = append-nil (head_text kind size) in
     subst (λ ys. ReadsNoFurther (texts frames ++ ys) before (xs ++ reads)) none
     (no_further limit frames kind size [] after before bytes rest xs reads each
     (unfit_over limit kind size can.0 can.1 can.2) read unfinished
     (is ∙ ap (λ ys. texts frames ++ (ys ++ after)) (sym none))
     (subst (λ ys. ReadsNoFurther (texts frames ++ ys) (before ++ bytes) reads) (sym none) stops))
-stops_after limit frames (Faulty rest' fault) before bytes rest xs reads each can read unfinished is stops = tt
-stops_after limit frames (Lost rest') before bytes rest xs reads each can read unfinished is stops = tt
-stops_after limit frames (Cut kind size body) before bytes rest xs reads each can read unfinished is stops = tt
-stops_after limit frames (Untold begun after) before bytes rest xs reads each can read unfinished is stops = tt
+stops_after limit frames (Faulty rest' fault) before bytes rest xs reads each can read unfinished
+    is stops = tt
+stops_after limit frames (Lost rest') before bytes rest xs reads each can read unfinished is stops
+    = tt
+stops_after limit frames (Cut kind size body) before bytes rest xs reads each can read unfinished
+    is stops = tt
+stops_after limit frames (Untold begun after) before bytes rest xs reads each can read unfinished
+    is stops = tt

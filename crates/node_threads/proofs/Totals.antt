@@ -160,12 +160,15 @@ reply_whole limit (Untold begun after) text tells outcome told ends goes =
     absurd (subst SessionGoesOn ends.1 goes)
 
 -- what a client reads before it leaves
-leaves_taken : (limit : ℕ) (leaving : Leaving) (kept : List ℕ) (calls : List Call) (reply left : List ℕ)
+leaves_taken : (limit : ℕ) (leaving : Leaving) (kept : List ℕ) (calls : List Call)
+    (reply left : List ℕ)
     → Leaves limit leaving kept calls reply left → taken calls ≡ []
-leaves_taken limit (Says parts last) kept calls reply left leaves = read_taken leaves.0 calls leaves.2
+leaves_taken limit (Says parts last) kept calls reply left leaves = read_taken leaves.0 calls
+    leaves.2
 leaves_taken limit (Faulty parts fault) kept calls reply left leaves =
     read_taken leaves.0 calls leaves.1
-leaves_taken limit (Silent parts) kept calls reply left leaves = read_end_taken leaves.0 calls leaves.1
+leaves_taken limit (Silent parts) kept calls reply left leaves = read_end_taken leaves.0 calls
+    leaves.1
 leaves_taken limit (NoMemory parts rest) kept calls reply left leaves =
     read_taken leaves.0 calls leaves.1
 
@@ -185,7 +188,8 @@ leaves_given limit frames status (NoMemory parts rest) kept calls reply left mem
 -- what the link took
 sent_at : (limit : ℕ) (ending : Ending) (request before kept : List ℕ) (link client : List Call)
     (outcome : Stayed) (left : List ℕ)
-    → Ends limit ending request before kept link client outcome left → IsWritten (request ++ []) link
+    → Ends limit ending request before kept link client outcome left
+    → IsWritten (request ++ []) link
 sent_at limit Unsent request before kept link client outcome left ends =
     subst (λ xs. IsWritten xs link) (sym (append-nil request)) (written_some request link ends.0)
 sent_at limit (Replied frames end) request before kept link client outcome left ends =
@@ -198,7 +202,8 @@ sent_at limit (Deserted frames status leaving) request before kept link client o
     (read_taken ends.7.bytes ends.1 ends.7.read) ends.2 ∙ sym (append-nil request))
 
 round_sent : (limit : ℕ) (request before kept : List ℕ) (round : Round) (link client : List Call)
-    (left : List ℕ) → IsRound limit request before kept round link client left → taken link ≡ request
+    (left : List ℕ) → IsRound limit request before kept round link client left
+    → taken link ≡ request
 round_sent limit request before kept round link client left is =
     written_before request is.sends is.reads link is.sent.whole
     (read_taken is.replied.bytes is.reads is.replied.read) is.link_is
@@ -213,7 +218,8 @@ all_sent limit (round ∷ rounds) ending request before kept link client outcome
     written_after request (to_link (asked round) rounds) (to_link request (round ∷ rounds)) runs.0
     runs.1 link
     (round_sent limit request before kept round runs.0 runs.3 runs.6 runs.7)
-    (all_sent limit rounds ending (asked round) [] runs.6 runs.1 runs.4 outcome left runs.8) refl runs.2
+    (all_sent limit rounds ending (asked round) [] runs.6 runs.1 runs.4 outcome left runs.8) refl
+    runs.2
 
 -- what the client took
 round_told : (limit : ℕ) (request before kept : List ℕ) (round : Round) (link client : List Call)
@@ -261,7 +267,8 @@ whole_at limit (Replied frames end) request before kept link client outcome left
       (reply_taken end ends.4.bytes ends.1 ends.4.read) ends.2 ∙ sym (append-nil request),
   reply_whole limit end (passed_on frames end) client outcome ends.4.told ends.5 goes,
 )
-whole_at limit (Deserted frames status leaving) request before kept link client outcome left ends goes =
+whole_at limit (Deserted frames status leaving) request before kept link client outcome left ends
+    goes =
     absurd (subst SessionGoesOn ends.11 goes)
 
 all_whole : (limit : ℕ) (rounds : List Round) (ending : Ending) (request before kept : List ℕ)
@@ -271,7 +278,8 @@ all_whole : (limit : ℕ) (rounds : List Round) (ending : Ending) (request befor
 all_whole limit [] ending request before kept link client outcome left runs goes =
     whole_at limit ending request before kept link client outcome left runs goes
 all_whole limit (round ∷ rounds) ending request before kept link client outcome left runs goes =
-    let rest = all_whole limit rounds ending (asked round) [] runs.6 runs.1 runs.4 outcome left runs.8
+    let rest = all_whole limit rounds ending (asked round) [] runs.6 runs.1 runs.4 outcome left
+    runs.8
     goes in (
       ap taken runs.2 ∙ taken-append runs.0 runs.1
           ∙ ap (λ xs. xs ++ taken runs.1)
@@ -317,7 +325,8 @@ all_given limit [] ending request before kept link client outcome left memory ru
     given_at limit ending request before kept link client outcome left memory runs
 all_given limit (round ∷ rounds) ending request before kept link client outcome left memory runs =
     let first = round_given limit request before kept round runs.0 runs.3 runs.6 runs.7 in
-    let rest = all_given limit rounds ending (asked round) [] runs.6 runs.1 runs.4 outcome left memory
+    let rest = all_given limit rounds ending (asked round) [] runs.6 runs.1 runs.4 outcome left
+    memory
     runs.8 in
     ap (λ xs. kept ++ xs) (ap given runs.5 ∙ given-append runs.3 runs.4)
     ∙ sym (append_assoc kept (given runs.3) (given runs.4))
@@ -328,7 +337,8 @@ all_given limit (round ∷ rounds) ending request before kept link client outcom
     ∙ ap (λ xs. xs ++ left)
     (sym (append_assoc (asked round) (flat_map asked rounds) (asked_at ending)))
 
-pub stay_of : (limit : ℕ) (request before kept : List ℕ) (link client : List Call) (outcome : Stayed)
+pub stay_of : (limit : ℕ) (request before kept : List ℕ) (link client : List Call)
+    (outcome : Stayed)
     (left : List ℕ) (rounds : List Round) (ending : Ending)
     → Runs limit rounds ending request before kept link client outcome left
     → Stay limit request before kept link client outcome left
@@ -339,6 +349,7 @@ stay_of limit request before kept link client outcome left rounds ending runs = 
   sent = all_sent limit rounds ending request before kept link client outcome left runs;
   told = all_told limit rounds ending request before kept link client outcome left runs;
   whole = all_whole limit rounds ending request before kept link client outcome left runs;
-  left_is = λ memory. all_given limit rounds ending request before kept link client outcome left memory
+  left_is = λ memory. all_given limit rounds ending request before kept link client outcome left
+      memory
       runs;
 }

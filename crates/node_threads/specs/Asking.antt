@@ -25,10 +25,12 @@ SendsError code calls = (reply : List ℕ) × IsError code reply × Sends reply 
 abbrev pub AreGathered : ℕ → List ℕ → List Frame → Type 0
 AreGathered limit before [] = Unit {0}
 AreGathered limit before (frame ∷ frames) = IsFrame limit frame
-    × (client_message limit (length before) frame ≡ Gathered) × AreGathered limit (before ++ text frame) frames
+    × (client_message limit (length before) frame ≡ Gathered)
+    × AreGathered limit (before ++ text frame) frames
 
 -- a client's message, after others that are gathered
-pub record Asks (limit : ℕ) (parts : List Frame) (last : Frame) (message : ClientMessage) : Type 0 where
+pub record Asks (limit : ℕ) (parts : List Frame) (last : Frame) (message : ClientMessage)
+    : Type 0 where
   pub gathered : AreGathered limit [] parts
   pub is_frame : IsFrame limit last
   pub means : client_message limit (length (texts parts)) last ≡ message
@@ -64,7 +66,8 @@ Leaves limit (Says parts last) kept calls reply left = (bytes : List ℕ) × (me
     × Asks limit parts last message × IsSaid message reply
 Leaves limit (Faulty parts fault) kept calls reply left = (bytes : List ℕ)
     × Read bytes calls × (kept ++ bytes ≡ texts parts ++ left) × AreGathered limit [] parts
-    × BeginsNoFrame limit left × (fault_at limit left ≡ Some fault) × IsError ProtocolViolation reply
+    × BeginsNoFrame limit left × (fault_at limit left ≡ Some fault)
+    × IsError ProtocolViolation reply
 Leaves limit (Silent parts) kept calls reply left = (bytes : List ℕ)
     × ReadToEnd bytes calls × (kept ++ bytes ≡ texts parts ++ left) × AreGathered limit [] parts
     × BeginsNoFrame limit left × (fault_at limit left ≡ None) × (reply ≡ [])

@@ -19,8 +19,13 @@ use Rattle.node_threads.specs.Progress.{asking}
 -- a session with nothing outstanding that has gathered this for its next request, with a lease, as
 -- in an open transaction, or without one
 abbrev pub gathering : ℕ → Bool → ℕ → List ℕ → Session
-gathering limit leased database gathered =
-    record { limit = limit; database = database; leased = leased; outstanding = 0; gathered = gathered }
+gathering limit leased database gathered = record {
+  limit = limit;
+  database = database;
+  leased = leased;
+  outstanding = 0;
+  gathered = gathered;
+}
 
 -- Messages were gathered after those of which the session knows, and then this one came.
 pub record Comes (limit : ℕ) (old : Session) (kept : List ℕ) (parts : List Frame) (last : Frame)
@@ -62,7 +67,8 @@ Quits limit kept calls reply left =
 
 -- the next request was read, or the client leaves
 abbrev pub AsksNext : ℕ → List ℕ → List Call → Result (List ℕ) (List ℕ) → List ℕ → Type 0
-AsksNext limit kept calls (Ok request) left = (bytes : List ℕ) × (parts : List Frame) × (last : Frame)
+AsksNext limit kept calls (Ok request) left = (bytes : List ℕ) × (parts : List Frame)
+    × (last : Frame)
     × Read bytes calls × (kept ++ bytes ≡ request_of parts last ++ left)
     × Asks limit parts last message.Request × (request ≡ request_of parts last)
 AsksNext limit kept calls (Err reply) left =

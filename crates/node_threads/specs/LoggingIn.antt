@@ -43,7 +43,8 @@ frame_of kind body = record { kind = kind; body = body }
 
 -- this head of a message and this beginning of its body were handed out, which is this text, and
 -- this many bytes of its body are to come
-pub record IsOpen (limit : ℕ) (kind size : ℕ) (body : List ℕ) (shown : List ℕ) (left : Option ℕ) : Type 0 where
+pub record IsOpen (limit : ℕ) (kind size : ℕ) (body : List ℕ) (shown : List ℕ) (left : Option ℕ)
+    : Type 0 where
   pub head : IsHead limit kind size
   pub shown_is : shown ≡ head_text kind size ++ body
   pub more : ℕ
@@ -71,7 +72,8 @@ IsAt limit (Up key) login frames shown left kept = (kind : ℕ) × (size : ℕ) 
     × OfEach kind size body (λ frame. IsUpAt frames frame key)
 
 -- `stream` was read of a server. The reader is at this place, with this login and this passage.
-pub record HasCome (limit : ℕ) (stream : List ℕ) (place : LoginPlace) (login : Login) (passage : Passage)
+pub record HasCome (limit : ℕ) (stream : List ℕ) (place : LoginPlace) (login : Login)
+    (passage : Passage)
     : Type 0 where
   pub frames : List Frame
   pub each : AllByRecursion (IsFrame limit) frames
@@ -118,7 +120,8 @@ Handed before Tail now = Hands before (Some piece.Tail) now
 -- what is taken with a piece that was just handed out
 abbrev pub TakesPiece : LoginPlace → Login → Mark → Passage → Taken → Login → Passage → Type 0
 TakesPiece place old mark now taken new passage = (limit : ℕ) (stream : List ℕ) (before : Passage)
-    → HasCome limit stream place old before → Handed before mark now → Takes limit stream taken new passage
+    → HasCome limit stream place old before → Handed before mark now
+    → Takes limit stream taken new passage
 
 -- what is taken with what a login reads of a message's body
 abbrev pub TakesBody : Login → List ℕ → Taken → Login → Type 0

@@ -27,12 +27,23 @@ use Rattle.node_threads.specs.Replying.{IsPassedOn, ReplyEnd, Ready as ReadyEnd,
 
 -- a session that waits for the reply to a request
 abbrev pub asking : ℕ → ℕ → Session
-asking limit database = record { limit = limit; database = database; leased = true; outstanding = 1; gathered = [] }
+asking limit database = record {
+  limit = limit;
+  database = database;
+  leased = true;
+  outstanding = 1;
+  gathered = [];
+}
 
 -- a session in an open transaction, with nothing outstanding
 abbrev pub in_transaction : ℕ → ℕ → Session
-in_transaction limit database =
-    record { limit = limit; database = database; leased = true; outstanding = 0; gathered = [] }
+in_transaction limit database = record {
+  limit = limit;
+  database = database;
+  leased = true;
+  outstanding = 0;
+  gathered = [];
+}
 
 -- what of the frame at this place isn't passed on before it is whole
 abbrev pub withheld : Place → List ℕ
@@ -53,7 +64,8 @@ IsShown limit (Status status) left shown = (left ≡ Some 0) × (shown ≡ []) �
 
 -- Of a reply, `stream` was read, and `written` was written to the client. The rest is at this
 -- place, and in this passage.
-pub record HandedOut (limit : ℕ) (stream written : List ℕ) (place : Place) (passage : Passage) : Type 0 where
+pub record HandedOut (limit : ℕ) (stream written : List ℕ) (place : Place) (passage : Passage)
+    : Type 0 where
   pub frames : List Frame
   pub each : AllByRecursion (IsPassedOn limit) frames
   pub limit_is : passage.limit ≡ limit
@@ -97,7 +109,8 @@ abbrev pub HandsOut : ℕ → List ℕ → List ℕ → Handed → Passage → T
 HandsOut limit stream written (More place) passage = HandedOut limit stream written place passage
 HandsOut limit stream written (Ready status) passage =
     HandedLast limit stream written (ready_text status) passage
-HandsOut limit stream written (Refused reply) passage = HandedUnfit limit stream written reply passage
+HandsOut limit stream written (Refused reply) passage =
+    HandedUnfit limit stream written reply passage
 
 -- nothing more is there, where more of the reply is to come
 abbrev pub IsDry : Handed → Passage → Type 0
@@ -122,7 +135,8 @@ HasHead limit (Cut kind size body) = Unit {0}
 HasHead limit (Untold begun after) = Unit {0}
 
 -- A reply ends so, of which `stream` was read before and `written` written.
-pub record Finishes (limit : ℕ) (stream written : List ℕ) (end : ReplyEnd) (reads tells : List Call) : Type 0
+pub record Finishes (limit : ℕ) (stream written : List ℕ) (end : ReplyEnd)
+    (reads tells : List Call) : Type 0
   where
     pub frames : List Frame
     pub each : AllByRecursion (IsPassedOn limit) frames
@@ -143,7 +157,8 @@ EndsHere limit stream written reads tells stayed =
 -- The reply is whole, and the stay goes on.
 abbrev pub GoesOn : ℕ → List ℕ → List ℕ → List Call → List Call → Type 0
 GoesOn limit stream written reads tells = (status : ℕ)
-    × Finishes limit stream written (ReadyEnd status []) reads tells × (status_of status ≡ InTransaction)
+    × Finishes limit stream written (ReadyEnd status []) reads tells
+    × (status_of status ≡ InTransaction)
 
 -- what is left of the session and of the link where the session goes on
 abbrev pub LeavesBehind : ℕ → Stayed → Session → Session → Passage → Type 0

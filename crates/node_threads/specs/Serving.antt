@@ -91,7 +91,8 @@ pub record Gets (pass : PassRecord) (database : ℕ) (link : LinkRecord) (old ne
   pub moves : Moves nothing old a_lease new
 
 -- A request was carried over a stream of a link, which was handed in by how the stay there ended.
-pub record Carries {T : Type 0} (limit : ℕ) (wrote gave : Effect T) (link : LinkRecord) (request kept : List ℕ)
+pub record Carries {T : Type 0} (limit : ℕ) (wrote gave : Effect T) (link : LinkRecord)
+    (request kept : List ℕ)
     (stayed : Stayed) (calls : List Call) (left : List ℕ) (old new : CallerView) : Type 0 where
   pub stream : T
   pub after : T
@@ -118,7 +119,8 @@ Comes limit wrote gave pass database request Dropped end kept calls left old new
 
 -- The client's next request was read, and this came of it: the session goes on, or ends, and this
 -- is written then.
-pub record IsRequest {T : Type 0} (limit : ℕ) (wrote gave : Effect T) (pass : PassRecord) (database : ℕ)
+pub record IsRequest {T : Type 0} (limit : ℕ) (wrote gave : Effect T) (pass : PassRecord)
+    (database : ℕ)
     (end : Option (List ℕ)) (kept : List ℕ) (calls : List Call) (left : List ℕ)
     (old new : CallerView) : Type 0 where
   pub asks : List Call

@@ -33,7 +33,8 @@ asked round = request_of round.parts round.last
 
 -- The request was written to the link. After that its reply was read from there, not a byte more,
 -- and was written to the client. After that the next request was read.
-pub record IsRound (limit : ℕ) (request before kept : List ℕ) (round : Round) (link client : List Call)
+pub record IsRound (limit : ℕ) (request before kept : List ℕ) (round : Round)
+    (link client : List Call)
     (left : List ℕ) : Type 0 where
   pub sends : List Call
   pub reads : List Call
@@ -65,7 +66,8 @@ Ends limit Unsent request before kept link client outcome left =
     WroteSome request link × (client ≡ []) × (left ≡ kept) × EndsBy ConnectionFailure outcome
 Ends limit (Replied frames end) request before kept link client outcome left =
     (sends : List Call) × (reads : List Call) × (link ≡ sends ++ reads)
-    × Wrote request sends × Replies limit before frames end reads client × EndsStay limit end outcome
+    × Wrote request sends × Replies limit before frames end reads client
+    × EndsStay limit end outcome
     × (left ≡ kept)
 Ends limit (Deserted frames status leaving) request before kept link client outcome left =
     (sends : List Call) × (reads : List Call) × (link ≡ sends ++ reads)
@@ -75,7 +77,8 @@ Ends limit (Deserted frames status leaving) request before kept link client outc
     × (reply : List ℕ) × Leaves limit leaving kept asks reply left × (outcome ≡ End reply)
 
 -- Rounds, one after another, and then the end.
-abbrev pub Runs : ℕ → List Round → Ending → List ℕ → List ℕ → List ℕ → List Call → List Call → Stayed
+abbrev pub Runs : ℕ → List Round → Ending → List ℕ → List ℕ → List ℕ → List Call → List Call
+    → Stayed
     → List ℕ → Type 0
 Runs limit [] ending request before kept link client outcome left =
     Ends limit ending request before kept link client outcome left
@@ -141,7 +144,8 @@ IsRefusedMemory ending = ⊥
 -- A stay on a link with a request in hand. `before` is what was read of the link before, and `kept`
 -- what was read of the client; the calls are those on both streams, and `left` is what is kept of
 -- the client's input then.
-pub record Stay (limit : ℕ) (request before kept : List ℕ) (link client : List Call) (outcome : Stayed)
+pub record Stay (limit : ℕ) (request before kept : List ℕ) (link client : List Call)
+    (outcome : Stayed)
     (left : List ℕ) : Type 0 where
   pub rounds : List Round
   pub ending : Ending

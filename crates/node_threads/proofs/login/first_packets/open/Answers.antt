@@ -13,7 +13,8 @@ returns-in-Err-clause-opens g c =
     c.as_slice.ensures c.in-Err.ensures.found in
     opens_over _ _ _ _ _ c.loop.opening c.loop.text.items c.loop.cutter.bytes c.loop.invariant.1
     (ends_refused _ _ _ _ c.loop.opening c.loop.text.items c.in-Err.error
-    (refused_for c.loop.opening c.loop.text.items false c.in-Err.error found) c.refuse_first.ensures)
+    (refused_for c.loop.opening c.loop.text.items false c.in-Err.error found)
+    c.refuse_first.ensures)
 
 pub returns-in-Startup-clause-opens : goal.returns-in-Startup-clause-opens
 returns-in-Startup-clause-opens g c =
@@ -22,7 +23,8 @@ returns-in-Startup-clause-opens g c =
     let answer = subst (λ first. Answers c.loop.opening c.loop.text.items false (Ok first))
     c.in-Startup.is found in
     opens_session _ _ _ _ _ c.loop.opening c.loop.text.items c.split_at.result.1.now
-    c.begin.new.cutter.bytes c.in-Startup.kind c.in-Startup.user c.in-Startup.database c.in-Startup.used
+    c.begin.new.cutter.bytes c.in-Startup.kind c.in-Startup.user c.in-Startup.database
+    c.in-Startup.used
     c.begin.result c.loop.invariant.1 answer
     (c.split_at.ensures.back ∙ ap (drop c.in-Startup.used) c.as_slice-in-Startup.ensures)
     c.begin.ensures.begins c.begin.ensures.same

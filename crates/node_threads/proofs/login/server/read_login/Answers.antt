@@ -5,7 +5,8 @@ use Rattle.node_threads.proofs.login.server.read_login.Goals as goal
 pub returns-in-Done-clause-reads : goal.returns-in-Done-clause-reads
 returns-in-Done-clause-reads g c =
     let so_far = c.loop.invariant in
-    key_found _ _ _ _ _ c.loop.place c.loop.login c.loop.link.flow c.take_pieces.new.flow c.in-Done.key
+    key_found _ _ _ _ _ c.loop.place c.loop.login c.loop.link.flow c.take_pieces.new.flow
+    c.in-Done.key
     c.key_at_end.result so_far (c.in-Done.ensures.takes _ so_far.stream so_far.come)
     c.key_at_end.ensures
 

@@ -23,9 +23,11 @@ loop-init g c = (
 
 pub loop-preserved : goal.loop-preserved
 loop-preserved g c =
-    let on = serving_next _ _ _ _ _ _ _ c.args.database c.args.cutter.now.bytes _ _ _ c.loop.cutter.bytes _ _ _ _
+    let on = serving_next _ _ _ _ _ _ _ c.args.database c.args.cutter.now.bytes _ _ _
+    c.loop.cutter.bytes _ _ _ _
     c.loop.session _ c.serve_request-ended.result c.loop.invariant.1 c.in_default-ended.is
-    c.serve_request-ended.ensures.session c.loop.invariant.2 c.serve_request-ended.ensures.serves in (
+    c.serve_request-ended.ensures.session c.loop.invariant.2 c.serve_request-ended.ensures.serves
+    in (
       moves_on nothing nothing nothing _ _ _ c.loop.invariant.0
           c.serve_request-ended.ensures.balanced,
       on.0,
@@ -35,6 +37,7 @@ loop-preserved g c =
 
 pub returns-in-Some-ended-clause-stays : goal.returns-in-Some-ended-clause-stays
 returns-in-Some-ended-clause-stays g c =
-    serving_last _ _ _ _ _ _ _ c.args.database c.args.cutter.now.bytes _ _ _ c.loop.cutter.bytes _ _ _ _
+    serving_last _ _ _ _ _ _ _ c.args.database c.args.cutter.now.bytes _ _ _ c.loop.cutter.bytes _
+    _ _ _
     c.loop.session c.serve_request-ended.result c.in-Some-ended.end c.loop.invariant.1
     c.in-Some-ended.is c.loop.invariant.2 c.serve_request-ended.ensures.serves

@@ -7,7 +7,8 @@ use Rattle.node_threads.proofs.session.client.serve_pass.Given as goal
 
 -- so far requests were served, and between two of them nothing but the pass is held
 abbrev pub invariant-loop : goal.invariant-loop
-invariant-loop g l = Balanced l.fn.caller l.caller × (l.session ≡ start l.fn.service.limit.now l.fn.database)
+invariant-loop g l = Balanced l.fn.caller l.caller
+    × (l.session ≡ start l.fn.service.limit.now l.fn.database)
     × Serving l.fn.service.limit.now (λ old bytes result new.
     WriteAppends (g.O.Stream.Write.contents old) (g.O.Stream.Write.contents new) result bytes)
     (λ old buffer result new.

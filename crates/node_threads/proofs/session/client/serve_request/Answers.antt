@@ -12,5 +12,8 @@ returns-clause-serves g c =
     request_served_at _ _ _ _ _ _ _ _ _ _ c.database-database.result _ c.acquire-acquired.result
     c.in-Ok.request c.serve_acquired-end.result c.args.cutter.now.bytes _ _ _ _ _
     (c.database-database.ensures ∙ ap (λ (s : Session). s.database) c.in-Ok.ensures.session)
-    (ap (λ (s : Session). s.limit) c.in-Ok.ensures.session) c.in-Ok.ensures.asks c.acquire-acquired.ensures.answer c.acquire-acquired.ensures.database
+    (ap
+    (λ
+    (s : Session). s.limit) c.in-Ok.ensures.session) c.in-Ok.ensures.asks
+    c.acquire-acquired.ensures.answer c.acquire-acquired.ensures.database
     c.acquire-acquired.ensures.moves c.serve_acquired-end.ensures.comes

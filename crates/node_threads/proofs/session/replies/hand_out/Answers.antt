@@ -18,8 +18,10 @@ loop-piece-preserved c =
     subst (λ (found : Option Piece). Hands c.pass_frames.new.flow found new) c.in-Some.is
     c.next.follows.holds-at-none in
     let is = is_asking _ _ c.requires c.loop-piece.invariant.1 in (
-      λ limit stream written start. hands_piece limit stream written c.loop-piece.place c.pass_frames.new.flow new
-          c.in-Some.piece _ _ _ is (c.pass_frames.ensures.handed limit stream written c.loop-piece.place
+      λ limit stream written start. hands_piece limit stream written c.loop-piece.place
+          c.pass_frames.new.flow new
+          c.in-Some.piece _ _ _ is (c.pass_frames.ensures.handed limit stream written
+          c.loop-piece.place
           (c.loop-piece.invariant.0 limit stream written start)) hands
           c.in-More.ensures,
       piece_session _ _ _ _ _ is c.in-More.ensures ∙ c.loop-piece.invariant.1,
@@ -32,7 +34,8 @@ returns-in-Ready-clause-handed c limit stream written start =
     subst (λ (found : Option Piece). Hands c.pass_frames.new.flow found new) c.in-Some.is
     c.next.follows.holds-at-none in
     let is = is_asking _ _ c.requires c.loop-piece.invariant.1 in
-    hands_piece limit stream written c.loop-piece.place c.pass_frames.new.flow new c.in-Some.piece _ _ _ is
+    hands_piece limit stream written c.loop-piece.place c.pass_frames.new.flow new c.in-Some.piece
+    _ _ _ is
     (c.pass_frames.ensures.handed limit stream written c.loop-piece.place
     (c.loop-piece.invariant.0 limit stream written start)) hands c.in-Ready.ensures
 
@@ -43,6 +46,7 @@ returns-in-Refused-clause-handed c limit stream written start =
     subst (λ (found : Option Piece). Hands c.pass_frames.new.flow found new) c.in-Some.is
     c.next.follows.holds-at-none in
     let is = is_asking _ _ c.requires c.loop-piece.invariant.1 in
-    hands_piece limit stream written c.loop-piece.place c.pass_frames.new.flow new c.in-Some.piece _ _ _ is
+    hands_piece limit stream written c.loop-piece.place c.pass_frames.new.flow new c.in-Some.piece
+    _ _ _ is
     (c.pass_frames.ensures.handed limit stream written c.loop-piece.place
     (c.loop-piece.invariant.0 limit stream written start)) hands c.in-Refused.ensures

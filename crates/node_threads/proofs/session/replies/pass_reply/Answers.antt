@@ -21,7 +21,8 @@ returns-in-Some-read_on-clause-ends g c =
     let so_far = c.loop.invariant.0 in
     let out = c.in-More.ensures.handed _ _ _ so_far.out in
     let ends = c.in-Some-read_on.ensures.ends in
-    passing_ends _ _ _ _ _ _ _ _ _ _ _ c.args.link.now.flow.bytes _ _ c.in-Some-read_on.stayed so_far
+    passing_ends _ _ _ _ _ _ _ _ _ _ _ c.args.link.now.flow.bytes _ _ c.in-Some-read_on.stayed
+    so_far
     ends.0 ends.2.0 ends.1 ends.2.1 (ends.2.2 _ _ _ out)
 
 pub loop-preserved : goal.loop-preserved
@@ -43,7 +44,8 @@ returns-in-Ready-clause-goes_on g c none =
     let so_far = c.loop.invariant.0 in
     let last = c.in-Ready.ensures.handed _ _ _ so_far.out in
     let goes = c.finish.ensures.goes_on none in
-    passing_goes_on _ _ _ _ _ _ _ _ _ _ _ c.args.link.now.flow.bytes _ _ so_far [] goes.0 refl goes.1
+    passing_goes_on _ _ _ _ _ _ _ _ _ _ _ c.args.link.now.flow.bytes _ _ so_far [] goes.0 refl
+    goes.1
     (goes.2 _ _ _ last)
 
 pub returns-in-Ready-clause-ends : goal.returns-in-Ready-clause-ends
@@ -64,8 +66,10 @@ returns-in-Refused-clause-ends g c =
     let so_far = c.loop.invariant.0 in
     let unfit = c.in-Refused.ensures.handed _ _ _ so_far.out in
     let told = c.refuse.ensures in
-    passing_ends _ _ _ _ _ _ _ _ _ _ _ c.args.link.now.flow.bytes _ _ c.refuse.result so_far [] told.0
-    refl told.1 (unfit_ends _ _ _ c.in-Refused.error c.hand_out.new.flow c.refuse.result told.0 unfit
+    passing_ends _ _ _ _ _ _ _ _ _ _ _ c.args.link.now.flow.bytes _ _ c.refuse.result so_far []
+    told.0
+    refl told.1 (unfit_ends _ _ _ c.in-Refused.error c.hand_out.new.flow c.refuse.result told.0
+    unfit
     told.2)
 
 pub returns-in-Some-read_on-clause-leaves : goal.returns-in-Some-read_on-clause-leaves

@@ -57,8 +57,12 @@ loop-found-preserved-in-ToClient c =
     came.1 ∙ ap (λ p. text c.in-Some.frame ++ p.bytes) (sym c.recycle.ensures) in
     let on =
     gathered_on _ _ c.loop-found.session _ _ c.loop-found.cutter.bytes _ _ c.in-Some.frame
-    c.loop-found.invariant.0 came.0 whole c.in-ToClient.ensures c.loop-found.invariant.1 in
-    (on.0, on.1, ap (λ p. p.limit) c.recycle.ensures ∙ c.in-Ok.ensures.limit ∙ c.loop-found.invariant.2)
+    c.loop-found.invariant.0 came.0 whole c.in-ToClient.ensures c.loop-found.invariant.1 in (
+      on.0,
+      on.1,
+      ap (λ p. p.limit) c.recycle.ensures ∙ c.in-Ok.ensures.limit
+          ∙ c.loop-found.invariant.2,
+    )
 
 pub loop-found-smaller-in-ToClient-2 : goal.loop-found-smaller-in-ToClient-2
 loop-found-smaller-in-ToClient-2 c =
@@ -78,5 +82,9 @@ loop-found-preserved-in-ToClient-2 c =
     came.1 ∙ ap (λ p. text c.in-Some.frame ++ p.bytes) (sym c.recycle.ensures) in
     let on =
     gathered_on _ _ c.loop-found.session _ _ c.loop-found.cutter.bytes _ _ c.in-Some.frame
-    c.loop-found.invariant.0 came.0 whole c.in-ToClient.ensures c.loop-found.invariant.1 in
-    (on.0, on.1, ap (λ p. p.limit) c.recycle.ensures ∙ c.in-Ok.ensures.limit ∙ c.loop-found.invariant.2)
+    c.loop-found.invariant.0 came.0 whole c.in-ToClient.ensures c.loop-found.invariant.1 in (
+      on.0,
+      on.1,
+      ap (λ p. p.limit) c.recycle.ensures ∙ c.in-Ok.ensures.limit
+          ∙ c.loop-found.invariant.2,
+    )

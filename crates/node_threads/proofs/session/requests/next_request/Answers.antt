@@ -15,7 +15,8 @@ pub returns-in-Request-clause-asks : goal.returns-in-Request-clause-asks
 returns-in-Request-clause-asks g c =
     let so_far = c.loop.invariant.0 in
     let finds =
-    finds_of c.args.session.now.limit c.loop.session c.loop.cutter.bytes (Request c.in-Request.request)
+    finds_of c.args.session.now.limit c.loop.session c.loop.cutter.bytes (Request
+    c.in-Request.request)
     c.cut_request.new.session c.cut_request.new.cutter.bytes
     (ap (λ (s : Session). s.limit) so_far.session_is) c.in-Request.ensures.finds in
     (asks_request c.args.session.now.limit _ _ _ _ c.args.session.now.leased

@@ -47,7 +47,8 @@ loop-preserved g c =
     let none = c.in_default.is in
     let same = c.recycle.ensures ∙ c.loop.invariant.1 in
     let limit_is =
-    ap (λ (s : Session). s.limit) (c.pass_reply.ensures.open none) ∙ ap (λ (s : Session). s.limit) same in
+    ap (λ (s : Session). s.limit) (c.pass_reply.ensures.open none) ∙ ap
+    (λ (s : Session). s.limit) same in
     let goes =
     goes_of c.args.session.now.limit _ _ _ _ _ _ _ _ _ _ c.loop.invariant.4
     (c.pass_reply.ensures.goes_on none) in
@@ -75,7 +76,8 @@ returns-in-Err-clause-stay g c =
     let none = c.in_default.is in
     let same = c.recycle.ensures ∙ c.loop.invariant.1 in
     let limit_is =
-    ap (λ (s : Session). s.limit) (c.pass_reply.ensures.open none) ∙ ap (λ (s : Session). s.limit) same in
+    ap (λ (s : Session). s.limit) (c.pass_reply.ensures.open none) ∙ ap
+    (λ (s : Session). s.limit) same in
     let goes =
     goes_of c.args.session.now.limit _ _ _ _ _ _ _ _ _ _ c.loop.invariant.4
     (c.pass_reply.ensures.goes_on none) in
