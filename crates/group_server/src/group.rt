@@ -371,7 +371,10 @@ fn serving_at<H: Host>(
     let boot = Boot((options.boot as u64) << 32);
     let first = Calling::new(alloc, group, place, options.seed, boot)?;
     let first = Box::new(alloc, first)?;
-    Ok(Arc::new(alloc, Serving::new(alloc, first, dialer))?)
+    Ok(Arc::new(
+        alloc,
+        Serving::new(alloc, first, dialer, options.max_message),
+    )?)
 }
 
 // Accepts the connections of each node in a thread apart.

@@ -56,4 +56,5 @@ pub use metrics::{
 };
 pub use options::ServeOptions;
 pub use origin::Origin;
+pub use pg_frames::MessageLimit;
 pub use serving::Serving;

@@ -1,6 +1,7 @@
 //! What a group is served with.
 use crate::log::{Event, Level, Log, Value, put_fields};
 use ini_config::{Group, Settings};
+use pg_frames::MessageLimit;
 use startup::Reports;
 use std::alloc::{AllocError, Global};
 use std::sync::Wait;
@@ -29,6 +30,8 @@ pub struct ServeOptions<'a> {
     pub log: Level,
     /// The port of 127.0.0.1 at which metrics are read, if any are counted.
     pub metrics: Option<u16>,
+    /// How long a message may be, of a client and of a server.
+    pub max_message: MessageLimit,
 }
 
 // What the log says where no boot number was given.

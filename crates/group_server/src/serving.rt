@@ -1,7 +1,8 @@
 //! A node that serves connections.
 use crate::metrics::{Census, Meter};
 use crate::{ClientStream, Connection, Dialer, LinkStream, Machine};
-use node_threads::{Calling, Open, serve_connection};
+use node_threads::{Calling, Context, Open, serve_connection};
+use pg_frames::MessageLimit;
 use std::alloc::{AllocError, Global};
 use std::sync::{Mutex, Wait};
 
@@ -14,16 +15,25 @@ pub struct Serving<M: Machine> {
     // Callers for cancel requests where no other can be made.
     reserve: Mutex<Vec<Box<Calling<LinkStream<M>>>>>,
     dialer: Dialer<M>,
+    // How long a message may be.
+    limit: MessageLimit,
 }
 
 impl<M: Machine> Serving<M> {
-    /// A node with its first caller, and what connects it to servers and peers.
-    pub fn new(alloc: Global, first: Box<Calling<LinkStream<M>>>, dialer: Dialer<M>) -> Serving<M> {
+    /// A node with its first caller, what connects it to servers and peers, and the limit of a
+    /// message.
+    pub fn new(
+        alloc: Global,
+        first: Box<Calling<LinkStream<M>>>,
+        dialer: Dialer<M>,
+        limit: MessageLimit,
+    ) -> Serving<M> {
         Serving {
             first: Mutex::new(first),
             free: Mutex::new(Vec::new(alloc)),
             reserve: Mutex::new(Vec::new(alloc)),
             dialer,
+            limit,
         }
     }
 
@@ -96,7 +106,9 @@ impl<M: Machine> Serving<M> {
     ) {
         let opener = self.dialer.on_behalf(connection);
         let reports = self.dialer.reports();
-        serve_connection(rt, alloc, &mut calling, &opener, &Open, reports, client);
+        let context = Context { rt, gate: &Open };
+        let limit = &self.limit;
+        serve_connection(context, alloc, &mut calling, &opener, reports, limit, client);
         connection.meter().finish(self.dialer.machine());
         self.give_back(rt, calling);
         if let Some((end, millis)) = client.cancel_end() {

@@ -2,9 +2,9 @@
 use crate::group::ANY_PORT;
 use crate::host::TestHost;
 use crate::settings::group;
-use group_server::{Connection, Dialer, Level, LinkStream, Log, Machine};
+use group_server::{Connection, Dialer, Level, LinkStream, Log, Machine, MessageLimit};
 use ini_config::Group;
-use node_threads::{Calling, Gate, Point, serve_connection};
+use node_threads::{Calling, Context, Gate, Point, serve_connection};
 use pg_ids::Boot;
 use startup::Reports;
 use std::alloc::{AllocError, Global};
@@ -130,13 +130,17 @@ fn serve<R: TestHost>(
     let connection = Connection::new(socket);
     let opener = node.dialer.on_behalf(&connection);
     let mut client = connection.socket();
-    serve_connection(
+    let context = Context {
         rt,
+        gate: &*node.gate,
+    };
+    serve_connection(
+        context,
         rt.alloc(),
         &mut calling,
         &opener,
-        &*node.gate,
         node.dialer.reports(),
+        &MessageLimit::DEFAULT,
         &mut client,
     );
 }

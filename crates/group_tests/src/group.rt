@@ -3,7 +3,7 @@ use crate::client::TURNS;
 use crate::host::TestHost;
 use crate::reported::reports_of;
 use crate::settings::group_before;
-use group_server::{Level, Listening, ServeOptions};
+use group_server::{Level, Listening, MessageLimit, ServeOptions};
 use ini_config::Group;
 use startup::Reports;
 use std::alloc::{AllocError, Global};
@@ -179,6 +179,7 @@ pub(crate) const fn options(
         until_eof: false,
         log: Level::Notice,
         metrics,
+        max_message: MessageLimit::DEFAULT,
     }
 }
 

@@ -1,7 +1,7 @@
 //! `serve`: a group of nodes serves clients, until the process is stopped or the group has drained.
 use crate::standing_in::stand_in_for_servers;
 use command_line::{LogLevel, ServeRequest, version};
-use group_server::{Host, Level, ServeError, ServeOptions, serve_group};
+use group_server::{Host, Level, MessageLimit, ServeError, ServeOptions, serve_group};
 use ini_config::Group;
 use std::alloc::Global;
 use std::io::{Read, Write};
@@ -30,8 +30,17 @@ pub(crate) fn serve<H: Host, I: Read, W: Write>(
         until_eof: request.until_eof,
         log: level_of(request.log),
         metrics: request.metrics,
+        max_message: limit_of(request.max_message),
     };
     serve_group(host, alloc, group, &options, input, out)
+}
+
+// The limit of a message that an argument names. It is in range.
+fn limit_of(bytes: u32) -> MessageLimit {
+    match MessageLimit::new(bytes) {
+        Some(limit) => limit,
+        None => MessageLimit::DEFAULT,
+    }
 }
 
 // The level that an argument names.
