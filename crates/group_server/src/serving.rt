@@ -108,7 +108,15 @@ impl<M: Machine> Serving<M> {
         let reports = self.dialer.reports();
         let context = Context { rt, gate: &Open };
         let limit = &self.limit;
-        serve_connection(context, alloc, &mut calling, &opener, reports, limit, client);
+        serve_connection(
+            context,
+            alloc,
+            &mut calling,
+            &opener,
+            reports,
+            limit,
+            client,
+        );
         connection.meter().finish(self.dialer.machine());
         self.give_back(rt, calling);
         if let Some((end, millis)) = client.cancel_end() {
