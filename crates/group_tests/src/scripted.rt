@@ -1,7 +1,7 @@
 //! A server of which each connection writes what a script says.
 use crate::host::TestHost;
 use std::alloc::AllocError;
-use std::io::{Read, Write};
+use std::io::{ErrorKind, Read, Write};
 use std::net::{TcpListener, TcpStream};
 use std::test::Fail;
 use std::{io, thread};
@@ -42,10 +42,21 @@ fn play(stream: TcpStream, script: Script) {
     let _ = try_play(stream, script);
 }
 
+// Reads a first packet, and nothing of what follows it.
+fn read_packet(stream: &mut TcpStream, buffer: &mut [u8]) -> io::Result<()> {
+    let mut head = [0; 4];
+    stream.read_exact(&mut head)?;
+    let rest = (u32::from_be_bytes(head) as usize).saturating_sub(head.len());
+    match buffer.get_mut(..rest) {
+        Some(rest) => stream.read_exact(rest),
+        None => Err(io::Error::from(ErrorKind::InvalidData)),
+    }
+}
+
 fn try_play(stream: TcpStream, script: Script) -> io::Result<()> {
     let mut stream = stream;
     let mut buffer = [0; 1_024];
-    stream.read(&mut buffer)?;
+    read_packet(&mut stream, &mut buffer)?;
     stream.write_all(script.login)?;
     for answer in script.answers {
         stream.read(&mut buffer)?;
