@@ -11,11 +11,11 @@ ghost use Rattle.node_threads.specs.Connection.{place_of, ServesAt, ServesConnec
 
 use crate::login::refuse;
 use crate::{
-    CONSOLE, Calling, Gate, Link, Node, Opened, Opener, Service, open, serve_cancel, serve_client,
-    serve_console,
+    CONSOLE, Calling, CancelOpener, Context, Gate, Link, Node, Opened, Opener, Service, SingleUse,
+    open, serve_cancel, serve_client, serve_console,
 };
 use peer_forward::{ReadCalls, WriteCalls};
-use pg_frames::Cutter;
+use pg_frames::{Cutter, MessageLimit};
 use pg_ids::{AnyKey, Kind};
 use startup::{ErrorCode, Reports};
 use std::alloc::Global;
@@ -25,12 +25,12 @@ use std::sync::Wait;
 /// asks for or on the console, or a cancel request. A database that isn't in the settings is
 /// refused. A cancel request for which no seat at the board is free is given up without an order.
 pub fn serve_connection<R, O, G, C>(
-    rt: &R,
+    context: Context<'_, R, G>,
     alloc: Global,
     calling: &mut Calling<O::Stream>,
     opener: &O,
-    gate: &G,
     reports: &Reports,
+    limit: &MessageLimit,
     client: &mut C,
 )
 where
@@ -44,7 +44,7 @@ where
     ensures served { ForSome
         (slice_get (arc_value (arc_value calling.old.node).group) (arc_value calling.old.node).place)
         (λ settings. ServesConnection
-        ⟦<O::Stream as WriteCalls>⟧.wrote ⟦<O::Stream as ReadCalls>⟧.gave C.wrote C.gave
+        limit.now ⟦<O::Stream as WriteCalls>⟧.wrote ⟦<O::Stream as ReadCalls>⟧.gave C.wrote C.gave
         (IsCarried ⟦<O::Stream as WriteCalls>⟧.wrote ⟦<O::Stream as ReadCalls>⟧.gave
         (O.cancels opener.now))
         (IsCarried ⟦<O::Stream as WriteCalls>⟧.wrote ⟦<O::Stream as ReadCalls>⟧.gave
@@ -52,13 +52,15 @@ where
         reports.now settings.databases client.old client.new calling.old.caller
         calling.new.caller) }
 {
-    let mut cutter = Cutter::new(alloc);
+    let mut cutter = Cutter::with_limit(alloc, *limit);
+    let Context { rt, gate } = context;
     let visit = Visit {
         rt,
         alloc,
         opener,
         gate,
         reports,
+        limit,
     };
     match open(rt, alloc, client, &mut cutter) {
         Opened::Session { database, kind } => {
@@ -69,7 +71,10 @@ where
                 serve_session(visit, calling, client, &mut cutter, name, kind);
             }
         }
-        Opened::Cancel(key) => serve_cancel_connection(visit, calling, client, key),
+        Opened::Cancel(key) => {
+            let opener = SingleUse { opener };
+            serve_cancel_connection(Context { rt, gate }, opener, calling, client, key);
+        }
         Opened::Over => {}
     }
 }
@@ -82,6 +87,7 @@ struct Visit<'a, R, O, G> {
     opener: &'a O,
     gate: &'a G,
     reports: &'a Reports,
+    limit: &'a MessageLimit,
 }
 
 // Serves a session on the database of this name.
@@ -98,13 +104,14 @@ where
     O: Opener,
     G: Gate,
     C: WriteCalls + ReadCalls,
+    requires cutter { cutter.old.limit ≡ visit.limit.now }
     ensures balanced { Balanced calling.old.caller calling.new.caller }
     ensures served { ForSome
         (slice_get (arc_value (arc_value calling.old.node).group) (arc_value calling.old.node).place)
         (λ settings. SomeCalls C.wrote C.gave client.old client.new (λ calls. ServesAt
-        ⟦<O::Stream as WriteCalls>⟧.wrote ⟦<O::Stream as ReadCalls>⟧.gave
-        visit.entry.reports.now (place_of name.now settings.databases) kind cutter.old calls
-        cutter.new calling.old.caller calling.new.caller)) }
+        visit.entry.limit.now ⟦<O::Stream as WriteCalls>⟧.wrote ⟦<O::Stream as ReadCalls>⟧.gave
+        visit.entry.reports.now (place_of name.now settings.databases) kind cutter.old.bytes
+        calls cutter.new.bytes calling.old.caller calling.new.caller)) }
 {
     let Some(database) = calling.node.settings().find_database(name) else {
         refuse(visit.alloc, client, ErrorCode::InvalidCatalogName);
@@ -126,46 +133,48 @@ where
 // Serves a cancel request with this key. A client that waits to ask for a link asks first, so that
 // the request finds it waiting.
 #[inline(never)]
-fn serve_cancel_connection<R, O, G, C>(
-    visit: Visit<'_, R, O, G>,
-    calling: &mut Calling<O::Stream>,
+fn serve_cancel_connection<R, S, O, G, C>(
+    context: Context<'_, R, G>,
+    opener: O,
+    calling: &mut Calling<S>,
     client: &mut C,
     key: AnyKey,
 )
 where
     R: Wait,
-    O: Opener,
+    S: Drop,
+    O: CancelOpener,
     G: Gate,
-    C: WriteCalls + ReadCalls,
+    C: WriteCalls,
     ensures balanced { Balanced calling.old.caller calling.new.caller }
     ensures served { ((client.new ≡ client.old) × (calling.new.caller ≡ calling.old.caller))
         ⊎ ((seat next : SeatView) × ServesCancel
         (IsCarried ⟦<O::Stream as WriteCalls>⟧.wrote ⟦<O::Stream as ReadCalls>⟧.gave
-        (O.cancels visit.entry.opener.now))
+        (O.cancels opener))
         (IsCarried ⟦<O::Stream as WriteCalls>⟧.wrote ⟦<O::Stream as ReadCalls>⟧.gave
-        (O.reaches visit.entry.opener.now))
+        (O.reaches opener))
         key calling.old.caller calling.new.caller seat next
         (λ verdict. Finishes C.wrote client.old verdict client.new)) }
 {
+    let rt = context.rt;
     let is_own = key.peer() == calling.node.settings().peer_id();
-    let Some(mut seat) = calling.node.seats.take(visit.rt, key, is_own) else {
-        visit.opener.give_up_cancel();
+    let Some(mut seat) = calling.node.seats.take(rt, key, is_own) else {
+        opener.give_up();
         return;
     };
     if is_own {
-        calling.node.admission.tell_to_ask(visit.rt, key.slot());
+        calling.node.admission.tell_to_ask(rt, key.slot());
     }
-    let counting = &mut seat.counting;
-    let service = visit.to(&calling.node);
     serve_cancel(
-        service,
+        context,
+        &calling.node.shared,
         &mut calling.caller,
-        &counting.board,
-        &mut counting.seat,
+        &mut seat.counting,
+        opener,
         client,
         key,
     );
-    calling.node.seats.give_back(visit.rt, seat);
+    calling.node.seats.give_back(rt, seat);
 }
 
 impl<'a, R, O: Opener, G> Visit<'a, R, O, G> {
@@ -174,6 +183,7 @@ impl<'a, R, O: Opener, G> Visit<'a, R, O, G> {
         ensures shared { result.shared.now ≡ node.now.shared }
         ensures opener { result.opener.now ≡ self.now.opener.now }
         ensures reports { result.reports.now ≡ self.now.reports.now }
+        ensures limit { result.limit.now ≡ self.now.limit.now }
     {
         Service {
             rt: self.rt,
@@ -181,6 +191,7 @@ impl<'a, R, O: Opener, G> Visit<'a, R, O, G> {
             shared: &node.shared,
             settings: node.settings(),
             reports: self.reports,
+            limit: self.limit,
             admission: &node.admission,
             opener: self.opener,
             gate: self.gate,

@@ -13,12 +13,15 @@ mod service;
 mod session;
 mod stream;
 
-pub use cancel::{Counting, Seat, Seats, relay, report, serve_cancel};
+pub use cancel::{CancelOpener, Counting, Seat, Seats, SingleUse, relay, report, serve_cancel};
 pub use connection::serve_connection;
 pub use desk::{Desk, DeskCall, ListDesk, LockDesk, RequestDesk, Requested};
 pub use gate::{Gate, Open, Point};
 pub use login::{Opened, open};
-pub use node::{Admission, Calling, Entrance, Front, Node, Secrets, restart};
+pub use node::{
+    Admission, Calling, ClientCensus, Entrance, Front, LinkCensus, Node, PoolCensus, Secrets,
+    restart,
+};
 pub use opener::Opener;
 pub use service::{Context, Service};
 pub use session::{CONSOLE, Link, Stayed, serve_client, serve_console, stay, turn};

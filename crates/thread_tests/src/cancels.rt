@@ -46,7 +46,7 @@ fn expect<R: Wait + Abort>(
     let mut requester = Wire::new(&log, 16, Reply::End);
     let opener = Dialer { log: &log, reply };
     let key = AnyKey::from_short_bytes(asked);
-    node.cancel(rt, alloc, &opener, &Marks(&log), &mut requester, key);
+    node.cancel(rt, &opener, &Marks(&log), &mut requester, key);
     assert_logged(rt, &log, events);
 }
 
@@ -151,7 +151,7 @@ fn refused(rt: HostRuntime) -> Result<(), Fail> {
     assert_eq!(rt; node.ask(&rt, &second), Asked::Waiting);
     expect(&rt, rt.alloc(), &mut node, SECOND, Some(Reply::End), &[]);
     assert_eq!(rt; node.ask(&rt, &second), Asked::Cancelled);
-    node.impoverish();
+    node.impoverish().expect(&rt, "parts of the seat");
     expect_refused(&rt, rt.alloc(), &mut node);
     let released = node.release(&rt, lease);
     assert_eq!(rt; released, ReleaseReply::Idle);

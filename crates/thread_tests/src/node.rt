@@ -7,12 +7,10 @@ use locked_node::{Caller, Journal, Shared};
 use node_core::{
     AcquireReply, DatabaseNo, Lease, LeaveReply, NodeCore, Pass, Permit, ReleaseReply,
 };
-use node_threads::{Admission, Gate, Opener, Service, serve_cancel};
+use node_threads::{Context, Counting, Gate, Opener, SingleUse, serve_cancel};
 use peer_forward::WriteCalls;
 use pg_ids::{AnyKey, Boot, Kind, PeerNo, Secret};
-use startup::Reports;
-use stat_board::{Board, BoardSeat};
-use std::alloc::Global;
+use std::alloc::{AllocError, Global};
 use std::sync::Wait;
 use std::test::Fail;
 
@@ -38,14 +36,10 @@ pub(crate) enum Asked {
 #[derive(Drop)]
 pub(crate) struct Node {
     shared: Shared<Stream>,
-    settings: Settings,
-    admission: Admission,
     caller: Caller<Stream>,
-    board: Board,
-    seat: BoardSeat,
+    counting: Counting,
     ghost own: { caller.lock ≡ shared },
     ghost some: { 0 < length caller.start.view.pools },
-    ghost seated: { seat.board ≡ board },
 }
 
 impl Node {
@@ -56,23 +50,20 @@ impl Node {
         let settings = Settings::plain(alloc, me, vec![in alloc; peer]?, 1, 2)?;
         let core = NodeCore::new(alloc, &settings, Boot(9))?;
         let (shared, caller) = Shared::new(alloc, Journal::new(alloc, core)?)?;
-        let (board, seat) = Board::new(alloc)?;
-        let admission = Admission::new(alloc, &settings)?;
+        let counting = Counting::new(alloc)?;
         Ok(Node {
             shared,
-            settings,
-            admission,
             caller,
-            board,
-            seat,
+            counting,
         })
     }
 
     // The seat has no allowance: half of it is left, 64 times.
-    pub(crate) fn impoverish(&mut self) {
+    pub(crate) fn impoverish(&mut self) -> Result<(), AllocError> {
         for _i in 0..64u32 {
-            self.seat = self.seat.split(&self.board);
+            self.counting = self.counting.split()?;
         }
+        Ok(())
     }
 
     // A client logs in.
@@ -129,24 +120,23 @@ impl Node {
     pub(crate) fn cancel<R: Wait, O: Opener, G: Gate, Q: WriteCalls>(
         &mut self,
         rt: &R,
-        alloc: Global,
         opener: &O,
         gate: &G,
         requester: &mut Q,
         key: AnyKey,
     ) {
-        let service = Service {
-            rt,
-            alloc,
-            shared: &self.shared,
-            settings: &self.settings,
-            reports: &Reports::new(alloc),
-            admission: &self.admission,
+        let context = Context { rt, gate };
+        let opener = SingleUse { opener };
+        let (caller, counting) = (&mut self.caller, &mut self.counting);
+        serve_cancel(
+            context,
+            &self.shared,
+            caller,
+            counting,
             opener,
-            gate,
-        };
-        let (caller, seat) = (&mut self.caller, &mut self.seat);
-        serve_cancel(service, caller, &self.board, seat, requester, key);
+            requester,
+            key,
+        );
     }
 
     // Who makes its calls.
@@ -155,16 +145,8 @@ impl Node {
     }
 
     // The words of the board.
-    pub(crate) fn words(self) -> [u64; 8] {
-        let Node {
-            shared: _,
-            settings: _,
-            admission: _,
-            caller: _,
-            board,
-            seat,
-        } = self;
-        board.close(seat)
+    pub(crate) fn words(&mut self) -> [u64; 8] {
+        self.counting.words()
     }
 }
 

@@ -7,11 +7,12 @@ use ini_config::Settings;
 use link_pool::Claim;
 use locked_node::{Caller as LockCaller, Journal, Shared};
 use node_core::NodeCore;
-use node_threads::{Admission, Gate, Link, Service, serve_cancel, serve_client};
-use pg_frames::Cutter;
+use node_threads::{
+    Admission, Context, Counting, Gate, Link, Service, SingleUse, serve_cancel, serve_client,
+};
+use pg_frames::{Cutter, MessageLimit};
 use pg_ids::{AnyKey, Boot, DatabaseNo, Kind, PeerNo, Secret};
 use startup::Reports;
-use stat_board::Board;
 use std::alloc::Global;
 use std::io::{Read, Write};
 use std::sync::{Arc, Wait};
@@ -105,6 +106,7 @@ impl Node {
             shared: &self.lock,
             settings: &self.settings,
             reports: &Reports::new(alloc),
+            limit: &MessageLimit::DEFAULT,
             admission: &admission,
             opener: &visit.dialer(),
             gate,
@@ -126,25 +128,22 @@ impl Node {
         requires own { caller.old.lock ≡ self.now.lock }
         ensures { (caller.new.lock ≡ caller.old.lock) × (caller.new.start ≡ caller.old.start) }
     {
-        let alloc = self.alloc;
-        let Ok((board, mut seat)) = Board::new(alloc) else {
+        let Ok(mut counting) = Counting::new(self.alloc) else {
             return;
         };
-        let Ok(admission) = Admission::new(alloc, &self.settings) else {
-            return;
-        };
-        let service = Service {
-            rt,
-            alloc,
-            shared: &self.lock,
-            settings: &self.settings,
-            reports: &Reports::new(alloc),
-            admission: &admission,
-            opener: &visit.dialer(),
-            gate,
-        };
+        let context = Context { rt, gate };
+        let dialer = visit.dialer();
+        let opener = SingleUse { opener: &dialer };
         let key = AnyKey::from_short_bytes(key);
-        serve_cancel(service, caller, &board, &mut seat, client, key);
+        serve_cancel(
+            context,
+            &self.lock,
+            caller,
+            &mut counting,
+            opener,
+            client,
+            key,
+        );
     }
 
     // How many calls were made in all. The node is at its end.

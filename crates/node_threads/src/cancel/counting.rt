@@ -1,7 +1,9 @@
 //! A seat at a node's board, with the board.
 ghost use Rattle.std.specs.Prelude.{◌≡◌, IfOk};
 ghost use Rattle.std.specs.Arc.{arc_value};
+ghost use Rattle.stat_board.specs.Places.{place_of};
 ghost use Rattle.stat_board.specs.Seats.{Splits};
+ghost use Rattle.node_threads.specs.Cancelling.{Tries};
 
 use stat_board::{Board, BoardSeat, Counter};
 use std::alloc::{AllocError, Global};
@@ -30,6 +32,14 @@ impl Counting {
         let board = Arc::try_clone(&self.board)?;
         let seat = self.seat.split(&board);
         Ok(Counting { board, seat })
+    }
+
+    // Counts one more, if the seat may.
+    pub(crate) fn count(&mut self, counter: Counter)
+        ensures counted { Tries self.old.seat (place_of counter) self.new.seat }
+        ensures board { self.new.seat.board ≡ self.old.seat.board }
+    {
+        let _ = self.seat.count(&self.board, counter);
     }
 
     /// The words of the board, in the order of its counters.

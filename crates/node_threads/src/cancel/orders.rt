@@ -11,7 +11,7 @@ ghost use Rattle.node_threads.specs.Cancelling.{Tries, CountsAll, words_of_refus
 ghost use Rattle.node_threads.specs.Balance.{Balanced, CancelsAtMostOnce};
 
 use crate::cancel::report_unconnected;
-use crate::{Context, Gate, LockDesk, Opener, Point, Requested, Service, relay, report};
+use crate::{CancelOpener, Context, Counting, Gate, LockDesk, Point, Requested, relay, report};
 use cancel_router::RouteRefusal;
 use lease::Ticket;
 use locked_node::{Caller, Shared};
@@ -19,90 +19,105 @@ use node_core::{CancelRefusal, Order};
 use peer_forward::{Outcome, ReadCalls, Verdict, WriteCalls, finish};
 use pg_ids::{AnyKey, DatabaseNo, PeerNo, ServerKey};
 use startup::{Packet, write_cancel};
-use stat_board::{Board, BoardSeat, Counter};
+use stat_board::Counter;
 use std::sync::Wait;
 
 /// Serves a cancel connection, once its key was read, to its end: the node gives its order, which
 /// is carried out over a connection of its own and reported, and the connection that the request
 /// came on is finished. What has a word on the board is counted; a seat without allowance counts
-/// nothing.
+/// nothing. No second connection can be opened: connecting consumes the opener.
 pub fn serve_cancel<R, S, O, G, Q>(
-    service: Service<'_, R, S, O, G>,
+    context: Context<'_, R, G>,
+    shared: &Shared<S>,
     caller: &mut Caller<S>,
-    board: &Board,
-    seat: &mut BoardSeat,
+    counting: &mut Counting,
+    opener: O,
     requester: &mut Q,
     key: AnyKey,
 )
 where
     R: Wait,
     S: Drop,
-    O: Opener,
+    O: CancelOpener,
     G: Gate,
     Q: WriteCalls,
-    requires own { caller.old.lock ≡ service.shared.now }
-    requires board { seat.old.board ≡ board.now }
+    requires own { caller.old.lock ≡ shared.now }
     // One order for this key, which is carried out over a connection that was opened for it,
     // reported if it has a ticket, and counted. The requester's connection is finished by its
     // verdict.
     ensures served { ServesCancel
         (IsCarried ⟦<O::Stream as WriteCalls>⟧.wrote ⟦<O::Stream as ReadCalls>⟧.gave
-        (O.cancels service.entry.opener.now))
+        (O.cancels opener))
         (IsCarried ⟦<O::Stream as WriteCalls>⟧.wrote ⟦<O::Stream as ReadCalls>⟧.gave
-        (O.reaches service.entry.opener.now))
-        key caller.old caller.new seat.old seat.new
+        (O.reaches opener))
+        key caller.old caller.new counting.old.seat counting.new.seat
         (λ verdict. Finishes Q.wrote requester.old verdict requester.new) }
     // Each ticket that was made was spent, and nothing else was made or spent.
     ensures balanced { Balanced caller.old caller.new }
     ensures once { CancelsAtMostOnce caller.old caller.new }
-    ensures board { seat.new.board ≡ board.now }
+    ensures board { counting.new.seat.board ≡ counting.old.seat.board }
 {
-    match service.shared.cancel(service.rt, caller, key) {
+    match shared.cancel(context.rt, caller, key) {
         Order::Serve(ticket, database, server) => {
-            count(board, seat, Counter::Sent);
-            let request = server_request(server);
-            let outcome = serve(service, caller, requester, ticket, database, request);
-            count_outcome(board, seat, outcome);
+            counting.count(Counter::Sent);
+            let packet = server_request(server);
+            let request = Request {
+                ticket,
+                database,
+                packet,
+            };
+            let outcome = serve(context, shared, caller, opener, requester, request);
+            count_outcome(counting, outcome);
         }
         Order::Forward(peer, packet) => {
-            count(board, seat, Counter::Forwarded);
-            let _outcome = forward(service, requester, peer, packet);
+            counting.count(Counter::Forwarded);
+            let _outcome = forward(context, opener, requester, peer, packet);
         }
         Order::Unwait(_) => finish(requester, Verdict::Unwaited),
         Order::Refused(refusal) => {
-            count_refusal(board, seat, refusal);
+            count_refusal(counting, refusal);
             finish(requester, Verdict::Refused);
         }
     }
 }
 
-// Carries the request of a ticket to the server of its database, and reports to the node how that
-// ended: as failed if the server can't be connected to.
-fn serve<R, S, O, G, Q>(
-    service: Service<'_, R, S, O, G>,
-    caller: &mut Caller<S>,
-    requester: &mut Q,
+// A request for a server: its ticket, the database at whose server its link is, and the packet.
+struct Request {
     ticket: Ticket,
     database: DatabaseNo,
-    request: Packet,
+    packet: Packet,
+}
+
+// Carries a request to the server of its database, and reports to the node how that ended: as
+// failed if the server can't be connected to.
+fn serve<R, S, O, G, Q>(
+    context: Context<'_, R, G>,
+    shared: &Shared<S>,
+    caller: &mut Caller<S>,
+    opener: O,
+    requester: &mut Q,
+    request: Request,
 ) -> Outcome
 where
     R: Wait,
     S: Drop,
-    O: Opener,
+    O: CancelOpener,
     G: Gate,
     Q: WriteCalls,
-    requires own { caller.old.lock ≡ service.shared.now }
-    ensures told { Tells (reported result ticket) caller.old caller.new }
+    requires own { caller.old.lock ≡ shared.now }
+    ensures told { Tells (reported result request.ticket) caller.old caller.new }
     ensures finished { FinishesCarried
         (IsCarried ⟦<O::Stream as WriteCalls>⟧.wrote ⟦<O::Stream as ReadCalls>⟧.gave
-        (O.cancels service.entry.opener.now) database (packet_bytes request))
+        (O.cancels opener) request.database (packet_bytes request.packet))
         (λ verdict. Finishes Q.wrote requester.old verdict requester.new) result }
 {
-    let context = service.context();
-    let shared = service.shared;
-    service.gate.pass(service.rt, Point::Ordered);
-    let Ok(mut server) = service.opener.cancel(service.rt, database) else {
+    let Request {
+        ticket,
+        database,
+        packet,
+    } = request;
+    context.gate.pass(context.rt, Point::Ordered);
+    let Ok(mut server) = opener.cancel(context.rt, database) else {
         let desk = LockDesk { shared, caller };
         let mut desk = Requested { desk, requester };
         return report_unconnected(context, &mut desk, ticket);
@@ -114,7 +129,7 @@ where
         requester,
         &mut server,
         ticket,
-        request,
+        packet,
     )
 }
 
@@ -145,24 +160,25 @@ where
 }
 
 // Carries a request to a peer.
-fn forward<R, S, O, G, Q>(
-    service: Service<'_, R, S, O, G>,
+fn forward<R, O, G, Q>(
+    context: Context<'_, R, G>,
+    opener: O,
     requester: &mut Q,
     peer: PeerNo,
     packet: Packet,
 ) -> Outcome
 where
     R: Wait,
-    O: Opener,
+    O: CancelOpener,
     G: Gate,
     Q: WriteCalls,
     ensures finished { FinishesCarried
         (IsCarried ⟦<O::Stream as WriteCalls>⟧.wrote ⟦<O::Stream as ReadCalls>⟧.gave
-        (O.reaches service.entry.opener.now) peer (packet_bytes packet))
+        (O.reaches opener) peer (packet_bytes packet))
         (λ verdict. Finishes Q.wrote requester.old verdict requester.new) result }
 {
-    service.gate.pass(service.rt, Point::Ordered);
-    let Ok(mut stream) = service.opener.peer(service.rt, peer) else {
+    context.gate.pass(context.rt, Point::Ordered);
+    let Ok(mut stream) = opener.peer(context.rt, peer) else {
         finish(requester, Verdict::NoConnect);
         return Outcome::Failed;
     };
@@ -176,33 +192,23 @@ fn server_request(key: ServerKey) -> Packet
     write_cancel(AnyKey::from_short_bytes(key.to_bytes()))
 }
 
-// Counts one more, where the seat may.
-fn count(board: &Board, seat: &mut BoardSeat, counter: Counter)
-    requires own { seat.old.board ≡ board.now }
-    ensures counted { Tries seat.old (place_of counter) seat.new }
-    ensures board { seat.new.board ≡ board.now }
-{
-    let _ = seat.count(board, counter);
-}
-
 // Counts how a request to a server has ended.
-fn count_outcome(board: &Board, seat: &mut BoardSeat, outcome: Outcome)
-    requires own { seat.old.board ≡ board.now }
-    ensures counted { Tries seat.old (place_of (word_of_outcome outcome)) seat.new }
-    ensures board { seat.new.board ≡ board.now }
+fn count_outcome(counting: &mut Counting, outcome: Outcome)
+    ensures counted { Tries counting.old.seat (place_of (word_of_outcome outcome))
+        counting.new.seat }
+    ensures board { counting.new.seat.board ≡ counting.old.seat.board }
 {
     let counter = match outcome {
         Outcome::Ended => Counter::Ended,
         Outcome::Failed => Counter::Failed,
     };
-    count(board, seat, counter);
+    counting.count(counter);
 }
 
 // Counts a refusal, if it has a word.
-fn count_refusal(board: &Board, seat: &mut BoardSeat, refusal: CancelRefusal)
-    requires own { seat.old.board ≡ board.now }
-    ensures counted { CountsAll (words_of_refusal refusal) seat.old seat.new }
-    ensures board { seat.new.board ≡ board.now }
+fn count_refusal(counting: &mut Counting, refusal: CancelRefusal)
+    ensures counted { CountsAll (words_of_refusal refusal) counting.old.seat counting.new.seat }
+    ensures board { counting.new.seat.board ≡ counting.old.seat.board }
 {
     let CancelRefusal::Route(reason) = refusal else {
         return;
@@ -213,5 +219,5 @@ fn count_refusal(board: &Board, seat: &mut BoardSeat, refusal: CancelRefusal)
         RouteRefusal::NoPeer => Counter::NoPeer,
         RouteRefusal::NoLink => Counter::NoLink,
     };
-    count(board, seat, counter);
+    counting.count(counter);
 }

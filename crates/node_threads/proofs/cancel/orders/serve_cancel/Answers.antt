@@ -13,7 +13,7 @@ returns-in-Serve-clause-served g c = record {
   settled = c.serve-outcome.ensures.told;
   counted = (_, c.count.ensures.counted, (_, c.count_outcome.ensures.counted, refl));
   told = c.serve-outcome.ensures.finished.0;
-  verdict = same-packet _ _ _ _ _ _ _ _ c.server_request-request.ensures
+  verdict = same-packet _ _ _ _ _ _ _ _ c.server_request-packet.ensures
       c.serve-outcome.ensures.finished.1;
   finished = c.serve-outcome.ensures.finished.2;
 }
