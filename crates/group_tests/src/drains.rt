@@ -34,8 +34,9 @@ struct Draining {
 }
 
 impl Draining {
-    fn start<R: TestHost>(rt: &R) -> Result<Draining, Fail> {
-        let server = start_server(rt, TcpListener::bind(rt, ANY_PORT)?, Mode::Honest)?;
+    // A node before a stand-in server at this listener.
+    fn start<R: TestHost>(rt: &R, server: TcpListener) -> Result<Draining, Fail> {
+        let server = start_server(rt, server, Mode::Honest)?;
         let ports = free_ports(rt, 2)?;
         if ports.len() < 2 {
             return Err(Fail::from("no ports"));
@@ -132,7 +133,8 @@ fn expect_drained<R: TestHost>(rt: &R, group: Draining) -> Result<(), Fail> {
 
 #[test]
 fn sessions_end_between_transactions(rt: HostRuntime) -> Result<(), Fail> {
-    let group = Draining::start(&rt)?;
+    let server = TcpListener::bind(&rt, ANY_PORT)?;
+    let group = Draining::start(&rt, server)?;
     expect_drained(&rt, group)
 }
 
@@ -152,7 +154,8 @@ fn expect_waiting<R: TestHost>(rt: &R, group: Draining) -> Result<(), Fail> {
 
 #[test]
 fn who_waits_is_served(rt: HostRuntime) -> Result<(), Fail> {
-    let group = Draining::start(&rt)?;
+    let server = TcpListener::bind(&rt, ANY_PORT)?;
+    let group = Draining::start(&rt, server)?;
     expect_waiting(&rt, group)
 }
 
@@ -168,6 +171,7 @@ fn expect_unserved<R: TestHost>(rt: &R, group: Draining) -> Result<(), Fail> {
 
 #[test]
 fn who_says_nothing_is_closed(rt: HostRuntime) -> Result<(), Fail> {
-    let group = Draining::start(&rt)?;
+    let server = TcpListener::bind(&rt, ANY_PORT)?;
+    let group = Draining::start(&rt, server)?;
     expect_unserved(&rt, group)
 }

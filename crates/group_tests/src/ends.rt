@@ -24,9 +24,12 @@ const REFUSED: &[u8] = b"E\0\0\0\x2cSFATAL\0VFATAL\0C53300\0Mtoo many clients\0\
 // The server of a database.
 const SERVER: Target = Target::Server(DatabaseNo(0));
 
-// A connection of a client that sent a packet, and the client's side.
-fn sent<R: TestHost>(rt: &R, packet: &[u8]) -> Result<(Connection, TcpStream), Fail> {
-    let listener = TcpListener::bind(rt, ANY_PORT)?;
+// A connection at this listener of a client that sent a packet, and the client's side.
+fn sent<R: TestHost>(
+    rt: &R,
+    listener: &TcpListener,
+    packet: &[u8],
+) -> Result<(Connection, TcpStream), Fail> {
     let mut peer = TcpStream::connect(rt, ("127.0.0.1", listener.local_addr()?.port()))?;
     peer.write_all(packet)?;
     let (socket, _address) = listener.accept()?;
@@ -74,7 +77,8 @@ fn serve<R: TestHost>(
 
 #[test]
 fn dropped_parameters_are_in_the_log(rt: HostRuntime) -> Result<(), Fail> {
-    let (connection, peer) = sent(&rt, STARTUP)?;
+    let listener = TcpListener::bind(&rt, ANY_PORT)?;
+    let (connection, peer) = sent(&rt, &listener, STARTUP)?;
     let log = Log::new(rt.alloc(), Level::Notice);
     serve(&rt, &connection, &log, 2, AUTHENTICATED)?;
     let port = peer.local_addr()?.port();
@@ -88,7 +92,8 @@ fn dropped_parameters_are_in_the_log(rt: HostRuntime) -> Result<(), Fail> {
 // A client that is refused gets nothing in any case.
 #[test]
 fn a_refused_client_drops_nothing(rt: HostRuntime) -> Result<(), Fail> {
-    let (connection, _peer) = sent(&rt, STARTUP)?;
+    let listener = TcpListener::bind(&rt, ANY_PORT)?;
+    let (connection, _peer) = sent(&rt, &listener, STARTUP)?;
     let log = Log::new(rt.alloc(), Level::Notice);
     serve(&rt, &connection, &log, 2, REFUSED)?;
     let line = log.next(&rt).ok_or("no line")?;
@@ -99,11 +104,12 @@ fn a_refused_client_drops_nothing(rt: HostRuntime) -> Result<(), Fail> {
 // A request that is sent there, or nowhere, and whose sender gets these bytes, has ended so.
 fn expect_cancel_end<R: TestHost>(
     rt: &R,
+    listener: &TcpListener,
     target: Option<Target>,
     answer: &[u8],
     expected: CancelEnd,
 ) -> Result<(), Fail> {
-    let (connection, _peer) = sent(rt, CANCEL)?;
+    let (connection, _peer) = sent(rt, listener, CANCEL)?;
     if let Some(target) = target {
         connection.set_target(target);
     }
@@ -115,10 +121,11 @@ fn expect_cancel_end<R: TestHost>(
 
 #[test]
 fn cancel_requests_end(rt: HostRuntime) -> Result<(), Fail> {
-    expect_cancel_end(&rt, None, b"", CancelEnd::NothingSent)?;
-    expect_cancel_end(&rt, Some(SERVER), b"", CancelEnd::Settled)?;
-    expect_cancel_end(&rt, Some(SERVER), b"E", CancelEnd::Failed)?;
-    let (session, _peer) = sent(&rt, STARTUP)?;
+    let listener = TcpListener::bind(&rt, ANY_PORT)?;
+    expect_cancel_end(&rt, &listener, None, b"", CancelEnd::NothingSent)?;
+    expect_cancel_end(&rt, &listener, Some(SERVER), b"", CancelEnd::Settled)?;
+    expect_cancel_end(&rt, &listener, Some(SERVER), b"E", CancelEnd::Failed)?;
+    let (session, _peer) = sent(&rt, &listener, STARTUP)?;
     let log = Log::new(rt.alloc(), Level::Info);
     assert_eq!(&rt; serve(&rt, &session, &log, 2, AUTHENTICATED)?, None);
     Ok(())
@@ -127,7 +134,8 @@ fn cancel_requests_end(rt: HostRuntime) -> Result<(), Fail> {
 // One for which no seat is free.
 #[test]
 fn a_cancel_request_is_given_up(rt: HostRuntime) -> Result<(), Fail> {
-    let (connection, _peer) = sent(&rt, CANCEL)?;
+    let listener = TcpListener::bind(&rt, ANY_PORT)?;
+    let (connection, _peer) = sent(&rt, &listener, CANCEL)?;
     connection.give_up();
     let log = Log::new(rt.alloc(), Level::Info);
     let end = serve(&rt, &connection, &log, 3, b"")?;
@@ -135,13 +143,20 @@ fn a_cancel_request_is_given_up(rt: HostRuntime) -> Result<(), Fail> {
     Ok(())
 }
 
+// The lines of requests of node 1, of which one is sent to the server at this port.
+fn expect_lines<R: TestHost>(rt: &R, server: u16) -> Result<(), Fail> {
+    let caller = Caller::new(rt, server, &[])?;
+    caller.tell_cancel_end(Some(SERVER), CancelEnd::Settled);
+    let at_server = format!(in rt.alloc();
+        "node=1 info cancel_ended database=shop server=127.0.0.1:{server} result=settled millis=3"
+    )?;
+    caller.expect_whole_line(rt, at_server.as_str())?;
+    caller.tell_cancel_end(None, CancelEnd::NothingSent);
+    caller.expect_whole_line(rt, "node=1 info cancel_ended result=nothing_sent millis=3")
+}
+
 #[test]
 fn ends_are_in_the_log(rt: HostRuntime) -> Result<(), Fail> {
-    let caller = Caller::new(&rt, 5_432, &[])?;
-    caller.tell_cancel_end(Some(SERVER), CancelEnd::Settled);
-    let at_server = "node=1 info cancel_ended database=shop server=127.0.0.1:5432 \
-        result=settled millis=3";
-    caller.expect_whole_line(&rt, at_server)?;
-    caller.tell_cancel_end(None, CancelEnd::NothingSent);
-    caller.expect_whole_line(&rt, "node=1 info cancel_ended result=nothing_sent millis=3")
+    let server = TcpListener::bind(&rt, ANY_PORT)?;
+    expect_lines(&rt, server.local_addr()?.port())
 }
