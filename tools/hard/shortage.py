@@ -202,6 +202,10 @@ def stderr_full(t):
     meet_dead_server(t, pooler, port)
     ends = [read_end(stream, 3) for stream in [send_forward(pooler) for _ in range(4)]]
     t.check(ends == ["byte 45"] * 4, "forwards to a peer that is down", f"{ends}", "byte 45 each")
+    pooler.stop()
+    pooler = Pooler(t, {"shop": port}, stderr=writer, boot=0)
+    came = outcome(lambda: pooler.client(timeout=3).key != b"")
+    t.check(came == "ok:True", "a login without a boot number", came, "ok")
     os.close(reader)
     os.close(writer)
 

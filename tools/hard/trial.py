@@ -180,15 +180,16 @@ class Pooler:
 
     `ports` are those of its nodes by their numbers, `peers` those of nodes elsewhere. `limits` are
     limits of the process by their names (`NOFILE`, ..), `closed` are descriptors that it doesn't get,
-    `words` are more arguments of `serve`."""
+    `stdin` is its standard input, `words` are more arguments of `serve`. With `boot` 0 it gets no boot
+    number."""
 
     count = 0
 
     def __init__(self, trial, databases, ports=None, peers=None, pool=4, clients=100, limits=None,
-                 user=None, stderr=None, closed=(), words=()):
+                 user=None, stdin=subprocess.DEVNULL, stderr=None, closed=(), words=(), boot=None):
         Pooler.count += 1
-        self.trial, self.limits, self.user, self.stderr = trial, limits or {}, user, stderr
-        self.closed, self.words = closed, words
+        self.trial, self.limits, self.user, self.stdin, self.stderr = trial, limits or {}, user, stdin, stderr
+        self.closed, self.words, self.boot = closed, words, boot
         self.ports = ports or {1: trial.port()}
         self.port, self.front = next(iter(self.ports.values())), trial.port()
         self.base, self.starts, self.process = f"{trial.folder}/pooler{Pooler.count}", 0, None
@@ -201,9 +202,9 @@ class Pooler:
         self.start()
 
     def command(self):
+        boot = [] if self.boot == 0 else ["--boot", str(int(time.time()) % 2**31 + self.starts)]
         return [self.trial.options.program, "serve", "--front", str(self.front), "--seed",
-                os.urandom(32).hex(), "--boot", str(int(time.time()) % 2**31 + self.starts), *self.words,
-                *self.files]
+                os.urandom(32).hex(), *boot, *self.words, *self.files]
 
     def before_exec(self):
         bind_to_parent()
@@ -220,7 +221,7 @@ class Pooler:
         self.starts += 1
         with open(f"{self.base}.out", "w") as out, open(f"{self.base}.err", "a") as err:
             self.process = subprocess.Popen(
-                self.command(), stdin=subprocess.DEVNULL, stdout=out, cwd="/", env=ENVIRONMENT,
+                self.command(), stdin=self.stdin, stdout=out, cwd="/", env=ENVIRONMENT,
                 stderr=err if self.stderr is None else self.stderr, preexec_fn=self.before_exec)
         if wait_until(self.listens, 10) is None:
             raise OSError(f"{self.trial.options.program} doesn't listen: {self.errors()}")

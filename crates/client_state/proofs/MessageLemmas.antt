@@ -31,15 +31,15 @@ choice false false whole false bare false fits true says is = cc
 choice false false whole false bare false fits false says is = cc
 
 -- what is gathered keeps to its limit
-pub part_fits : (gathered : ℕ) (frame : Frame) → client_message gathered frame ≡ Gathered
-    → gathered + (5 + length frame.body) ≤ 1048576
+pub part_fits : (limit gathered : ℕ) (frame : Frame)
+    → client_message limit gathered frame ≡ Gathered → gathered + (5 + length frame.body) ≤ limit
 unfolding client_message
-part_fits gathered frame is =
-    let fits : nat_le (gathered + (5 + length frame.body)) 1048576 ≡ true =
+part_fits limit gathered frame is =
+    let fits : nat_le (gathered + (5 + length frame.body)) limit ≡ true =
     choice (frame.kind == 88) (frame.kind == 81)
-    ((gathered == 0) && nat_le (4 + length frame.body) 1048576 && is_one_string frame.body)
+    ((gathered == 0) && nat_le (4 + length frame.body) limit && is_one_string frame.body)
     (frame.kind == 83) (length frame.body == 0) (is_one_of (codes "PBDEC") frame.kind)
-    (nat_le (gathered + (5 + length frame.body)) 1048576)
+    (nat_le (gathered + (5 + length frame.body)) limit)
     (is_one_of (codes "HFdcf") frame.kind) (by_kind frame.kind frame.body) is in
     grind (arith, nat_tests, fits)
 

@@ -24,12 +24,18 @@ use Rattle.client_state.specs.LinkMessage.{link_message, status_of}
 use Rattle.client_state.specs.Session.{Session}
 
 -- a session at its start
-abbrev pub start : ℕ → Session
-start database = record { database = database; leased = false; outstanding = 0; gathered = [] }
+abbrev pub start : ℕ → ℕ → Session
+start limit database = record {
+  limit = limit;
+  database = database;
+  leased = false;
+  outstanding = 0;
+  gathered = [];
+}
 
 -- a session without its lease, with what was outstanding there and what was gathered forgotten
 abbrev pub over : Session → Session
-over old = start old.database
+over old = start old.limit old.database
 
 -- the ErrorResponse of a severity and a code
 abbrev pub error_text : Severity → ErrorCode → List ℕ
@@ -79,7 +85,7 @@ ActsOn message old frame act new =
 -- the act on a client's frame
 abbrev pub ActsOnClient : Session → Frame → Act → Session → Type 0
 ActsOnClient old frame act new =
-    ActsOn (client_message (length old.gathered) frame) old frame act new
+    ActsOn (client_message old.limit (length old.gathered) frame) old frame act new
 
 -- the end of a session with this error, or without it where memory for it was refused
 abbrev pub EndsWith : Bool → ErrorCode → Act → Type 0

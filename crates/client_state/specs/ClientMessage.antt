@@ -33,19 +33,20 @@ by_kind kind body =
 abbrev pub valid : Bool → ClientMessage → ClientMessage
 valid holds message = if holds then message else Refused ProtocolViolation
 
--- what a message asks for, after messages of an extended query whose texts have this many bytes.
+-- what a message asks for, with this limit, after messages of an extended query whose texts have
+-- this many bytes.
 -- X is Terminate. Q is Query, which isn't taken between those messages and their Sync. S is Sync,
 -- which ends them. P, B, D, E and C are Parse, Bind, Describe, Execute and Close, whose texts have
--- 1,048,576 bytes at most together. Flush, FunctionCall, CopyData, CopyDone and CopyFail are left
+-- no more bytes together than the limit. Flush, FunctionCall, CopyData, CopyDone and CopyFail are left
 -- out. Any other is no message of a client.
-unfoldable pub client_message : ℕ → Frame → ClientMessage
-client_message gathered frame =
+unfoldable pub client_message : ℕ → ℕ → Frame → ClientMessage
+client_message limit gathered frame =
     let size = length frame.body in
     if frame.kind == 88 then Terminate
     else (if frame.kind == 81 then
-    valid ((gathered == 0) && nat_le (4 + size) 1048576 && is_one_string frame.body) Request
+    valid ((gathered == 0) && nat_le (4 + size) limit && is_one_string frame.body) Request
     else (if frame.kind == 83 then valid (size == 0) Request
     else (if is_one_of (codes "PBDEC") frame.kind then
-    valid (nat_le (gathered + (5 + size)) 1048576) (by_kind frame.kind frame.body)
+    valid (nat_le (gathered + (5 + size)) limit) (by_kind frame.kind frame.body)
     else (if is_one_of (codes "HFdcf") frame.kind then Refused FeatureNotSupported
     else Refused ProtocolViolation))))

@@ -7,7 +7,7 @@ ghost use Rattle.client_state.specs.Acts.{start, over, ends, fatal, ActsOn, Acts
 use crate::client_message::ClientMessage;
 use crate::link_message::{LinkMessage, Status};
 use crate::{Act, DatabaseNo, HeadAct, Reply, Request};
-use pg_frames::{Frame, put_frame};
+use pg_frames::{Frame, MAX_MESSAGE, MessageLimit, put_frame_within};
 use startup::{ErrorCode, Severity};
 use std::alloc::Global;
 use std::marker::Model;
@@ -15,12 +15,13 @@ use std::marker::Model;
 // How many bytes of memory a session keeps at most for its next request.
 const KEPT: usize = 1_024;
 
-/// A client's session, from its login on. In contracts it is its database, whether it holds a
+/// A client's session, from its login on. In contracts it is its limit, its database, whether it holds a
 /// lease, how many requests are outstanding, and the texts that it has gathered for its next
 /// request.
 #[derive(Drop)]
 pub struct Client {
     alloc: Global,
+    limit: MessageLimit,
     database: DatabaseNo,
     stage: Stage,
     gathered: Vec<u8>,
@@ -44,27 +45,44 @@ impl Model for Client {
     ghost use Rattle.client_state.specs.Stages.{is_leased, outstanding_of};
 
     ghost view = { λ c. record {
+      limit = c.limit;
       database = c.database;
       leased = is_leased c.stage;
       outstanding = outstanding_of c.stage;
       gathered = c.gathered.items;
     } };
 
-    ghost invariant = { λ c. length c.gathered.items ≤ 1048576 };
+    ghost invariant = { λ c. length c.gathered.items ≤ c.limit };
 }
 
 impl Client {
-    /// A session that holds no lease, with nothing outstanding and nothing gathered. It takes no
-    /// memory.
+    /// A session that holds no lease, with nothing outstanding and nothing gathered. A request has
+    /// at most `MAX_MESSAGE` bytes. It takes no memory.
     pub fn new(alloc: Global, database: DatabaseNo) -> Client
-        ensures { result ≡ start database }
+        ensures { result ≡ start MAX_MESSAGE database }
+    {
+        Client::with_limit(alloc, MessageLimit::DEFAULT, database)
+    }
+
+    /// The same with another limit of a request: of the length field of a Query, and of the bytes
+    /// of an extended query's messages before their Sync.
+    pub fn with_limit(alloc: Global, limit: MessageLimit, database: DatabaseNo) -> Client
+        ensures { result ≡ start limit database }
     {
         Client {
             alloc,
+            limit,
             database,
             stage: Stage::NoLease,
             gathered: Vec::new(alloc),
         }
+    }
+
+    /// The limit of a request.
+    pub fn limit(&self) -> MessageLimit
+        ensures { result ≡ self.now.limit }
+    {
+        self.limit
     }
 
     /// The database that the client logged in to.
@@ -81,7 +99,7 @@ impl Client {
         ensures one { self.now.outstanding ≤ 1 }
         ensures on_lease { self.now.leased ≡ false → self.now.outstanding ≡ 0 }
         // What is gathered has a limit.
-        ensures gathered { length self.now.gathered ≤ 1048576 }
+        ensures gathered { length self.now.gathered ≤ self.now.limit }
     {
         let _gathered = &self.gathered;
         match self.stage {
@@ -106,7 +124,7 @@ impl Client {
         requires { self.old.outstanding ≡ 0 }
         ensures { ActsOnClient self.old frame.now result self.new }
     {
-        match ClientMessage::of(self.gathered.len(), frame) {
+        match ClientMessage::of(self.limit, self.gathered.len(), frame) {
             ClientMessage::Terminate => self.end(Reply::nothing()),
             ClientMessage::Refused(code) => self.end_with(code),
             ClientMessage::Gathered => self.gather(frame),
@@ -189,10 +207,10 @@ impl Client {
 
     // Keeps the frame for the request to which it belongs.
     fn gather(&mut self, frame: &Frame) -> Act
-        requires { length self.old.gathered + (5 + length frame.now.body) ≤ 1048576 }
+        requires { length self.old.gathered + (5 + length frame.now.body) ≤ self.old.limit }
         ensures { ActsOn ClientMessage.Gathered self.old frame.now result self.new }
     {
-        match put_frame(frame, &mut self.gathered) {
+        match put_frame_within(self.limit, frame, &mut self.gathered) {
             Ok(()) => Act::ToClient(Reply::nothing()),
             Err(_) => self.end(Reply::nothing()),
         }
@@ -204,7 +222,7 @@ impl Client {
         ensures { ActsOn ClientMessage.Request self.old frame.now result self.new }
     {
         let leased = self.holds_lease();
-        if put_frame(frame, &mut self.gathered).is_err() {
+        if put_frame_within(self.limit, frame, &mut self.gathered).is_err() {
             return self.end(Reply::nothing());
         }
         let text = std::mem::replace(&mut self.gathered, Vec::new(self.alloc));

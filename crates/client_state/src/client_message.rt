@@ -4,15 +4,11 @@ ghost use Rattle.std.specs.List.{count_by, list_all};
 ghost use Rattle.client_state.specs.Text.{is_one_string, is_zero};
 ghost use Rattle.client_state.specs.ClientMessage.{by_kind, by_names, by_target};
 
-use pg_frames::Frame;
+use pg_frames::{Frame, MessageLimit};
 use startup::ErrorCode;
 
-// The greatest number of bytes of an extended query's messages before their Sync (own).
-const MAX_GATHERED: usize = 1 << 20;
-
-// The greatest length of a Query's body: its length field counts itself, and is at most 1,048,576
-// (own).
-const MAX_QUERY: usize = (1 << 20) - 4;
+// How many bytes the length field takes. It counts them.
+const FIELD_LEN: usize = 4;
 
 // The type and the length field, which a message has apart from its body.
 const HEADER_LEN: usize = 5;
@@ -39,19 +35,19 @@ impl ClientMessage {
 
     /// What the frame asks for, after messages of an extended query with this many bytes.
     #[tactic(auto, unfolding(crate::specs::ClientMessage::client_message))]
-    pub fn of(gathered: usize, frame: &Frame) -> ClientMessage
-        requires { gathered ≤ 1048576 }
-        ensures { result ≡ client_message gathered frame.now }
+    pub fn of(limit: MessageLimit, gathered: usize, frame: &Frame) -> ClientMessage
+        requires { gathered ≤ limit }
+        ensures { result ≡ client_message limit gathered frame.now }
     {
+        let limit = limit.get() as usize;
         let body = frame.body.as_slice();
         match frame.kind {
             b'X' => ClientMessage::Terminate,
-            b'Q' if gathered == 0 && body.len() <= MAX_QUERY && is_one_string(body) => {
+            b'Q' if gathered == 0 && body.len() <= limit - FIELD_LEN && is_one_string(body) => {
                 ClientMessage::Request
             }
             b'S' if body.is_empty() => ClientMessage::Request,
-            b'P' | b'B' | b'D' | b'E' | b'C'
-                if body.len() + HEADER_LEN <= MAX_GATHERED - gathered => {
+            b'P' | b'B' | b'D' | b'E' | b'C' if body.len() + HEADER_LEN <= limit - gathered => {
                 by_kind(frame.kind, body)
             }
             b'H' | b'F' | b'd' | b'c' | b'f' => LEFT_OUT,

@@ -17,8 +17,8 @@ use Rattle.command_line.specs.declared.command_name.CommandName.{CommandName}
 use Rattle.command_line.specs.Options.{same_option}
 use Rattle.command_line.specs.declared.arguments.GivenOption.{GivenOption}
 use Rattle.command_line.specs.declared.option_name.OptionName.{OptionName}
-use Rattle.command_line.specs.Arguments.{Text, Given, Plain, End, Flag, Alone, Whole, Unknown, shape_of, given_behind, given_by_all, with_value, plain_alone, value_alone, joined, LeadsOn, option_in, values_of, is_plain, is_end, asks_help, cut_at, cut_in}
-use Rattle.command_line.specs.Numbers.{◌>>=◌, each, all_differ}
+use Rattle.command_line.specs.Arguments.{Text, Given, Plain, End, Flag, Alone, Whole, Unknown, shape_of, given_behind, given_by_all, plain_alone, value_alone, joined, LeadsOn, option_in, values_of, is_plain, is_end, asks_help, cut_at, cut_in}
+use Rattle.command_line.specs.Numbers.{◌>>=◌, each, all_differ, one_or_more}
 
 -- the texts from a place on begin with the one at that place
 pub texts_from : (words : List (Bor (List ℕ))) (i : ℕ) (d : Bor (List ℕ)) → i < length words
@@ -28,6 +28,12 @@ texts_from words i d within =
     let next : suc i ≡ i + 1 = omega arith in
     ap (map (λ (w : Bor (List ℕ)). w.now)) (drop-cons words i d within)
     ∙ ap (λ k. (get_or words i d).now ∷ map (λ (w : Bor (List ℕ)). w.now) (drop k words)) next
+
+-- texts that are there
+pub some_texts : (words : List (Bor (List ℕ))) → 0 < length words
+    → one_or_more (map (λ w. w.now) words) ≡ Some (map (λ w. w.now) words)
+some_texts [] some = absurd (omega arith)
+some_texts (word ∷ words) some = refl
 
 -- ---- what some arguments give, and then the others
 

@@ -6,4 +6,5 @@ pub mod Clients
 pub mod Request
 pub mod Seeds
 pub mod ReportTexts
+pub mod RunOptions
 pub mod Running

@@ -45,6 +45,10 @@ between_commas (Some text) = slice_split (λ byte. byte == 44) text
 abbrev pub number_from : ℕ → ℕ → Text → Option ℕ
 number_from least most text = result_ok (number_in least most text)
 
+-- a port
+abbrev pub port_of : Text → Option ℕ
+port_of text = number_from 1 65535 text
+
 -- whether no two numbers of a list are equal
 unfoldable pub all_differ : List ℕ → Bool
 all_differ [] = true

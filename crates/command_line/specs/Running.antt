@@ -2,12 +2,13 @@
 use Rattle.std.specs.Prelude.{ℕ, Bool, if◌then◌else◌, List, [], ◌∷◌, map, Option, Some, None, is_some}
 use Rattle.std.specs.Option.{option_map}
 use Rattle.command_line.specs.Arguments.{Text, Given, given_by_all, values_of, asks_help}
-use Rattle.command_line.specs.Numbers.{◌>>=◌, only_one, at_most_one, one_or_more, number_from}
+use Rattle.command_line.specs.Numbers.{◌>>=◌, only_one, at_most_one, one_or_more, number_from, port_of}
 use Rattle.command_line.specs.Request.{command_named}
 use Rattle.startup.specs.Replies.{Report}
-use Rattle.command_line.specs.ReportTexts.{reports_of}
+use Rattle.command_line.specs.RunOptions.{RunOptions, run_asked}
 use Rattle.command_line.specs.Seeds.{SeedText, SeedSource, one_of, source_of, source_in}
-use Rattle.command_line.specs.declared.option_name.OptionName.TheVariants.{Front, Seed, SeedFile, Boot, StandIn, Report as ReportOption, Byte}
+use Rattle.command_line.specs.declared.option_name.OptionName.TheVariants.{Front, Seed, SeedFile, Boot, StandIn, Byte}
+use Rattle.command_line.specs.declared.log_level.LogLevel.{LogLevel}
 use Rattle.command_line.specs.declared.command_name.CommandName.{CommandName}
 use Rattle.command_line.specs.declared.command_name.CommandName.TheVariants as command
 use Rattle.command_line.specs.declared.serve_request.ServeRequest.{ServeRequest}
@@ -19,13 +20,17 @@ use Rattle.command_line.specs.declared.running.Running.TheVariants as running
 
 -- a group: the port at which it listens, what secrets are drawn from, the number of the start,
 -- whether stand-in servers run, what logins report beside the parameters that each of them reports,
--- and the settings files in their order
+-- how it runs, and the settings files in their order
 pub record Served : Type 0 where
   pub front : ℕ
   pub seed : SeedSource
   pub boot : ℕ
   pub stand_in : Bool
   pub reports : List Report
+  pub max_message : ℕ
+  pub metrics : Option ℕ
+  pub log : LogLevel
+  pub until_eof : Bool
   pub files : List Text
 
 -- a stand-in server: its port, and what it does before it ends a cancel connection
@@ -37,19 +42,14 @@ pub data Lasting : Type 0 where
   Serve : Served → Lasting
   Stub : Stubbed → Lasting
 
--- a port in decimal digits
-abbrev pub port_of : Text → Option ℕ
-port_of text = number_from 1 65535 text
-
 -- the number of a start in decimal digits; where it isn't given it is 0
 abbrev pub boot_of : Option Text → Option ℕ
 boot_of None = Some 0
 boot_of (Some text) = number_from 0 4294967295 text
 
 -- a group by its texts
-abbrev pub served_by : Text → SeedText → Option Text → Bool → List Report → List Text
-    → Option Served
-served_by front_text seed_text boot_text stand_in reports files = do
+abbrev pub served_by : Text → SeedText → Option Text → Bool → RunOptions → List Text → Option Served
+served_by front_text seed_text boot_text stand_in run files = do
   front ← port_of front_text
   seed ← source_of seed_text
   boot ← boot_of boot_text
@@ -58,23 +58,32 @@ served_by front_text seed_text boot_text stand_in reports files = do
     seed = seed;
     boot = boot;
     stand_in = stand_in;
-    reports = reports;
+    reports = run.reports;
+    max_message = run.max_message;
+    metrics = run.metrics;
+    log = run.log;
+    until_eof = run.until_eof;
     files = files;
   })
 
+-- the seed or its file is given once
+abbrev pub seed_asked : Given → Option SeedText
+seed_asked given = do
+  digits ← at_most_one (values_of Seed given)
+  seed_file ← at_most_one (values_of SeedFile given)
+  one_of digits seed_file
+
 -- `serve` wants the port once, the seed or its file once, the number of the start and `--stand-in` at
--- most once, files, one or more, and parameters that logins may report, any number of them
+-- most once, files, one or more, and what says how the group runs
 abbrev pub serve_asked : Given → Option Served
 serve_asked given = do
   front ← only_one (values_of Front given)
-  digits ← at_most_one (values_of Seed given)
-  seed_file ← at_most_one (values_of SeedFile given)
-  seed ← one_of digits seed_file
+  seed ← seed_asked given
   boot ← at_most_one (values_of Boot given)
   stand_in ← at_most_one (values_of StandIn given)
   files ← one_or_more given.plain
-  reports ← reports_of (values_of ReportOption given)
-  served_by front seed boot (is_some stand_in) reports files
+  run ← run_asked given
+  served_by front seed boot (is_some stand_in) run files
 
 -- what a stand-in server does, by whether `--byte` is given
 abbrev pub mode_of : Option Text → StubMode
@@ -135,6 +144,10 @@ served_in request = record {
   boot = request.boot;
   stand_in = request.stand_in;
   reports = request.reports;
+  max_message = request.max_message;
+  metrics = request.metrics;
+  log = request.log;
+  until_eof = request.until_eof;
   files = map (λ file. file.now) request.files.items;
 }
 

@@ -177,6 +177,40 @@ Report this parameter to clients at each login, as PostgreSQL does
 of its own: give it once for each parameter",
     },
     Argument {
+        name: "max-message",
+        form: Form::Value("BYTES"),
+        required: false,
+        help: "\
+The longest message that is passed on, in either direction, as its
+length field says, and the longest group of messages of an extended
+query: 8192 to 1073741823, and 1048576 where it isn't given",
+    },
+    Argument {
+        name: "metrics",
+        form: Form::Value("PORT"),
+        required: false,
+        help: "\
+Serve figures for Prometheus over HTTP at this port of 127.0.0.1,
+1 to 65535",
+    },
+    Argument {
+        name: "log",
+        form: Form::Value("LEVEL"),
+        required: false,
+        help: "\
+Which lines of the log are written: 'warn' for those that somebody
+may have to look into, 'notice' for these and what the group does,
+'info' for these and each cancel. It is 'notice' where it isn't given",
+    },
+    Argument {
+        name: "until-eof",
+        form: Form::Flag,
+        required: false,
+        help: "\
+Stop gracefully at the end of standard input: no new connections,
+sessions end between transactions, then the program ends",
+    },
+    Argument {
         name: "FILE",
         form: Form::Several,
         required: true,

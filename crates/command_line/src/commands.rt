@@ -132,7 +132,9 @@ fn serve_usage<'a>(usage: Usage) -> &'a str {
         Usage::Whole => {
             "\
 pgpeer serve --front <PORT> (--seed <HEX64> | --seed-file <FILE>)
-                    [--boot <N>] [--stand-in] [--report <NAME=VALUE>]... <FILE>..."
+                    [--boot <N>] [--stand-in] [--report <NAME=VALUE>]...
+                    [--max-message <BYTES>] [--metrics <PORT>] [--log <LEVEL>] [--until-eof]
+                    <FILE>..."
         }
         Usage::Short => {
             "pgpeer serve --front <PORT> --seed <HEX64> [--boot <N>] [--stand-in] <FILE>..."
@@ -158,7 +160,8 @@ Exit status:
   1  a file can't be read, an address can't be listened at, the packet is no cancel request, memory
      ran out, or writing failed
   2  the arguments, a settings file, a script or the group are refused
-'serve' and 'stub' run until they are stopped, and end by themselves only with status 1 or 2.
+'serve' and 'stub' run until they are stopped, and end by themselves only with status 1 or 2; with
+'--until-eof' 'serve' ends with status 0 after the end of standard input.
 
 Examples:
   pgpeer key 0008000000000007

@@ -29,6 +29,14 @@ pub enum OptionName {
     StandIn,
     /// A parameter that logins report, of `serve`.
     Report,
+    /// The longest message that is passed on, of `serve`.
+    MaxMessage,
+    /// The port of the figures, of `serve`.
+    Metrics,
+    /// Which lines of the log are written, of `serve`.
+    Log,
+    /// Whether the end of standard input stops it, of `serve`.
+    UntilEof,
     /// Whether a byte is written before a cancel connection is ended, of `stub`.
     Byte,
 }
@@ -54,7 +62,7 @@ impl OptionName {
     {
         !matches!(
             self,
-            OptionName::All | OptionName::StandIn | OptionName::Byte
+            OptionName::All | OptionName::StandIn | OptionName::UntilEof | OptionName::Byte
         )
     }
 
@@ -96,6 +104,10 @@ fn serve_option(name: &str) -> Option<OptionName>
         "--boot" => Some(OptionName::Boot),
         "--stand-in" => Some(OptionName::StandIn),
         "--report" => Some(OptionName::Report),
+        "--max-message" => Some(OptionName::MaxMessage),
+        "--metrics" => Some(OptionName::Metrics),
+        "--log" => Some(OptionName::Log),
+        "--until-eof" => Some(OptionName::UntilEof),
         _ => None,
     }
 }

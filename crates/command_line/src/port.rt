@@ -1,7 +1,7 @@
 //! Ports among the arguments.
 ghost use Rattle.std.specs.Prelude.{◌≡◌, ◌<◌, Some, IfOk};
 ghost use Rattle.command_line.specs.Finds.{Reads};
-ghost use Rattle.command_line.specs.Running.{port_of};
+ghost use Rattle.command_line.specs.Numbers.{port_of};
 
 use crate::wrong::{Place, Wrong};
 use ini_config::number_in;

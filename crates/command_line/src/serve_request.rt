@@ -1,6 +1,8 @@
 //! What `serve` is asked for.
-ghost use Rattle.std.specs.Prelude.{◌<◌, length};
+ghost use Rattle.std.specs.Prelude.{◌<◌, ◌≤◌, length};
+ghost use Rattle.std.specs.Option.{ForSome};
 
+use crate::log_level::LogLevel;
 use crate::seed::SeedSource;
 use startup::Reports;
 
@@ -17,8 +19,20 @@ pub struct ServeRequest<'a> {
     pub stand_in: bool,
     /// What logins report beside the parameters that each of them reports.
     pub reports: Reports,
+    /// The length in bytes, as its length field says, of the longest message that is passed on, in
+    /// either direction, and of the longest group of messages of an extended query.
+    pub max_message: u32,
+    /// The port of 127.0.0.1 at which figures are served for Prometheus, if there is one.
+    pub metrics: Option<u16>,
+    /// Which lines of the log are written.
+    pub log: LogLevel,
+    /// Whether the group stops gracefully at the end of standard input.
+    pub until_eof: bool,
     /// The names of the settings files, one for each node of this process.
     pub files: Vec<&'a str>,
     ghost listens: { 0 < front },
+    ghost least_message: { 8192 ≤ max_message },
+    ghost most_message: { max_message ≤ 1073741823 },
+    ghost serves_figures: { ForSome metrics (λ port. 0 < port) },
     ghost some_node: { 0 < length files.items },
 }

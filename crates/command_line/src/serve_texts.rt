@@ -1,47 +1,46 @@
 //! What the arguments of `serve` give, read.
 ghost use Rattle.std.specs.Prelude.{◌≡◌, ◌<◌, Some, length, map};
 ghost use Rattle.std.specs.Option.{option_map};
-ghost use Rattle.command_line.specs.Arguments.{given_in, values_of};
+ghost use Rattle.command_line.specs.Arguments.{given_in};
 ghost use Rattle.command_line.specs.Finds.{Finds, Reads};
-ghost use Rattle.command_line.specs.ReportTexts.{reports_of};
-ghost use Rattle.command_line.specs.Running.{boot_of, serve_asked, served_by, served_in};
+ghost use Rattle.command_line.specs.RunOptions.{run_in};
+ghost use Rattle.command_line.specs.Running.{boot_of, seed_asked, serve_asked, served_by, served_in};
 ghost use Rattle.command_line.specs.Seeds.{text_in};
 
 use crate::arguments::Given;
 use crate::option_name::OptionName;
 use crate::port::port_of;
-use crate::reports::reports_of;
+use crate::run_options::RunOptions;
+use crate::run_texts::read_run;
 use crate::seed::SeedText;
 use crate::serve_request::ServeRequest;
 use crate::wrong::{Place, Wrong};
 use ini_config::number_in;
-use startup::Reports;
 use std::alloc::Global;
 
 /// The group that is asked for.
+#[tactic(auto, using(crate::proofs::ArgumentLemmas::some_texts))]
 pub fn read_serve<'a>(alloc: Global, given: Given<'a>) -> Result<ServeRequest<'a>, Wrong<'a>>
     ensures { Finds served_in result (serve_asked (given_in given.entry)) }
 {
     let front = given.once(alloc, OptionName::Front)?;
-    let digits = given.at_most_once(alloc, OptionName::Seed)?;
-    let seed_file = given.at_most_once(alloc, OptionName::SeedFile)?;
-    let seed = SeedText::one_of(digits, seed_file)?;
+    let seed = seed_in(alloc, &given)?;
     let boot = given.at_most_once(alloc, OptionName::Boot)?;
     let stand_in = given.at_most_once(alloc, OptionName::StandIn)?;
     if given.plain.is_empty() {
         return Err(Wrong::Form);
     }
-    let reports = reports_in(alloc, &given)?;
-    read_texts(front, seed, boot, stand_in.is_some(), reports, given.plain)
+    let run = read_run(alloc, &given)?;
+    read_texts(front, seed, boot, stand_in.is_some(), run, given.plain)
 }
 
-// The parameters that logins are to report.
-fn reports_in<'a>(alloc: Global, given: &Given<'a>) -> Result<Reports, Wrong<'a>>
-    ensures { Finds (λ reports. reports) result
-        (reports_of (values_of OptionName.Report (given_in given.now))) }
+// How the seed is given.
+fn seed_in<'a>(alloc: Global, given: &Given<'a>) -> Result<SeedText<'a>, Wrong<'a>>
+    ensures { Finds text_in result (seed_asked (given_in given.now)) }
 {
-    let texts = given.values(alloc, OptionName::Report)?;
-    reports_of(alloc, &texts)
+    let digits = given.at_most_once(alloc, OptionName::Seed)?;
+    let seed_file = given.at_most_once(alloc, OptionName::SeedFile)?;
+    SeedText::one_of(digits, seed_file)
 }
 
 // The group that these texts and files name.
@@ -50,12 +49,12 @@ fn read_texts<'a>(
     seed: SeedText<'a>,
     boot: Option<&'a str>,
     stand_in: bool,
-    reports: Reports,
+    run: RunOptions,
     files: Vec<&'a str>,
 ) -> Result<ServeRequest<'a>, Wrong<'a>>
     requires { 0 < length files.items }
     ensures { Reads served_in result (served_by front.now (text_in seed.entry)
-        (option_map (λ text. text.now) boot.entry) stand_in reports
+        (option_map (λ text. text.now) boot.entry) stand_in (run_in run)
         (map (λ file. file.now) files.entry.items)) }
 {
     let front = port_of(Place::Front, front)?;
@@ -66,7 +65,11 @@ fn read_texts<'a>(
         seed,
         boot,
         stand_in,
-        reports,
+        reports: run.reports,
+        max_message: run.max_message,
+        metrics: run.metrics,
+        log: run.log,
+        until_eof: run.until_eof,
         files,
     })
 }

@@ -106,6 +106,7 @@ fn command_of(place: Place) -> CommandName {
         Place::Report | Place::ReportFixed | Place::ReportAgain | Place::ReportTooLong => {
             CommandName::Serve
         }
+        Place::MaxMessage | Place::Metrics | Place::Log => CommandName::Serve,
         Place::Port => CommandName::Stub,
         _ => CommandName::Decide,
     }
@@ -150,6 +151,9 @@ fn argument(place: Place) -> &'static str {
         Place::Report | Place::ReportFixed | Place::ReportAgain | Place::ReportTooLong => {
             "--report <NAME=VALUE>"
         }
+        Place::MaxMessage => "--max-message <BYTES>",
+        Place::Metrics => "--metrics <PORT>",
+        Place::Log => "--log <LEVEL>",
         Place::Port => "<PORT>",
     }
 }
@@ -166,7 +170,7 @@ fn expected(place: Place) -> &'static str {
         Place::ServerKey => "expected 16 hexadecimal digits behind the colon",
         Place::ClientTooMany => "expected at most 65535",
         Place::Packet => "expected an even number of hexadecimal digits",
-        Place::Front | Place::Port => "expected a number from 1 to 65535",
+        Place::Front | Place::Metrics | Place::Port => "expected a number from 1 to 65535",
         Place::Seed => "expected 64 hexadecimal digits",
         Place::SeedFile => "expected 32 bytes or 64 hexadecimal digits in the file",
         Place::Boot => "expected a number from 0 to 4294967295",
@@ -174,5 +178,7 @@ fn expected(place: Place) -> &'static str {
         Place::ReportFixed => "every login reports UTF8 for it",
         Place::ReportAgain => "the name is there twice",
         Place::ReportTooLong => "expected at most 8000 bytes in all",
+        Place::MaxMessage => "expected a number from 8192 to 1073741823",
+        Place::Log => "expected 'warn', 'notice' or 'info'",
     }
 }

@@ -41,6 +41,12 @@ pub enum Place {
     ReportAgain,
     /// One with which they are too long together.
     ReportTooLong,
+    /// The longest message of `serve`.
+    MaxMessage,
+    /// The port of the figures of `serve`.
+    Metrics,
+    /// The level of the log of `serve`.
+    Log,
     /// The port of `stub`.
     Port,
 }

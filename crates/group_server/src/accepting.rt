@@ -7,6 +7,7 @@ use crate::guests::Newcomer;
 use crate::limits::{ALONE_MILLIS, FIRST_PACKETS_MILLIS, NEWCOMER_AGE_MILLIS};
 use crate::log::{Event, Value};
 use crate::{Connection, Deadline, Host, Log, Machine, Serving};
+use libc::net as c;
 use node_threads::Front;
 use std::alloc::{AllocError, Global};
 use std::io::ErrorKind;
@@ -55,6 +56,12 @@ impl<M: Machine> Acceptor<M> {
         }
     }
 
+    /// Accepts no connection any more: those that come from now on are refused. The group drains.
+    pub fn close(&self) {
+        c::shutdown(self.listener.as_raw_fd(), c::SHUT_RD);
+        self.crew.dismiss();
+    }
+
     // Serves a connection to its end, or closes it. If no other thread can wait for connections
     // meanwhile, it is served only if it is a cancel request.
     fn serve(&self, host: &M, alloc: Global, socket: TcpStream) {
@@ -84,7 +91,7 @@ impl<M: Machine> Acceptor<M> {
         let Some(newcomer) = self.doorway.arrive(host, socket.as_raw_fd()) else {
             return Err(io::Error::new(ErrorKind::QuotaExceeded, "too many connections"));
         };
-        let connection = Connection::new(socket);
+        let connection = Connection::metered(socket, node.meter());
         let served = self.serve_newcomer(host, alloc, node, &connection, newcomer, serves);
         self.doorway.go(host, newcomer);
         drop(connection);
@@ -143,9 +150,12 @@ fn time_of(serves: Serves) -> u64 {
 }
 
 /// Sees to it that threads wait for connections at a listener, as long as threads can be started.
+/// It returns when the listener is closed.
 pub fn keep_accepting<H: Host>(host: &H, alloc: Global, acceptor: &Arc<Acceptor<H>, Global>) {
     for _ in host.forever() {
-        acceptor.crew.wait_until_few(host);
+        if !acceptor.crew.wait_until_few(host) {
+            return;
+        }
         for node in &acceptor.nodes {
             node.stock(host, alloc, acceptor.crew.fewest());
         }
@@ -174,8 +184,8 @@ fn start<H: Host>(host: &H, alloc: Global, acceptor: &Arc<Acceptor<H>, Global>) 
     }
 }
 
-// Accepts connections and serves each to its end, until enough other threads wait for them. A fault
-// of accept is passed over.
+// Accepts connections and serves each to its end, until enough other threads wait for them, or the
+// group drains. Another fault of accept is passed over.
 fn accept<M: Machine>(host: &M, alloc: Global, acceptor: &Acceptor<M>) {
     acceptor.crew.start();
     for socket in acceptor.listener.incoming() {
@@ -186,6 +196,7 @@ fn accept<M: Machine>(host: &M, alloc: Global, acceptor: &Acceptor<M>) {
                     return;
                 }
             }
+            Err(_) if acceptor.doorway.is_draining() => return,
             Err(error) => {
                 acceptor.write_error(host, Event::AcceptFailed, &error);
                 acceptor.doorway.make_room(host, NEWCOMER_AGE_MILLIS);

@@ -1,4 +1,6 @@
 //! A client's connection, as its stream and what connects it to servers share it.
+use crate::Target;
+use crate::metrics::Meter;
 use crate::poll::is_ended;
 use std::cell::Cell;
 use std::net::TcpStream;
@@ -12,16 +14,31 @@ pub struct Connection {
     link: Cell<Option<RawFd>>,
     // Whether it is a cancel request's that got no order.
     is_given_up: Cell<bool>,
+    // Where its cancel request is sent.
+    target: Cell<Option<Target>>,
+    meter: Meter,
 }
 
 impl Connection {
-    /// A connection on this socket, whose client has no link.
+    /// A connection on this socket, whose client has no link. Nothing is counted of it.
     pub fn new(socket: TcpStream) -> Connection {
+        Connection::metered(socket, Meter::none())
+    }
+
+    /// The same, of which this is counted.
+    pub fn metered(socket: TcpStream, meter: Meter) -> Connection {
         Connection {
             socket,
             link: Cell::new(None),
             is_given_up: Cell::new(false),
+            target: Cell::new(None),
+            meter,
         }
+    }
+
+    /// What is counted of it.
+    pub fn meter(&self) -> &Meter {
+        &self.meter
     }
 
     /// Its socket.
@@ -52,6 +69,16 @@ impl Connection {
     /// Whether its cancel request got no order.
     pub fn is_given_up(&self) -> bool {
         self.is_given_up.get()
+    }
+
+    /// Its cancel request is sent there.
+    pub fn set_target(&self, target: Target) {
+        self.target.set(Some(target));
+    }
+
+    /// Where its cancel request is sent, if it is sent anywhere.
+    pub fn target(&self) -> Option<Target> {
+        self.target.get()
     }
 
     /// Whether its client has ended it. It doesn't wait.

@@ -24,6 +24,8 @@ pub struct Crew {
     starting: AtomicU64,
     // Whether the last one that was wanted couldn't be started.
     is_short: AtomicBool,
+    // Whether nobody is to wait for a connection any more.
+    is_dismissed: AtomicBool,
     // How often something has changed. Who waits for a change waits at this word.
     changes: AtomicU64,
 }
@@ -35,6 +37,7 @@ impl Crew {
             waiting: AtomicU64::new(0),
             starting: AtomicU64::new(0),
             is_short: AtomicBool::new(false),
+            is_dismissed: AtomicBool::new(false),
             changes: AtomicU64::new(0),
         }
     }
@@ -55,18 +58,29 @@ impl Crew {
         FEWEST as usize
     }
 
-    /// Waits until one more thread is to be started.
-    pub fn wait_until_few<R: Wait>(&self, rt: &R) {
+    /// Nobody is to wait for a connection any more.
+    pub fn dismiss(&self) {
+        self.is_dismissed.store(true, Ordering::SeqCst);
+        self.tell();
+    }
+
+    /// Waits until one more thread is to be started. Returns whether one is: none is once nobody is
+    /// to wait for a connection any more.
+    pub fn wait_until_few<R: Wait>(&self, rt: &R) -> bool {
         for _ in rt.forever() {
             let seen = self.changes();
+            if self.is_dismissed.load(Ordering::SeqCst) {
+                return false;
+            }
             let waiting = self.waiting.load(Ordering::SeqCst);
             let starting = self.starting.load(Ordering::SeqCst);
             if waiting.saturating_add(starting) < FEWEST {
-                return;
+                return true;
             }
             self.is_short.store(false, Ordering::SeqCst);
             self.changes.park(rt, seen);
         }
+        unreachable!()
     }
 
     /// A thread is about to be started.
@@ -90,7 +104,7 @@ impl Crew {
     }
 
     /// A thread has accepted a connection, and waits no longer. Returns whether another one waits,
-    /// or does so soon.
+    /// or does so soon, or none is to wait any more.
     pub fn leave<R: Wait>(&self, rt: &R) -> bool {
         let waited = self.waiting.fetch_sub(1, Ordering::SeqCst);
         if waited <= FEWEST {
@@ -99,11 +113,15 @@ impl Crew {
         waited > 1 || self.wait_for_other(rt)
     }
 
-    // Waits a little for another thread to wait for connections. Returns whether one does.
+    // Waits a little for another thread to wait for connections. Returns whether one does, or none
+    // is to.
     fn wait_for_other<R: Wait>(&self, rt: &R) -> bool {
         for _ in 0..LOOKS {
             let seen = self.changes();
             if self.waiting.load(Ordering::SeqCst) > 0 {
+                return true;
+            }
+            if self.is_dismissed.load(Ordering::SeqCst) {
                 return true;
             }
             if self.is_short.load(Ordering::SeqCst) {

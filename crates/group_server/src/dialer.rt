@@ -1,10 +1,11 @@
 //! Connections to a node's servers and peers.
 use crate::connecting::connect;
 use crate::limits::{CANCEL_CONNECT_MILLIS, CANCEL_END_MILLIS, LOGIN_MILLIS};
-use crate::log::{Event, Field, Value};
+use crate::log::{Event, Field, Value, put_fields};
 use crate::looks::Looks;
+use crate::metrics::{Meter, NodeCounters};
 use crate::origin::Origin;
-use crate::{Connection, Deadline, LinkStream, Log, Machine};
+use crate::{CancelEnd, Connection, Deadline, LinkStream, Log, Machine, Target};
 use ini_config::{Database, Group, Peer, Settings};
 use node_threads::Opener;
 use pg_ids::{DatabaseNo, PeerNo};
@@ -23,6 +24,7 @@ pub struct Dialer<M: Machine> {
     place: usize,
     log: Arc<Log, Global>,
     reports: Arc<Reports, Global>,
+    counters: Option<Arc<NodeCounters, Global>>,
 }
 
 /// What connects a node to its servers and peers for the client of one connection.
@@ -33,7 +35,8 @@ pub struct ClientDialer<'a, M: Machine> {
 }
 
 impl<M: Machine> Dialer<M> {
-    /// The dialer of the node at this place of the group, whose logins have these reports.
+    /// The dialer of the node at this place of the group, whose logins have these reports. Nothing
+    /// is counted of its connections.
     pub fn new(
         machine: M,
         alloc: Global,
@@ -49,6 +52,20 @@ impl<M: Machine> Dialer<M> {
             place,
             log,
             reports,
+            counters: None,
+        }
+    }
+
+    /// Counts here what passes over the node's connections.
+    pub fn count_at(&mut self, counters: Arc<NodeCounters, Global>) {
+        self.counters = Some(counters);
+    }
+
+    /// What is counted of a connection to the node.
+    pub fn meter(&self) -> Meter {
+        match &self.counters {
+            Some(counters) => Meter::of(Arc::try_clone(counters).ok()),
+            None => Meter::none(),
         }
     }
 
@@ -58,6 +75,11 @@ impl<M: Machine> Dialer<M> {
             dialer: self,
             connection,
         }
+    }
+
+    /// The machine.
+    pub fn machine(&self) -> &M {
+        &self.machine
     }
 
     /// The parameters that clients get beside those of every login.
@@ -80,8 +102,11 @@ impl<M: Machine> Dialer<M> {
     }
 
     // Connects to the server of a database for a link. The deadline is for the login, too.
-    fn open_link(&self, settings: &Settings, entry: &Database<'_>) -> io::Result<LinkStream<M>> {
-        let fields = server_fields(entry);
+    fn open_link(&self, settings: &Settings, database: DatabaseNo) -> io::Result<LinkStream<M>> {
+        let Some(entry) = settings.database(database) else {
+            return Err(io::Error::from(ErrorKind::NotFound));
+        };
+        let fields = server_fields(&entry);
         let deadline = Deadline::after(&self.machine, LOGIN_MILLIS)?;
         let socket = match connect(&self.machine, entry.host, entry.port, deadline) {
             Ok(socket) => socket,
@@ -92,7 +117,14 @@ impl<M: Machine> Dialer<M> {
         };
         let origin = self.origin(settings, &fields)?;
         let looks = Looks::of_link(self.alloc, origin, &self.reports)?;
-        LinkStream::new(self.machine, self.alloc, socket, deadline, looks)
+        LinkStream::new(
+            self.machine,
+            self.alloc,
+            socket,
+            deadline,
+            looks,
+            Some(database),
+        )
     }
 
     // Connects to this address, which these fields name, for a cancel request.
@@ -113,7 +145,51 @@ impl<M: Machine> Dialer<M> {
         };
         let end = Deadline::after(&self.machine, CANCEL_END_MILLIS)?;
         let looks = Looks::of_cancel(self.origin(settings, fields)?);
-        LinkStream::new(self.machine, self.alloc, socket, end, looks)
+        LinkStream::new(self.machine, self.alloc, socket, end, looks, None)
+    }
+
+    /// Writes to the log how a cancel request has ended that was sent there, or nowhere, and after
+    /// how many milliseconds.
+    pub fn tell_cancel_end(&self, target: Option<Target>, end: CancelEnd, millis: u64) {
+        if !self.log.has(Event::CancelEnded) {
+            return;
+        }
+        let fields = [
+            ("result", Value::Text(end.name())),
+            ("millis", Value::Number(millis)),
+        ];
+        if let Ok(names) = self.names_of(target) {
+            let node = Some(self.number());
+            let names = names.as_str();
+            self.log
+                .write_of(&self.machine, node, Event::CancelEnded, names, &fields);
+        }
+    }
+
+    // The fields that name where a cancel request was sent, as they stand in a line.
+    fn names_of(&self, target: Option<Target>) -> io::Result<String> {
+        match &target {
+            Some(Target::Server(database)) => self.server_names(*database),
+            Some(Target::Peer(peer)) => self.peer_names(*peer),
+            None => Ok(String::new(self.alloc)),
+        }
+    }
+
+    // The fields that name the server of a database.
+    fn server_names(&self, database: DatabaseNo) -> io::Result<String> {
+        let mut names = String::new(self.alloc);
+        if let Some(entry) = self.settings()?.database(database) {
+            put_fields(self.alloc, &mut names, &server_fields(&entry))?;
+        }
+        Ok(names)
+    }
+
+    // The field that names a peer.
+    fn peer_names(&self, peer: PeerNo) -> io::Result<String> {
+        let mut names = String::new(self.alloc);
+        let number = Value::Number(u64::from(peer.get()));
+        put_fields(self.alloc, &mut names, &[("peer", number)])?;
+        Ok(names)
     }
 
     // A connection of the node with these settings that these fields name.
@@ -164,14 +240,13 @@ impl<'a, M: Machine> Opener for ClientDialer<'a, M> {
     ghost reaches = { λ _ _ _. ⊤ };
 
     fn server<R: Wait>(&self, _rt: &R, database: DatabaseNo) -> io::Result<LinkStream<M>> {
-        let settings = self.dialer.settings()?;
-        match settings.database(database) {
-            Some(entry) => self.dialer.open_link(settings, &entry),
-            None => Err(io::Error::from(ErrorKind::NotFound)),
-        }
+        self.connection.meter().open(&self.dialer.machine, database);
+        self.dialer.open_link(self.dialer.settings()?, database)
     }
 
     fn cancel<R: Wait>(&self, _rt: &R, database: DatabaseNo) -> io::Result<LinkStream<M>> {
+        self.connection.set_target(Target::Server(database));
+        self.connection.meter().ask(database);
         let settings = self.dialer.settings()?;
         let Some(entry) = settings.database(database) else {
             return Err(io::Error::from(ErrorKind::NotFound));
@@ -182,6 +257,7 @@ impl<'a, M: Machine> Opener for ClientDialer<'a, M> {
     }
 
     fn peer<R: Wait>(&self, _rt: &R, peer: PeerNo) -> io::Result<LinkStream<M>> {
+        self.connection.set_target(Target::Peer(peer));
         let settings = self.dialer.settings()?;
         for place in 0..settings.peer_count() {
             match settings.peer(place) {
@@ -204,13 +280,21 @@ impl<'a, M: Machine> Opener for ClientDialer<'a, M> {
     fn attach(&self, stream: &mut LinkStream<M>) {
         stream.attach(self.connection.descriptor());
         self.connection.set_link(Some(stream.descriptor()));
+        if let Some(database) = stream.database() {
+            self.connection
+                .meter()
+                .begin(&self.dialer.machine, database);
+        }
     }
 
     fn detach(&self) {
         self.connection.set_link(None);
+        self.connection.meter().end();
     }
 
+    // It is asked whenever the client has waited for a link.
     fn is_gone(&self) -> bool {
+        self.connection.meter().wait(&self.dialer.machine);
         self.connection.is_gone()
     }
 

@@ -1,9 +1,10 @@
 //! The door by which the connections of a process come in.
+use crate::DrainSignal;
 use crate::guests::{Guests, Newcomer, Room};
 use libc::net as c;
 use std::alloc::Global;
 use std::os::fd::RawFd;
-use std::sync::{Mutex, Wait};
+use std::sync::{Condvar, CondvarTimeouts, Mutex, Wait};
 use std::time::{Clock, Duration};
 
 /// The door by which the connections of a process come in: their number is bounded, and
@@ -12,13 +13,39 @@ use std::time::{Clock, Duration};
 #[derive(Drop)]
 pub struct Doorway {
     guests: Mutex<Guests>,
+    // A connection was closed.
+    left: Condvar,
+    // What tells connections that the group drains, if it ever does.
+    drain: Option<DrainSignal>,
 }
 
 impl Doorway {
-    /// Nobody has come.
+    /// Nobody has come, and the group never drains.
     pub fn new(alloc: Global, room: Room) -> Doorway {
+        Doorway::new_with(alloc, room, None)
+    }
+
+    /// Nobody has come. The group drains once this signal is sent, if there is one.
+    pub fn new_with(alloc: Global, room: Room, drain: Option<DrainSignal>) -> Doorway {
         Doorway {
             guests: Mutex::new(Guests::new(alloc, room)),
+            left: Condvar::new(),
+            drain,
+        }
+    }
+
+    /// What tells connections that the group drains, if it ever does.
+    #[inline]
+    pub fn drain_signal(&self) -> Option<&DrainSignal> {
+        self.drain.as_ref()
+    }
+
+    /// Whether the group drains.
+    #[inline]
+    pub fn is_draining(&self) -> bool {
+        match &self.drain {
+            Some(signal) => signal.is_sent(),
+            None => false,
         }
     }
 
@@ -55,6 +82,30 @@ impl Doorway {
     /// A connection is closed.
     pub fn leave<R: Wait>(&self, rt: &R) {
         self.guests.lock(rt).leave();
+        if self.is_draining() {
+            self.left.notify_all();
+        }
+    }
+
+    /// How many connections aren't closed.
+    pub fn present<R: Wait>(&self, rt: &R) -> usize {
+        self.guests.lock(rt).present()
+    }
+
+    /// Closes the connections that are in their first packets.
+    pub fn close_newcomers<R: Wait>(&self, rt: &R) {
+        let mut guests = self.guests.lock(rt);
+        for _ in 0..guests.newcomers() {
+            close(guests.oust(Duration::MAX));
+        }
+    }
+
+    /// Waits until all connections are closed, no longer than `limit`. The group has to drain.
+    pub fn wait_until_left<R: Wait + Clock>(&self, rt: &R, limit: Duration) {
+        let guests = self.guests.lock(rt);
+        let _ = self
+            .left
+            .wait_timeout_while(rt, guests, limit, |guests| guests.present() > 0);
     }
 }
 

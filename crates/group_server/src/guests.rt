@@ -135,6 +135,16 @@ impl Guests {
         self.newcomers.try_remove(newcomer.place).is_some()
     }
 
+    /// How many connections aren't closed.
+    pub fn present(&self) -> usize {
+        self.present
+    }
+
+    /// How many connections are in their first packets.
+    pub fn newcomers(&self) -> usize {
+        self.newcomers.len()
+    }
+
     /// A connection is closed.
     pub fn leave(&mut self) {
         self.present = self.present.saturating_sub(1);

@@ -1,9 +1,12 @@
-//! What a server said at last on a link that it ended.
+//! The errors by which sessions end that a server or the group ends.
 use startup::{ErrorCode, Severity, write_error};
 use std::alloc::{AllocError, Global};
 use std::os::fd::RawFd;
 
-// How much of it is read.
+// What PostgreSQL says to a client when it shuts down.
+const SHUTDOWN: &str = "terminating connection due to administrator command";
+
+// How much of what a server said is read.
 const MOST: usize = 4_096;
 
 // A message's type byte and its length (PostgreSQL manual, "Message Formats").
@@ -25,6 +28,16 @@ pub fn last_words(alloc: Global, link: RawFd) -> Result<Vec<u8>, AllocError> {
         }
     }
     Ok(words)
+}
+
+/// The error of a session that ends because the group drains (PostgreSQL's words at a shutdown).
+pub fn shutdown_words(alloc: Global) -> Result<Vec<u8>, AllocError> {
+    let mut words = Vec::new(alloc);
+    let code = ErrorCode::AdminShutdown.code();
+    match write_error(Severity::Fatal, code, SHUTDOWN, &mut words) {
+        Ok(()) => Ok(words),
+        Err(_) => Err(AllocError),
+    }
 }
 
 // Reads until the end, or until the buffer is full. Returns how many bytes it read.

@@ -32,6 +32,27 @@ pub const SENDING_PAUSE_MILLIS: u64 = 200;
 /// How long it may be silent then, after that.
 pub const ENDING_PAUSE_MILLIS: u64 = 1_000;
 
+/// How long connections may stay open once the group drains.
+pub const DRAIN_MILLIS: u64 = 60_000;
+
+/// How long their first packets may take then.
+pub const DRAIN_PACKETS_MILLIS: u64 = 1_000;
+
+/// How long nobody has to be there then until nobody comes any more: a connection that was accepted
+/// before is counted by then.
+pub const DRAIN_PAUSE_MILLIS: u64 = 100;
+/// How long a connection at which metrics are read may take.
+pub const METRICS_MILLIS: u64 = 5_000;
+
+/// How long its request may take of that.
+pub const METRICS_REQUEST_MILLIS: u64 = 1_000;
+
+/// How many connections at which metrics are read are served at a time.
+pub const METRICS_READERS: usize = 4;
+
+/// How long the metrics that were read last are handed out again.
+pub const METRICS_AGE_MILLIS: u64 = 1_000;
+
 /// How many connections of a node may be in their first packets at a time: 256 cancel requests, and
 /// 64 others.
 pub const NEWCOMERS_OF_A_NODE: usize = 320;
@@ -50,6 +71,9 @@ pub const LINES_KEPT: usize = 128;
 
 /// How many lines of the log of one kind are written in a second, at most.
 pub const LINES_A_SECOND: u32 = 10;
+
+/// How long the process waits at its end for its last lines to be written.
+pub const LAST_LINES_MILLIS: u64 = 1_000;
 
 /// How many characters of a value stand in a line of the log, at most.
 pub const LONGEST_VALUE: usize = 500;

@@ -6,6 +6,7 @@ use crate::looks::Looks;
 use crate::poll::{is_ended, is_quiet, wait_both};
 use crate::{Deadline, Machine};
 use bytes::BytesMut;
+use pg_ids::DatabaseNo;
 use std::alloc::Global;
 use std::io;
 use std::io::{ErrorKind, Read, Write};
@@ -36,16 +37,20 @@ struct Inside<M: Machine> {
     unwritten: BytesMut,
     // What is looked at in what comes.
     looks: Looks,
+    // The database of a link.
+    database: Option<DatabaseNo>,
 }
 
 impl<M: Machine> LinkStream<M> {
-    /// A stream on this socket, with a deadline.
+    /// A stream on this socket, with a deadline: of a link of this database, or for a cancel
+    /// request.
     pub fn new(
         machine: M,
         alloc: Global,
         socket: TcpStream,
         deadline: Deadline,
         looks: Looks,
+        database: Option<DatabaseNo>,
     ) -> io::Result<LinkStream<M>> {
         socket.set_nodelay(true)?;
         socket.set_read_timeout(Some(Duration::from_millis(LOOK_MILLIS)))?;
@@ -58,6 +63,7 @@ impl<M: Machine> LinkStream<M> {
             client: None,
             unwritten: BytesMut::new(alloc),
             looks,
+            database,
         };
         Ok(LinkStream {
             inside: Box::new(alloc, inside)?,
@@ -82,6 +88,11 @@ impl<M: Machine> LinkStream<M> {
         self.inside.deadline = None;
         self.inside.client = Some(client);
         self.inside.looks.attach();
+    }
+
+    /// The database of a link.
+    pub fn database(&self) -> Option<DatabaseNo> {
+        self.inside.database
     }
 
     /// The descriptor of its socket.

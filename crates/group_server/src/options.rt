@@ -1,6 +1,7 @@
 //! What a group is served with.
-use crate::log::{Event, Log, Value, put_fields};
+use crate::log::{Event, Level, Log, Value, put_fields};
 use ini_config::{Group, Settings};
+use pg_frames::MessageLimit;
 use startup::Reports;
 use std::alloc::{AllocError, Global};
 use std::sync::Wait;
@@ -22,7 +23,19 @@ pub struct ServeOptions<'a> {
     pub boot: u32,
     /// The parameters that logins report beside those that every login has.
     pub reports: &'a Reports,
+    /// Whether the group drains when its input ends. Otherwise it serves for as long as the process
+    /// runs, and its input isn't read.
+    pub until_eof: bool,
+    /// The level of the least important lines that the log has.
+    pub log: Level,
+    /// The port of 127.0.0.1 at which metrics are read, if any are counted.
+    pub metrics: Option<u16>,
+    /// How long a message may be, of a client and of a server.
+    pub max_message: MessageLimit,
 }
+
+// What the log says where no boot number was given.
+const GIVE_BOOT: &str = "give another --boot at each start";
 
 /// Writes to the log that a group has begun to listen, and where its nodes do.
 pub fn write_start<R: Wait + Clock>(
@@ -40,6 +53,10 @@ pub fn write_start<R: Wait + Clock>(
     put_fields(alloc, &mut names, &fields)?;
     put_reports(alloc, &mut names, options.reports)?;
     log.write_of(rt, None, Event::Started, names.as_str(), &[]);
+    if options.boot == 0 {
+        let advice = ("advice", Value::Text(GIVE_BOOT));
+        log.write(rt, None, Event::BootUnset, &[advice]);
+    }
     for settings in group.nodes() {
         write_node(rt, log, settings);
     }

@@ -32,6 +32,12 @@ pub fn wait_readable(socket: RawFd, limit: Duration) -> bool {
     }
 }
 
+/// Waits until a read of one of these sockets returns at once, however long that takes.
+pub fn wait_either(one: RawFd, other: RawFd) {
+    let mut asked = [ask(one, c::POLLIN), ask(other, c::POLLIN)];
+    c::poll(&mut asked, -1);
+}
+
 /// What a link and its client are ready for.
 #[derive(Clone, Copy)]
 pub struct Ready {

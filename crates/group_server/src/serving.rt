@@ -1,7 +1,9 @@
 //! A node that serves connections.
+use crate::metrics::{Census, Meter};
 use crate::{ClientStream, Connection, Dialer, LinkStream, Machine};
-use node_threads::{Calling, Open, serve_connection};
-use std::alloc::Global;
+use node_threads::{Calling, Context, Open, serve_connection};
+use pg_frames::MessageLimit;
+use std::alloc::{AllocError, Global};
 use std::sync::{Mutex, Wait};
 
 /// A node that serves connections, with those callers of it that no connection has. A caller's
@@ -13,22 +15,48 @@ pub struct Serving<M: Machine> {
     // Callers for cancel requests where no other can be made.
     reserve: Mutex<Vec<Box<Calling<LinkStream<M>>>>>,
     dialer: Dialer<M>,
+    // How long a message may be.
+    limit: MessageLimit,
 }
 
 impl<M: Machine> Serving<M> {
-    /// A node with its first caller, and what connects it to servers and peers.
-    pub fn new(alloc: Global, first: Box<Calling<LinkStream<M>>>, dialer: Dialer<M>) -> Serving<M> {
+    /// A node with its first caller, what connects it to servers and peers, and the limit of a
+    /// message.
+    pub fn new(
+        alloc: Global,
+        first: Box<Calling<LinkStream<M>>>,
+        dialer: Dialer<M>,
+        limit: MessageLimit,
+    ) -> Serving<M> {
         Serving {
             first: Mutex::new(first),
             free: Mutex::new(Vec::new(alloc)),
             reserve: Mutex::new(Vec::new(alloc)),
             dialer,
+            limit,
         }
     }
 
     /// The node's number.
     pub fn number(&self) -> u16 {
         self.dialer.number()
+    }
+
+    /// What is counted of a connection to the node.
+    pub fn meter(&self) -> Meter {
+        self.dialer.meter()
+    }
+
+    /// How its clients and links do at this moment, and how many cancel requests there were.
+    pub fn census<R: Wait>(&self, rt: &R, alloc: Global) -> Result<Census, AllocError> {
+        let mut calling = self.take(rt, alloc).ok_or(AllocError)?;
+        let pools = calling.census(rt, alloc);
+        let cancels = calling.cancels(rt);
+        self.give_back(rt, calling);
+        Ok(Census {
+            pools: pools?,
+            cancels,
+        })
     }
 
     /// A caller of the node for one more connection, if one is free or can be made.
@@ -78,8 +106,23 @@ impl<M: Machine> Serving<M> {
     ) {
         let opener = self.dialer.on_behalf(connection);
         let reports = self.dialer.reports();
-        serve_connection(rt, alloc, &mut calling, &opener, &Open, reports, client);
+        let context = Context { rt, gate: &Open };
+        let limit = &self.limit;
+        serve_connection(
+            context,
+            alloc,
+            &mut calling,
+            &opener,
+            reports,
+            limit,
+            client,
+        );
+        connection.meter().finish(self.dialer.machine());
         self.give_back(rt, calling);
+        if let Some((end, millis)) = client.cancel_end() {
+            self.dialer
+                .tell_cancel_end(connection.target(), end, millis);
+        }
     }
 
     // Keeps a caller for the next connection. One that can't be kept is made anew then. It isn't

@@ -97,9 +97,11 @@ counts-gain : (old : Tally) (call : Exchange) (new : Tally) → Counts old call 
     → (answers : List CallAnswer) → answered new answers ≡ answered old answers + gain answers call
 counts-gain old call new counts [] = refl
 counts-gain old call new counts (answer ∷ more) =
-    let one : calls_at new (index_of (short answer)) ≡ calls_at old (index_of (short answer)) + one_of (index_of (short answer)) call =
+    let one : calls_at new (index_of (short answer)) ≡ calls_at old (index_of (short answer)) +
+    one_of (index_of (short answer)) call =
     counts.calls (index_of (short answer)) in
-    let other : calls_at new (index_of (long answer)) ≡ calls_at old (index_of (long answer)) + one_of (index_of (long answer)) call =
+    let other : calls_at new (index_of (long answer)) ≡ calls_at old (index_of (long answer)) +
+    one_of (index_of (long answer)) call =
     counts.calls (index_of (long answer)) in
     let rest : answered new more ≡ answered old more + gain more call =
     counts-gain old call new counts more in
@@ -116,7 +118,8 @@ counted-gain : {R : Type 0} (call : Exchange) (reply at_end : R) (old new : Call
 counted-gain call reply at_end old new counted some answers =
     elim (none_or_some old.allowance) [
       | inl none ↦
-          let same : new.allowance ≡ old.allowance = ap (λ (v : CallerView). v.allowance) (counted.spent none).1 in
+          let same : new.allowance ≡ old.allowance = ap (λ (v : CallerView). v.allowance)
+          (counted.spent none).1 in
           let bad : ⊥ = omega arith in
           absurd bad
       | inr more ↦ counts-gain old.tally call new.tally (counted.made more).tally answers
@@ -232,9 +235,11 @@ moves_beside more before after old new moves = record {
   total = moves.total;
   falls = moves.falls;
   passes = λ left. leads_beside more.passes before.passes after.passes _ _ _ _ (moves.passes left);
-  permits = λ left. leads_beside more.permits before.permits after.permits _ _ _ _ (moves.permits left);
+  permits = λ left. leads_beside more.permits before.permits after.permits _ _ _ _ (moves.permits
+      left);
   leases = λ left. leads_beside more.leases before.leases after.leases _ _ _ _ (moves.leases left);
-  tickets = λ left. leads_beside more.tickets before.tickets after.tickets _ _ _ _ (moves.tickets left);
+  tickets = λ left. leads_beside more.tickets before.tickets after.tickets _ _ _ _ (moves.tickets
+      left);
 }
 
 -- Each step, by its reply.
@@ -257,7 +262,8 @@ pub join_moves : {R : Type 0} (database secret : ℕ) (asked : Kind)
     → Counted (step.Join database secret asked said) reply at_end old new
     → Moves nothing old (joined_hand said) new
 join_moves database secret asked said reply at_end old new =
-    step_moves (step.Join database secret asked said) reply at_end old new nothing (joined_hand said)
+    step_moves (step.Join database secret asked said) reply at_end old new nothing
+    (joined_hand said)
     (join_shifts database secret asked said)
 
 abbrev pub left_hand : LeaveReply PassRecord → Hand
@@ -346,7 +352,8 @@ acquire_moves pass said reply at_end old new =
 pub not_given_moves : {S R : Type 0} (pass : PassRecord)
     (said : AcquireReply (LinkValue S) PermitRecord) (reply at_end : R) (old new : CallerView)
     → (said ≡ acquire.Holding) ⊎ (said ≡ acquire.Exhausted)
-    → Counted (step.Acquire pass (acquire_said said)) reply at_end old new → Moves nothing old nothing new
+    → Counted (step.Acquire pass (acquire_said said)) reply at_end old new
+    → Moves nothing old nothing new
 not_given_moves {S} pass said reply at_end old new is counted =
     let hand : AcquireReply (LinkValue S) PermitRecord → Hand =
     λ r. acquired_hand (acquire_said r) in
@@ -361,7 +368,8 @@ up_hand (up.Exhausted permit stream) = a_permit
 up_hand (up.Stale stream) = nothing
 up_hand (up.AtEnd stream) = nothing
 
-up_shifts : (permit : PermitRecord) (key : List ℕ) (reply : UpReply LinkRecord PermitRecord (Unit {0}))
+up_shifts : (permit : PermitRecord) (key : List ℕ)
+    (reply : UpReply LinkRecord PermitRecord (Unit {0}))
     → Shifts a_permit (step.Up permit key reply) (up_hand reply)
 up_shifts permit key (up.Up lease) = refl
 up_shifts permit key (up.Exhausted again stream) = refl
@@ -394,9 +402,11 @@ restart_shifts boot restart.Restarted = refl
 restart_shifts boot restart.Exhausted = refl
 
 pub restart_moves : {R : Type 0} (boot : ℕ) (said : RestartReply) (reply at_end : R)
-    (old new : CallerView) → Counted (step.Restart boot said) reply at_end old new → Balanced old new
+    (old new : CallerView) → Counted (step.Restart boot said) reply at_end old new
+    → Balanced old new
 restart_moves boot said reply at_end old new =
-    step_moves (step.Restart boot said) reply at_end old new nothing nothing (restart_shifts boot said)
+    step_moves (step.Restart boot said) reply at_end old new nothing nothing
+    (restart_shifts boot said)
 
 release_shifts : (lease : LinkRecord) (reply : ReleaseReply (Unit {0}))
     → Shifts a_lease (step.Release lease reply) nothing
@@ -412,11 +422,13 @@ close_shifts lease (close.Closed stream) = refl
 close_shifts lease (close.Stale stream) = refl
 close_shifts lease (close.Exhausted stream) = refl
 
-pub close_moves : {R : Type 0} (lease : LinkRecord) (said : CloseReply (Unit {0})) (reply at_end : R)
+pub close_moves : {R : Type 0} (lease : LinkRecord) (said : CloseReply (Unit {0}))
+    (reply at_end : R)
     (old new : CallerView) → Counted (step.Close lease said) reply at_end old new
     → Moves a_lease old nothing new
 close_moves lease said reply at_end old new =
-    step_moves (step.Close lease said) reply at_end old new a_lease nothing (close_shifts lease said)
+    step_moves (step.Close lease said) reply at_end old new a_lease nothing
+    (close_shifts lease said)
 
 -- a lease that is handed in after a stay
 pub handed_in_moves : (end : Stayed) (lease : LinkRecord) (old new : CallerView)
@@ -468,7 +480,8 @@ failed_cancels ticket failed.Stale = refl
 failed_cancels ticket failed.Exhausted = refl
 
 reported_cancels : (end : Outcome) (ticket : TicketRecord) (old new : CallerView)
-    → Tells (reported end ticket) old new → answered new.tally cancels ≤ answered old.tally cancels + 0
+    → Tells (reported end ticket) old new
+    → answered new.tally cancels ≤ answered old.tally cancels + 0
 reported_cancels outcome.Ended ticket old new told =
     subst (λ n. answered new.tally cancels ≤ answered old.tally cancels + n)
     (ended_cancels ticket told.0)
@@ -486,7 +499,8 @@ order_hand (order.Unwait slot) = nothing
 order_hand (order.Refused reason) = nothing
 
 cancel_shifts : (key : AnyKey) (given : Order TicketRecord)
-    → Shifts nothing (step.Cancel key given) (order_hand given) × (gain cancels (step.Cancel key given) ≡ 1)
+    → Shifts nothing (step.Cancel key given) (order_hand given)
+    × (gain cancels (step.Cancel key given) ≡ 1)
 cancel_shifts (any.Short k) (order.Serve ticket database server) = (refl, refl)
 cancel_shifts (any.Short k) (order.Forward peer packet) = (refl, refl)
 cancel_shifts (any.Short k) (order.Unwait slot) = (refl, refl)
@@ -507,7 +521,8 @@ cancel_shifts (any.Long k part) (order.Refused refusal.Busy) = (refl, refl)
 cancel_shifts (any.Long k part) (order.Refused refusal.Exhausted) = (refl, refl)
 
 pub cancel_moves : (key : AnyKey) (given at_end : Order TicketRecord) (old new : CallerView)
-    → Counted (step.Cancel key given) given at_end old new → Moves nothing old (order_hand given) new
+    → Counted (step.Cancel key given) given at_end old new
+    → Moves nothing old (order_hand given) new
 cancel_moves key given at_end old new =
     step_moves (step.Cancel key given) given at_end old new nothing (order_hand given)
     (cancel_shifts key given).0
@@ -515,7 +530,8 @@ cancel_moves key given at_end old new =
 pub order-once : (key : AnyKey) (given at_end : Order TicketRecord) (old new : CallerView)
     → Counted (step.Cancel key given) given at_end old new → CancelsAtMostOnce old new
 order-once key given at_end old new counted =
-    subst (λ n. answered new.tally cancels ≤ answered old.tally cancels + n) (cancel_shifts key given).1
+    subst (λ n. answered new.tally cancels ≤ answered old.tally cancels + n)
+    (cancel_shifts key given).1
     (counted-most (step.Cancel key given) given at_end old new counted cancels)
 
 -- an order without a ticket
@@ -523,10 +539,12 @@ pub order-balanced : (key : AnyKey) (given at_end : Order TicketRecord) (old new
     → Counted (step.Cancel key given) given at_end old new → order_hand given ≡ nothing
     → Balanced old new
 order-balanced key given at_end old new counted none =
-    subst (λ (hand : Hand). Moves nothing old hand new) none (cancel_moves key given at_end old new counted)
+    subst (λ (hand : Hand). Moves nothing old hand new) none
+    (cancel_moves key given at_end old new counted)
 
 -- an order with a ticket, and the report of how its carrying ended
-pub report-balanced : (key : AnyKey) (given at_end : Order TicketRecord) (old between new : CallerView)
+pub report-balanced : (key : AnyKey) (given at_end : Order TicketRecord)
+    (old between new : CallerView)
     (ticket : TicketRecord) (end : Outcome)
     → Counted (step.Cancel key given) given at_end old between → order_hand given ≡ a_ticket
     → Tells (reported end ticket) between new → Balanced old new
@@ -554,14 +572,14 @@ not_close : (reply : List ℕ) → stayed.End reply ≡ stayed.Close → ⊥
 not_close reply is = cc
 
 -- where a session goes on it is as at its start
-pub goes_on_as_at_start : (end : Stayed) (old new : Session) (database : ℕ)
+pub goes_on_as_at_start : (limit : ℕ) (end : Stayed) (old new : Session) (database : ℕ)
     → (end ≡ stayed.Release) ⊎ (end ≡ stayed.Close) → GoesOnWithout end old new
-    → old ≡ asking database → new ≡ start database
-goes_on_as_at_start stayed.Release old new database is goes asked =
-    goes ∙ ap (λ (s : Session). start s.database) asked
-goes_on_as_at_start stayed.Close old new database is goes asked =
-    goes ∙ ap (λ (s : Session). start s.database) asked
-goes_on_as_at_start (stayed.End reply) old new database is goes asked = elim is [
+    → old ≡ asking limit database → new ≡ start limit database
+goes_on_as_at_start limit stayed.Release old new database is goes asked =
+    goes ∙ ap (λ (s : Session). start s.limit s.database) asked
+goes_on_as_at_start limit stayed.Close old new database is goes asked =
+    goes ∙ ap (λ (s : Session). start s.limit s.database) asked
+goes_on_as_at_start limit (stayed.End reply) old new database is goes asked = elim is [
   | inl is_release ↦ absurd (not_release reply is_release)
   | inr is_close ↦ absurd (not_close reply is_close)
 ]

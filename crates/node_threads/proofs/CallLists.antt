@@ -1,5 +1,5 @@
 -- Calls of a stream, one list after another.
-use Rattle.std.proofs.Common.{◌≡◌, ℕ, List, [], ◌∷◌, ◌++◌, take, Ok, Err, refl, sym, ap, ◌∙◌, append_assoc, append-nil}
+use Rattle.std.proofs.Common.{◌≡◌, ℕ, List, [], ◌∷◌, ◌++◌, take, Ok, Err, refl, sym, ap, ◌∙◌, append_assoc}
 use Rattle.peer_forward.specs.Calls.{Call, WriteCall, ReadCall}
 use Rattle.peer_forward.proofs.CallLemmas.{each-append}
 use Rattle.node_threads.specs.StreamCalls.{given, IsRead, IsFailedRead, Wrote, Read, ReadToEnd}
@@ -19,7 +19,8 @@ pub Read-append : (a b : List ℕ) (xs ys : List Call) → Read a xs → Read b 
     → Read (a ++ b) (xs ++ ys)
 Read-append a b xs ys first more = record {
   each = each-append IsRead xs ys first.each more.each;
-  whole = given-append xs ys ∙ ap (λ zs. zs ++ given ys) first.whole ∙ ap (λ zs. a ++ zs) more.whole;
+  whole = given-append xs ys ∙ ap (λ zs. zs ++ given ys) first.whole
+      ∙ ap (λ zs. a ++ zs) more.whole;
 }
 
 pub Read-nothing : Read [] []

@@ -1,5 +1,5 @@
 -- What a connection's first packets lead to.
-use Rattle.std.proofs.Common.{◌≡◌, ℕ, List, Option, Some, sym, ap, ◌∙◌, subst, unwrap_or}
+use Rattle.std.proofs.Common.{◌≡◌, ℕ, List, Option, None, Some, refl, sym, ap, ◌∙◌, subst, unwrap_or}
 use Rattle.pg_ids.specs.declared.any_key.AnyKey.{AnyKey}
 use Rattle.pg_ids.specs.declared.any_key.Kind.{Kind}
 use Rattle.ini_config.specs.Node.{NodeSettings}
@@ -8,7 +8,9 @@ use Rattle.startup.specs.Replies.{Report}
 use Rattle.peer_forward.specs.Calls.{Effect}
 use Rattle.peer_forward.specs.declared.verdict.Verdict.{Verdict}
 use Rattle.stat_board.specs.Seats.{SeatView}
+use Rattle.startup.specs.declared.error_code.ErrorCode.TheVariants.{InvalidCatalogName}
 use Rattle.node_threads.specs.StreamCalls.{SomeCalls}
+use Rattle.node_threads.specs.Asking.{SendsError}
 use Rattle.node_threads.specs.Cancelling.{Opens, IsCarried, ServesCancel}
 use Rattle.node_threads.specs.Serving.{ServesClient}
 use Rattle.node_threads.specs.Connection.{place_of, ServesAt}
@@ -23,20 +25,39 @@ place_is group read settings name found place was is of same =
     ap (λ (s : NodeSettings). place_of name s.databases) (sym one) ∙ sym of ∙ same
 
 -- the database at this place has it, and these are the parameters that logins report
-pub serves_some : {T C : Type 0} (wrote gave : Effect T) (wrote' gave' : Effect C) (a b : C)
+pub serves_some : {T C : Type 0} (limit at : ℕ) (wrote gave : Effect T) (wrote' gave' : Effect C)
+    (a b : C)
     (reports same : List Report) (place : Option ℕ) (database secret : ℕ) (kind : Kind)
-    (kept left : List ℕ) (old new : CallerView) → reports ≡ same → place ≡ Some database
+    (kept left : List ℕ) (old new : CallerView) → at ≡ limit → reports ≡ same
+    → place ≡ Some database
     → SomeCalls wrote' gave' a b
-    (λ calls. ServesClient wrote gave reports database secret kind kept calls left old new)
+    (λ calls. ServesClient at wrote gave reports database secret kind kept calls left old new)
     → SomeCalls wrote' gave' a b
-    (λ calls. ServesAt wrote gave same place kind kept calls left old new)
-serves_some wrote gave wrote' gave' a b reports same place database secret kind kept left old new
-    are is serves =
+    (λ calls. ServesAt limit wrote gave same place kind kept calls left old new)
+serves_some limit at wrote gave wrote' gave' a b reports same place database secret kind kept left
+    old new
+    limit_is are is serves =
+    let here : SomeCalls wrote' gave' a b
+    (λ calls. ServesClient limit wrote gave reports database secret kind kept calls left old new) =
+    subst (λ (n : ℕ). SomeCalls wrote' gave' a b
+    (λ calls. ServesClient n wrote gave reports database secret kind kept calls left old new))
+    limit_is serves in
     subst (λ (rs : List Report). SomeCalls wrote' gave' a b
-    (λ calls. ServesAt wrote gave rs place kind kept calls left old new)) are
+    (λ calls. ServesAt limit wrote gave rs place kind kept calls left old new)) are
     (subst (λ (p : Option ℕ). SomeCalls wrote' gave' a b
-    (λ calls. ServesAt wrote gave reports p kind kept calls left old new)) (sym is)
-    (serves.0, serves.1, (secret, serves.2)))
+    (λ calls. ServesAt limit wrote gave reports p kind kept calls left old new)) (sym is)
+    (here.0, here.1, (secret, here.2)))
+
+-- there is none at this place
+pub serves_none : {T C : Type 0} (limit : ℕ) (wrote gave : Effect T) (wrote' gave' : Effect C)
+    (a b : C) (reports : List Report) (place : Option ℕ) (kind : Kind) (kept : List ℕ)
+    (old : CallerView) → place ≡ None → SomeCalls wrote' gave' a b (SendsError InvalidCatalogName)
+    → SomeCalls wrote' gave' a b
+    (λ calls. ServesAt limit wrote gave reports place kind kept calls kept old old)
+serves_none limit wrote gave wrote' gave' a b reports place kind kept old is said =
+    subst (λ (p : Option ℕ). SomeCalls wrote' gave' a b
+    (λ calls. ServesAt limit wrote gave reports p kind kept calls kept old old)) (sym is)
+    (said.0, said.1, (said.2, refl, refl))
 
 -- a cancel request that was served over an opener that is another
 pub serves_cancel_same : {T X : Type 0} (wrote gave : Effect T) (cancels reaches : X → Opens T)

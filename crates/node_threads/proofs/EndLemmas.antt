@@ -20,7 +20,7 @@ use Rattle.node_threads.specs.declared.session.outcome.Stayed.TheVariants.{End}
 use Rattle.node_threads.specs.StreamCalls.{SomeCalls, Wrote, WroteSome}
 use Rattle.node_threads.specs.Asking.{IsError}
 use Rattle.node_threads.specs.Replying.{IsPassedOn, ReplyEnd, Ready, Unclear, Unfit, Untold, heard, passed_on, ReadsReply, StopsAt, WritesReply, ready_outcome}
-use Rattle.node_threads.specs.Progress.{HandedLast, HandedUnfit, Finishes, EndsHere, GoesOn, Refuses, FinishesIdle, FinishesOpen}
+use Rattle.node_threads.specs.Progress.{HasHead, HandedLast, HandedUnfit, Finishes, EndsHere, GoesOn, Refuses, FinishesIdle, FinishesOpen}
 use Rattle.node_threads.proofs.CallLists.{Read-nothing}
 use Rattle.node_threads.proofs.StoppingLemmas.{stops_nothing}
 
@@ -48,13 +48,17 @@ pub enough : (passed front last : List ℕ) → passed ≡ front ++ last → len
 enough passed front last is = omega (arith, ap length is, length-append front last)
 
 -- a reply that ends where nothing more came of it
-pub ends_with : (stream written : List ℕ) (frames : List Frame) (end : ReplyEnd) (text : List ℕ)
-    (reads tells : List Call) → AllByRecursion IsPassedOn frames → stream ≡ heard frames end
+pub ends_with : (limit : ℕ) (stream written : List ℕ) (frames : List Frame) (end : ReplyEnd)
+    (text : List ℕ)
+    (reads tells : List Call) → HasHead limit end → AllByRecursion (IsPassedOn limit) frames
+    → stream ≡ heard frames end
     → ReadsReply end [] reads → StopsAt frames end stream reads
     → written ++ text ≡ passed_on frames end → WritesReply end text tells
-    → Finishes stream written end reads tells
-ends_with stream written frames end text reads tells each stream_is read stops text_is told =
+    → Finishes limit stream written end reads tells
+ends_with limit stream written frames end text reads tells head each stream_is read stops text_is
+    told =
     record {
+      head = head;
       frames = frames;
       each = each;
       bytes = [];
@@ -67,34 +71,40 @@ ends_with stream written frames end text reads tells each stream_is read stops t
     }
 
 -- a reply that ends where nothing more is read of it
-ends_now : (stream written : List ℕ) (frames : List Frame) (end : ReplyEnd) (text : List ℕ)
-    (tells : List Call) → AllByRecursion IsPassedOn frames → stream ≡ heard frames end
+ends_now : (limit : ℕ) (stream written : List ℕ) (frames : List Frame) (end : ReplyEnd)
+    (text : List ℕ)
+    (tells : List Call) → HasHead limit end → AllByRecursion (IsPassedOn limit) frames
+    → stream ≡ heard frames end
     → ReadsReply end [] [] → written ++ text ≡ passed_on frames end → WritesReply end text tells
-    → Finishes stream written end [] tells
-ends_now stream written frames end text tells each stream_is read text_is told =
-    ends_with stream written frames end text [] tells each stream_is read
+    → Finishes limit stream written end [] tells
+ends_now limit stream written frames end text tells head each stream_is read text_is told =
+    ends_with limit stream written frames end text [] tells head each stream_is read
     (stops_nothing frames end stream) text_is told
 
 -- a ReadyForQuery that the client took
-pub ready_told : (stream written : List ℕ) (status : ℕ) (passage : Passage) (tells : List Call)
-    → HandedLast stream written (ready_text status) passage → Wrote passage.passed tells
-    → Finishes stream written (Ready status passage.bytes) [] tells
-ready_told stream written status passage tells last told =
-    ends_now stream written last.frames (Ready status passage.bytes) passage.passed tells last.each
+pub ready_told : (limit : ℕ) (stream written : List ℕ) (status : ℕ) (passage : Passage)
+    (tells : List Call)
+    → HandedLast limit stream written (ready_text status) passage → Wrote passage.passed tells
+    → Finishes limit stream written (Ready status passage.bytes) [] tells
+ready_told limit stream written status passage tells last told =
+    ends_now limit stream written last.frames (Ready status passage.bytes) passage.passed tells
+    last.enough last.each
     last.stream_is Read-nothing
     (ap (λ xs. written ++ xs) last.passed_is
     ∙ sym (append_assoc written last.front (ready_text status))
     ∙ ap (λ xs. xs ++ ready_text status) last.written_is) told
 
 -- a ReadyForQuery that the client didn't take
-pub ready_untold : (stream written : List ℕ) (status : ℕ) (passage : Passage) (tells : List Call)
+pub ready_untold : (limit : ℕ) (stream written : List ℕ) (status : ℕ) (passage : Passage)
+    (tells : List Call)
     (stayed : Stayed) → (status_of status ≡ Unknown → ⊥)
-    → HandedLast stream written (ready_text status) passage → WroteSome passage.passed tells
-    → stayed ≡ End [] → EndsHere stream written [] tells stayed
-ready_untold stream written status passage tells stayed known last told is = (
+    → HandedLast limit stream written (ready_text status) passage → WroteSome passage.passed tells
+    → stayed ≡ End [] → EndsHere limit stream written [] tells stayed
+ready_untold limit stream written status passage tells stayed known last told is = (
   Untold (ready_text status) passage.bytes,
-  ends_now stream written last.frames (Untold (ready_text status) passage.bytes) passage.passed
-      tells last.each last.stream_is Read-nothing
+  ends_now limit stream written last.frames (Untold (ready_text status) passage.bytes)
+      passage.passed
+      tells tt last.each last.stream_is Read-nothing
       (ap (λ xs. written ++ xs) last.passed_is
       ∙ sym (append_assoc written last.front (ready_text status))
       ∙ ap (λ xs. xs ++ ready_text status) last.written_is) told,
@@ -102,14 +112,16 @@ ready_untold stream written status passage tells stayed known last told is = (
 )
 
 -- a ReadyForQuery of unknown status
-pub unclear_told : (stream written : List ℕ) (status : ℕ) (passage : Passage) (tells : List Call)
+pub unclear_told : (limit : ℕ) (stream written : List ℕ) (status : ℕ) (passage : Passage)
+    (tells : List Call)
     (reply : List ℕ) (stayed : Stayed) → status_of status ≡ Unknown
-    → IsError ConnectionFailure reply → HandedLast stream written (ready_text status) passage
+    → IsError ConnectionFailure reply → HandedLast limit stream written (ready_text status) passage
     → Wrote (take (length passage.passed - 6) passage.passed) tells → stayed ≡ End reply
-    → EndsHere stream written [] tells stayed
-unclear_told stream written status passage tells reply stayed unknown error last told is = (
+    → EndsHere limit stream written [] tells stayed
+unclear_told limit stream written status passage tells reply stayed unknown error last told is = (
   Unclear status passage.bytes,
-  ends_now stream written last.frames (Unclear status passage.bytes) last.front tells last.each
+  ends_now limit stream written last.frames (Unclear status passage.bytes) last.front tells
+      last.enough last.each
       last.stream_is Read-nothing last.written_is
       (subst (λ xs. Wrote xs tells)
       (front_is passage.passed last.front (ready_text status) 6 last.passed_is refl) told),
@@ -117,52 +129,58 @@ unclear_told stream written status passage tells reply stayed unknown error last
 )
 
 -- what stands before the last bytes isn't taken
-untold_before : (stream written last : List ℕ) (passage : Passage) (frames : List Frame)
-    (front : List ℕ) (tells : List Call) (stayed : Stayed) → AllByRecursion IsPassedOn frames
+untold_before : (limit : ℕ) (stream written last : List ℕ) (passage : Passage) (frames : List Frame)
+    (front : List ℕ) (tells : List Call) (stayed : Stayed) → AllByRecursion
+    (IsPassedOn limit) frames
     → stream ≡ texts frames ++ (last ++ passage.bytes) → passage.passed ≡ front ++ last
     → written ++ front ≡ texts frames
     → WroteSome (take (length passage.passed - length last) passage.passed) tells
-    → stayed ≡ End [] → EndsHere stream written [] tells stayed
-untold_before stream written last passage frames front tells stayed each stream_is passed_is
+    → stayed ≡ End [] → EndsHere limit stream written [] tells stayed
+untold_before limit stream written last passage frames front tells stayed each stream_is passed_is
     written_is told is = (
       Untold [] (last ++ passage.bytes),
-      ends_now stream written frames (Untold [] (last ++ passage.bytes)) front tells each stream_is
+      ends_now limit stream written frames (Untold [] (last ++ passage.bytes)) front tells tt each
+          stream_is
           Read-nothing (written_is ∙ sym (append-nil (texts frames)))
           (subst (λ xs. WroteSome xs tells)
           (front_is passage.passed front last (length last) passed_is refl) told),
       (inl refl, is),
     )
 
-pub unclear_untold : (stream written : List ℕ) (status : ℕ) (passage : Passage)
+pub unclear_untold : (limit : ℕ) (stream written : List ℕ) (status : ℕ) (passage : Passage)
     (tells : List Call) (stayed : Stayed)
-    → HandedLast stream written (ready_text status) passage
+    → HandedLast limit stream written (ready_text status) passage
     → WroteSome (take (length passage.passed - 6) passage.passed) tells → stayed ≡ End []
-    → EndsHere stream written [] tells stayed
-unclear_untold stream written status passage tells stayed last told is =
-    untold_before stream written (ready_text status) passage last.frames last.front tells stayed
+    → EndsHere limit stream written [] tells stayed
+unclear_untold limit stream written status passage tells stayed last told is =
+    untold_before limit stream written (ready_text status) passage last.frames last.front tells
+    stayed
     last.each last.stream_is last.passed_is last.written_is told is
 
 -- the head of a frame that isn't passed on
-pub unfit_told : (stream written reply : List ℕ) (passage : Passage) (tells : List Call)
-    (stayed : Stayed) → HandedUnfit stream written reply passage
+pub unfit_told : (limit : ℕ) (stream written reply : List ℕ) (passage : Passage) (tells : List Call)
+    (stayed : Stayed) → HandedUnfit limit stream written reply passage
     → Wrote (take (length passage.passed - 5) passage.passed) tells → stayed ≡ End reply
-    → EndsHere stream written [] tells stayed
-unfit_told stream written reply passage tells stayed unfit told is = (
+    → EndsHere limit stream written [] tells stayed
+unfit_told limit stream written reply passage tells stayed unfit told is = (
   Unfit unfit.kind unfit.size passage.bytes,
-  ends_now stream written unfit.frames (Unfit unfit.kind unfit.size passage.bytes) unfit.front tells
-      unfit.each unfit.stream_is Read-nothing unfit.written_is
+  ends_now limit stream written unfit.frames (Unfit unfit.kind unfit.size passage.bytes)
+      unfit.front tells
+      tt unfit.each unfit.stream_is Read-nothing unfit.written_is
       (subst (λ xs. Wrote xs tells)
       (front_is passage.passed unfit.front (head_text unfit.kind unfit.size) 5 unfit.passed_is refl)
       told),
   (unfit.code, unfit.head, unfit.means, (reply, unfit.error, is)),
 )
 
-pub unfit_untold : (stream written reply : List ℕ) (passage : Passage) (tells : List Call)
-    (stayed : Stayed) → HandedUnfit stream written reply passage
+pub unfit_untold : (limit : ℕ) (stream written reply : List ℕ) (passage : Passage)
+    (tells : List Call)
+    (stayed : Stayed) → HandedUnfit limit stream written reply passage
     → WroteSome (take (length passage.passed - 5) passage.passed) tells → stayed ≡ End []
-    → EndsHere stream written [] tells stayed
-unfit_untold stream written reply passage tells stayed unfit told is =
-    untold_before stream written (head_text unfit.kind unfit.size) passage unfit.frames unfit.front
+    → EndsHere limit stream written [] tells stayed
+unfit_untold limit stream written reply passage tells stayed unfit told is =
+    untold_before limit stream written (head_text unfit.kind unfit.size) passage unfit.frames
+    unfit.front
     tells stayed unfit.each unfit.stream_is unfit.passed_is unfit.written_is told is
 
 -- what the act on a ReadyForQuery says of its status
@@ -219,34 +237,36 @@ open_known : (s : Status) → s ≡ InTransaction → s ≡ Unknown → ⊥
 open_known s is not = let apart : InTransaction ≡ Unknown = sym is ∙ not in cc
 
 -- a reply that leaves no transaction open
-pub idle_ends : (stream written : List ℕ) (status : ℕ) (passage : Passage) (tells : List Call)
+pub idle_ends : (limit : ℕ) (stream written : List ℕ) (status : ℕ) (passage : Passage)
+    (tells : List Call)
     (stayed : Stayed) → status_of status ≡ Idle
     → FinishesIdle passage.passed passage.bytes stayed tells
-    → HandedLast stream written (ready_text status) passage
-    → EndsHere stream written [] tells stayed
-idle_ends stream written status passage tells stayed idle told last = elim told [
+    → HandedLast limit stream written (ready_text status) passage
+    → EndsHere limit stream written [] tells stayed
+idle_ends limit stream written status passage tells stayed idle told last = elim told [
   | inl took ↦ (
     Ready status passage.bytes,
-    ready_told stream written status passage tells last took.0,
+    ready_told limit stream written status passage tells last took.0,
     subst (λ s. ready_outcome s passage.bytes stayed) (sym idle) took.1,
   )
-  | inr not ↦ ready_untold stream written status passage tells stayed
+  | inr not ↦ ready_untold limit stream written status passage tells stayed
       (idle_known (status_of status) idle) last not.0 not.1
 ]
 
 -- a reply that leaves a transaction open, where the stay ends
-open_ends : (stream written : List ℕ) (status : ℕ) (passage : Passage) (tells : List Call)
+open_ends : (limit : ℕ) (stream written : List ℕ) (status : ℕ) (passage : Passage)
+    (tells : List Call)
     (stayed : Stayed) → status_of status ≡ InTransaction
     → FinishesOpen passage.passed passage.bytes (Some stayed) tells
-    → HandedLast stream written (ready_text status) passage
-    → EndsHere stream written [] tells stayed
-open_ends stream written status passage tells stayed is_open told last = elim told [
+    → HandedLast limit stream written (ready_text status) passage
+    → EndsHere limit stream written [] tells stayed
+open_ends limit stream written status passage tells stayed is_open told last = elim told [
   | inl took ↦ (
     Ready status passage.bytes,
-    ready_told stream written status passage tells last took.0,
+    ready_told limit stream written status passage tells last took.0,
     subst (λ s. ready_outcome s passage.bytes stayed) (sym is_open) took.1,
   )
-  | inr not ↦ ready_untold stream written status passage tells stayed
+  | inr not ↦ ready_untold limit stream written status passage tells stayed
       (open_known (status_of status) is_open) last not.0 not.1
 ]
 
@@ -254,53 +274,58 @@ pub open_calls : {T : Type 0} (wrote gave : Effect T) (a b : T) (status : ℕ) (
     (found : Option Stayed) → status_of status ≡ InTransaction
     → SomeCalls wrote gave a b (FinishesOpen passage.passed passage.bytes found)
     → IfSome found (λ stayed. SomeCalls wrote gave a b
-    (λ tells. (stream written : List ℕ) → HandedLast stream written (ready_text status) passage
-    → EndsHere stream written [] tells stayed))
+    (λ tells. (limit : ℕ) (stream written : List ℕ)
+    → HandedLast limit stream written (ready_text status) passage
+    → EndsHere limit stream written [] tells stayed))
 open_calls wrote gave a b status passage None is_open told = tt
 open_calls wrote gave a b status passage (Some stayed) is_open told = (
   told.0,
   told.1,
-  λ stream written last. open_ends stream written status passage told.0 stayed is_open told.2 last,
+  λ limit stream written last. open_ends limit stream written status passage told.0 stayed is_open
+      told.2 last,
 )
 
 -- a reply that leaves a transaction open, where the stay goes on
 pub open_goes_on : {T : Type 0} (wrote gave : Effect T) (a b : T) (status : ℕ) (passage : Passage)
     (found : Option Stayed) → status_of status ≡ InTransaction
     → SomeCalls wrote gave a b (FinishesOpen passage.passed passage.bytes found) → found ≡ None
-    → SomeCalls wrote gave a b (λ tells. (stream written : List ℕ)
-    → HandedLast stream written (ready_text status) passage → GoesOn stream written [] tells)
+    → SomeCalls wrote gave a b (λ tells. (limit : ℕ) (stream written : List ℕ)
+    → HandedLast limit stream written (ready_text status) passage
+    → GoesOn limit stream written [] tells)
 open_goes_on wrote gave a b status passage (Some stayed) is_open told none = absurd (cc)
 open_goes_on wrote gave a b status passage None is_open told none = (
   told.0,
   told.1,
-  λ stream written last. (
+  λ limit stream written last. (
     status,
-    subst (λ after. Finishes stream written (Ready status after) [] told.0) told.2.1
-        (ready_told stream written status passage told.0 last told.2.0),
+    subst (λ after. Finishes limit stream written (Ready status after) [] told.0) told.2.1
+        (ready_told limit stream written status passage told.0 last told.2.0),
     is_open,
   ),
 )
 
 -- a ReadyForQuery of unknown status, whether the client took what came before or not
-pub unclear_ends : (stream written : List ℕ) (status : ℕ) (passage : Passage) (reply : List ℕ)
+pub unclear_ends : (limit : ℕ) (stream written : List ℕ) (status : ℕ) (passage : Passage)
+    (reply : List ℕ)
     (stayed : Stayed) (tells : List Call) → status_of status ≡ Unknown
     → IsError ConnectionFailure reply
     → Refuses (take (length passage.passed - 6) passage.passed) reply stayed tells
-    → HandedLast stream written (ready_text status) passage
-    → EndsHere stream written [] tells stayed
-unclear_ends stream written status passage reply stayed tells unknown error told last =
+    → HandedLast limit stream written (ready_text status) passage
+    → EndsHere limit stream written [] tells stayed
+unclear_ends limit stream written status passage reply stayed tells unknown error told last =
     elim told [
-      | inl took ↦ unclear_told stream written status passage tells reply stayed unknown error last
+      | inl took ↦ unclear_told limit stream written status passage tells reply stayed unknown
+          error last
           took.0 took.1
-      | inr not ↦ unclear_untold stream written status passage tells stayed last not.0 not.1
+      | inr not ↦ unclear_untold limit stream written status passage tells stayed last not.0 not.1
     ]
 
 -- the head of a frame that isn't passed on, likewise
-pub unfit_ends : (stream written reply : List ℕ) (passage : Passage) (stayed : Stayed)
-    (tells : List Call) → HandedUnfit stream written reply passage
+pub unfit_ends : (limit : ℕ) (stream written reply : List ℕ) (passage : Passage) (stayed : Stayed)
+    (tells : List Call) → HandedUnfit limit stream written reply passage
     → Refuses (take (length passage.passed - 5) passage.passed) reply stayed tells
-    → EndsHere stream written [] tells stayed
-unfit_ends stream written reply passage stayed tells unfit told = elim told [
-  | inl took ↦ unfit_told stream written reply passage tells stayed unfit took.0 took.1
-  | inr not ↦ unfit_untold stream written reply passage tells stayed unfit not.0 not.1
+    → EndsHere limit stream written [] tells stayed
+unfit_ends limit stream written reply passage stayed tells unfit told = elim told [
+  | inl took ↦ unfit_told limit stream written reply passage tells stayed unfit took.0 took.1
+  | inr not ↦ unfit_untold limit stream written reply passage tells stayed unfit not.0 not.1
 ]

@@ -62,22 +62,25 @@ texts-push frames frame = flat_map-append text frames (frame ∷ [])
     ∙ ap (λ xs. texts frames ++ xs) (append-nil (text frame))
 
 -- at a place where no body's bytes are to come, no frame is begun
-none_open : (place : Place) (shown : List ℕ) → IsShown place None shown
+none_open : (limit : ℕ) (place : Place) (shown : List ℕ) → IsShown limit place None shown
     → (place ≡ Between) × (shown ≡ [])
-none_open Between shown is = (refl, is.1)
-none_open Inside shown is = absurd (none_some is.3 is.7)
-none_open AtReady shown is = absurd (none_some 1 is.0)
-none_open (Status status) shown is = absurd (none_some 0 is.0)
+none_open limit Between shown is = (refl, is.1)
+none_open limit Inside shown is = absurd (none_some is.3 is.7)
+none_open limit AtReady shown is = absurd (none_some 1 is.0)
+none_open limit (Status status) shown is = absurd (none_some 0 is.0)
 
 -- the head that was handed out between two frames
-head_between : (stream written : List ℕ) (old new : Passage) (kind size : ℕ) (m : LinkMessage)
-    (handed : Handed) → HandedOut stream written Between old → IsHead kind size
+head_between : (limit : ℕ) (stream written : List ℕ) (old new : Passage) (kind size : ℕ)
+    (m : LinkMessage)
+    (handed : Handed) → HandedOut limit stream written Between old → IsHead limit kind size
     → old.bytes ≡ head_text kind size ++ new.bytes → new.left ≡ Some (size - 4)
-    → new.passed ≡ old.passed ++ head_text kind size → link_message kind size ≡ m
-    → HeadMeans (act_on_head m 1) handed → HandsOut stream written handed new
-head_between stream written old new kind size PassOn handed out head bytes_are left_is passed_is
-    means seen =
-    let shown_is : IsShown Inside new.left (head_text kind size) = (
+    → new.passed ≡ old.passed ++ head_text kind size → new.limit ≡ old.limit
+    → link_message kind size ≡ m
+    → HeadMeans (act_on_head m 1) handed → HandsOut limit stream written handed new
+head_between limit stream written old new kind size PassOn handed out head bytes_are left_is
+    passed_is
+    same means seen =
+    let shown_is : IsShown limit Inside new.left (head_text kind size) = (
       kind,
       size,
       [],
@@ -88,10 +91,11 @@ head_between stream written old new kind size PassOn handed out head bytes_are l
       left_is,
       omega (arith, head.low),
     ) in
-    let here : HandedOut stream written Inside new =
+    let here : HandedOut limit stream written Inside new =
     record {
       frames = out.frames;
       each = out.each;
+      limit_is = same ∙ out.limit_is;
       shown = head_text kind size;
       is_shown = shown_is;
       stream_is = out.stream_is ∙ ap (λ xs. texts out.frames ++ (xs ++ old.bytes)) out.is_shown.1
@@ -106,18 +110,20 @@ head_between stream written old new kind size PassOn handed out head bytes_are l
           (out.written_is ∙ ap (λ xs. texts out.frames ++ xs) out.is_shown.1
           ∙ append-nil (texts out.frames));
     } in
-    subst (λ (h : Handed). HandsOut stream written h new) (sym seen) here
-head_between stream written old new kind size ReadyHead handed out head bytes_are left_is passed_is
-    means seen =
+    subst (λ (h : Handed). HandsOut limit stream written h new) (sym seen) here
+head_between limit stream written old new kind size ReadyHead handed out head bytes_are left_is
+    passed_is
+    same means seen =
     let is = ready_head kind size means in
     let text_same : head_text kind size ≡ head_text 90 5 =
     ap (λ k. head_text k size) is.0 ∙ ap (λ n. head_text 90 n) is.1 in
-    let here : HandedOut stream written AtReady new =
+    let here : HandedOut limit stream written AtReady new =
     record {
       frames = out.frames;
       each = out.each;
+      limit_is = same ∙ out.limit_is;
       shown = [];
-      is_shown = (left_is ∙ ap (λ n. Some (n - 4)) is.1, refl);
+      is_shown = (left_is ∙ ap (λ n. Some (n - 4)) is.1, refl, omega (arith, head.high, is.1));
       stream_is = out.stream_is ∙ ap (λ xs. texts out.frames ++ (xs ++ old.bytes)) out.is_shown.1
           ∙ ap (λ xs. texts out.frames ++ xs) bytes_are
           ∙ ap (λ xs. texts out.frames ++ (xs ++ new.bytes)) text_same;
@@ -126,11 +132,12 @@ head_between stream written old new kind size ReadyHead handed out head bytes_ar
       written_is = ap (λ xs. written ++ xs) (out.passed_is ∙ append-nil out.front)
           ∙ out.written_is ∙ ap (λ xs. texts out.frames ++ xs) out.is_shown.1;
     } in
-    subst (λ (h : Handed). HandsOut stream written h new) (sym seen) here
-head_between stream written old new kind size (RefusedHead code) handed out head bytes_are left_is
-    passed_is means seen =
+    subst (λ (h : Handed). HandsOut limit stream written h new) (sym seen) here
+head_between limit stream written old new kind size (RefusedHead code) handed out head bytes_are
+    left_is
+    passed_is same means seen =
     let here : (reply : List ℕ) → (reply ≡ fatal code) ⊎ (reply ≡ [])
-    → HandedUnfit stream written reply new = λ reply error. record {
+    → HandedUnfit limit stream written reply new = λ reply error. record {
       frames = out.frames;
       each = out.each;
       kind = kind;
@@ -148,37 +155,40 @@ head_between stream written old new kind size (RefusedHead code) handed out head
           ∙ append-nil (texts out.frames);
     } in
     elim seen [
-      | inl is ↦ subst (λ (h : Handed). HandsOut stream written h new) (sym is)
+      | inl is ↦ subst (λ (h : Handed). HandsOut limit stream written h new) (sym is)
           (here (fatal code) (inl refl))
-      | inr is ↦ subst (λ (h : Handed). HandsOut stream written h new) (sym is)
+      | inr is ↦ subst (λ (h : Handed). HandsOut limit stream written h new) (sym is)
           (here [] (inr refl))
     ]
 
 -- the head that was handed out
-hands_head : (stream written : List ℕ) (place : Place) (old new : Passage) (kind size : ℕ)
-    (handed : Handed) → HandedOut stream written place old
+hands_head : (limit : ℕ) (stream written : List ℕ) (place : Place) (old new : Passage)
+    (kind size : ℕ)
+    (handed : Handed) → HandedOut limit stream written place old
     → Hands old (Some (Head kind size)) new
     → HeadMeans (act_on_head (link_message kind size) 1) handed
-    → HandsOut stream written handed new
-hands_head stream written place old new kind size handed out hands seen =
-    let closed = none_open place out.shown
-    (subst (λ (l : Option ℕ). IsShown place l out.shown) hands.0 out.is_shown) in
-    head_between stream written old new kind size (link_message kind size) handed
-    (subst (λ (p : Place). HandedOut stream written p old) closed.0 out) hands.1 hands.2 hands.3
-    hands.4 refl seen
+    → HandsOut limit stream written handed new
+hands_head limit stream written place old new kind size handed out hands seen =
+    let closed = none_open limit place out.shown
+    (subst (λ (l : Option ℕ). IsShown limit place l out.shown) hands.0 out.is_shown) in
+    head_between limit stream written old new kind size (link_message kind size) handed
+    (subst (λ (p : Place). HandedOut limit stream written p old) closed.0 out)
+    (subst
+    (λ (n : ℕ). IsHead n kind size) out.limit_is hands.1) hands.2 hands.3 hands.4 hands.5 refl
+    seen
 
 -- a part of a body inside a frame that is passed on
-part_inside : (stream written : List ℕ) (old new : Passage) (part : List ℕ) (more : ℕ)
-    → HandedOut stream written Inside old → old.left ≡ Some (length part + more)
+part_inside : (limit : ℕ) (stream written : List ℕ) (old new : Passage) (part : List ℕ) (more : ℕ)
+    → HandedOut limit stream written Inside old → old.left ≡ Some (length part + more)
     → old.bytes ≡ part ++ new.bytes → new.left ≡ Some more → new.passed ≡ old.passed ++ part
-    → HandedOut stream written Inside new
-part_inside stream written old new part more out left_was bytes_are left_is passed_is =
+    → new.limit ≡ old.limit → HandedOut limit stream written Inside new
+part_inside limit stream written old new part more out left_was bytes_are left_is passed_is same =
     let was = out.is_shown in
     let kind = was.0 in
     let size = was.1 in
     let body = was.2 in
     let count = some_some was.3 (length part + more) (sym was.7 ∙ left_was) in
-    let shown_is : IsShown Inside new.left (out.shown ++ part) = (
+    let shown_is : IsShown limit Inside new.left (out.shown ++ part) = (
       kind,
       size,
       body ++ part,
@@ -192,6 +202,7 @@ part_inside stream written old new part more out left_was bytes_are left_is pass
     record {
       frames = out.frames;
       each = out.each;
+      limit_is = same ∙ out.limit_is;
       shown = out.shown ++ part;
       is_shown = shown_is;
       stream_is = out.stream_is
@@ -207,23 +218,25 @@ part_inside stream written old new part more out left_was bytes_are left_is pass
     }
 
 -- the status of a ReadyForQuery
-part_at_ready : (stream written : List ℕ) (old new : Passage) (part : List ℕ) (more : ℕ)
-    → HandedOut stream written AtReady old → 0 < length part
+part_at_ready : (limit : ℕ) (stream written : List ℕ) (old new : Passage) (part : List ℕ) (more : ℕ)
+    → HandedOut limit stream written AtReady old → 0 < length part
     → old.left ≡ Some (length part + more) → old.bytes ≡ part ++ new.bytes
-    → new.left ≡ Some more → new.passed ≡ old.passed ++ part
-    → HandedOut stream written (after_part AtReady part) new
-part_at_ready stream written old new [] more out some left_was bytes_are left_is passed_is =
+    → new.left ≡ Some more → new.passed ≡ old.passed ++ part → new.limit ≡ old.limit
+    → HandedOut limit stream written (after_part AtReady part) new
+part_at_ready limit stream written old new [] more out some left_was bytes_are left_is passed_is
+    same =
     absurd (omega (arith, some))
-part_at_ready stream written old new (status ∷ rest) more out some left_was bytes_are left_is
-    passed_is =
+part_at_ready limit stream written old new (status ∷ rest) more out some left_was bytes_are left_is
+    passed_is same =
     let count = some_some 1 (length (status ∷ rest) + more) (sym out.is_shown.0 ∙ left_was) in
     let none : rest ≡ [] = nil_from_length rest (omega (arith, count)) in
     let last : more ≡ 0 = omega (arith, count) in
     record {
       frames = out.frames;
       each = out.each;
+      limit_is = same ∙ out.limit_is;
       shown = [];
-      is_shown = (left_is ∙ ap Some last, refl);
+      is_shown = (left_is ∙ ap Some last, refl, out.is_shown.2);
       stream_is = out.stream_is
           ∙ ap (λ xs. texts out.frames ++ (xs ++ (head_text 90 5 ++ old.bytes))) out.is_shown.1
           ∙ ap (λ xs. texts out.frames ++ (head_text 90 5 ++ xs)) bytes_are
@@ -236,27 +249,34 @@ part_at_ready stream written old new (status ∷ rest) more out some left_was by
     }
 
 -- the part that was handed out
-hands_part : (stream written : List ℕ) (place : Place) (old new : Passage) (part : List ℕ)
-    (more : ℕ) → HandedOut stream written place old → 0 < length part
+hands_part : (limit : ℕ) (stream written : List ℕ) (place : Place) (old new : Passage)
+    (part : List ℕ)
+    (more : ℕ) → HandedOut limit stream written place old → 0 < length part
     → old.left ≡ Some (length part + more) → old.bytes ≡ part ++ new.bytes
-    → new.left ≡ Some more → new.passed ≡ old.passed ++ part
-    → HandedOut stream written (after_part place part) new
-hands_part stream written Between old new part more out some left_was bytes_are left_is passed_is =
+    → new.left ≡ Some more → new.passed ≡ old.passed ++ part → new.limit ≡ old.limit
+    → HandedOut limit stream written (after_part place part) new
+hands_part limit stream written Between old new part more out some left_was bytes_are left_is
+    passed_is same =
     absurd (none_some (length part + more) (sym out.is_shown.0 ∙ left_was))
-hands_part stream written Inside old new part more out some left_was bytes_are left_is passed_is =
-    part_inside stream written old new part more out left_was bytes_are left_is passed_is
-hands_part stream written AtReady old new part more out some left_was bytes_are left_is passed_is =
-    part_at_ready stream written old new part more out some left_was bytes_are left_is passed_is
-hands_part stream written (Status status) old new part more out some left_was bytes_are left_is
-    passed_is =
+hands_part limit stream written Inside old new part more out some left_was bytes_are left_is
+    passed_is same =
+    part_inside limit stream written old new part more out left_was bytes_are left_is passed_is same
+hands_part limit stream written AtReady old new part more out some left_was bytes_are left_is
+    passed_is same =
+    part_at_ready limit stream written old new part more out some left_was bytes_are left_is
+    passed_is same
+hands_part limit stream written (Status status) old new part more out some left_was bytes_are
+    left_is
+    passed_is same =
     let count = some_some 0 (length part + more) (sym out.is_shown.0 ∙ left_was) in
     absurd (omega (arith, count, some))
 
 -- the tail of a frame that is passed on
-tail_inside : (stream written : List ℕ) (old new : Passage) → HandedOut stream written Inside old
+tail_inside : (limit : ℕ) (stream written : List ℕ) (old new : Passage)
+    → HandedOut limit stream written Inside old
     → old.left ≡ Some 0 → new.left ≡ None → new.bytes ≡ old.bytes → new.passed ≡ old.passed
-    → HandedOut stream written Between new
-tail_inside stream written old new out left_was left_is bytes_are passed_is =
+    → new.limit ≡ old.limit → HandedOut limit stream written Between new
+tail_inside limit stream written old new out left_was left_is bytes_are passed_is same =
     let was = out.is_shown in
     let kind = was.0 in
     let size = was.1 in
@@ -264,8 +284,12 @@ tail_inside stream written old new out left_was left_is bytes_are passed_is =
     let count = some_some was.3 0 (sym was.7 ∙ left_was) in
     let sizes : size ≡ 4 + length body = omega (arith, was.8, count) in
     let frame : Frame = record { kind = kind; body = body } in
-    let is : IsPassedOn frame = record {
-      is_frame = record { type_byte = was.4.type_byte; size = omega (arith, sizes, was.4.high) };
+    let is : IsPassedOn limit frame = record {
+      is_frame = record {
+        type_byte = was.4.type_byte;
+        size = omega (arith, sizes, was.4.high);
+        fits = omega (arith, sizes, was.4.fits);
+      };
       means = ap (λ n. link_message kind n) (sym sizes) ∙ was.5;
     } in
     let shown_is : out.shown ≡ text frame =
@@ -274,7 +298,8 @@ tail_inside stream written old new out left_was left_is bytes_are passed_is =
     ap (λ xs. texts out.frames ++ xs) shown_is ∙ sym (texts-push out.frames frame) in
     record {
       frames = out.frames ++ frame ∷ [];
-      each = each-append IsPassedOn out.frames (frame ∷ []) out.each (is, tt);
+      limit_is = same ∙ out.limit_is;
+      each = each-append (IsPassedOn limit) out.frames (frame ∷ []) out.each (is, tt);
       shown = [];
       is_shown = (left_is, refl);
       stream_is = out.stream_is ∙ ap (λ xs. texts out.frames ++ (out.shown ++ xs)) (sym bytes_are)
@@ -286,12 +311,15 @@ tail_inside stream written old new out left_was left_is bytes_are passed_is =
     }
 
 -- the tail of a ReadyForQuery
-tail_at_status : (stream written : List ℕ) (status : ℕ) (old new : Passage)
-    → HandedOut stream written (Status status) old → new.left ≡ None → new.bytes ≡ old.bytes
-    → new.passed ≡ old.passed → HandedLast stream written (ready_text status) new
-tail_at_status stream written status old new out left_is bytes_are passed_is = record {
+tail_at_status : (limit : ℕ) (stream written : List ℕ) (status : ℕ) (old new : Passage)
+    → HandedOut limit stream written (Status status) old → new.left ≡ None → new.bytes ≡ old.bytes
+    → new.passed ≡ old.passed → new.limit ≡ old.limit
+    → HandedLast limit stream written (ready_text status) new
+tail_at_status limit stream written status old new out left_is bytes_are passed_is same = record {
   frames = out.frames;
   each = out.each;
+  limit_is = same ∙ out.limit_is;
+  enough = out.is_shown.2;
   left = left_is;
   stream_is = out.stream_is
       ∙ ap (λ xs. texts out.frames ++ (xs ++ (ready_text status ++ old.bytes))) out.is_shown.1
@@ -303,27 +331,31 @@ tail_at_status stream written status old new out left_is bytes_are passed_is = r
 }
 
 -- the tail that was handed out
-hands_tail : (stream written : List ℕ) (place : Place) (old new : Passage)
-    → HandedOut stream written place old → old.left ≡ Some 0 → new.left ≡ None
-    → new.bytes ≡ old.bytes → new.passed ≡ old.passed
-    → HandsOut stream written (after_tail place) new
-hands_tail stream written Between old new out left_was left_is bytes_are passed_is =
+hands_tail : (limit : ℕ) (stream written : List ℕ) (place : Place) (old new : Passage)
+    → HandedOut limit stream written place old → old.left ≡ Some 0 → new.left ≡ None
+    → new.bytes ≡ old.bytes → new.passed ≡ old.passed → new.limit ≡ old.limit
+    → HandsOut limit stream written (after_tail place) new
+hands_tail limit stream written Between old new out left_was left_is bytes_are passed_is same =
     absurd (none_some 0 (sym out.is_shown.0 ∙ left_was))
-hands_tail stream written Inside old new out left_was left_is bytes_are passed_is =
-    tail_inside stream written old new out left_was left_is bytes_are passed_is
-hands_tail stream written AtReady old new out left_was left_is bytes_are passed_is =
+hands_tail limit stream written Inside old new out left_was left_is bytes_are passed_is same =
+    tail_inside limit stream written old new out left_was left_is bytes_are passed_is same
+hands_tail limit stream written AtReady old new out left_was left_is bytes_are passed_is same =
     let count = some_some 1 0 (sym out.is_shown.0 ∙ left_was) in absurd (omega (arith, count))
-hands_tail stream written (Status status) old new out left_was left_is bytes_are passed_is =
-    tail_at_status stream written status old new out left_is bytes_are passed_is
+hands_tail limit stream written (Status status) old new out left_was left_is bytes_are passed_is
+    same =
+    tail_at_status limit stream written status old new out left_is bytes_are passed_is same
 
 -- a whole frame that is passed on
-pub hands_whole : (stream written : List ℕ) (place : Place) (old new : Passage) (head : Header)
-    → HandedOut stream written place old → old.left ≡ None → BeginsWith old.bytes head
+pub hands_whole : (limit : ℕ) (stream written : List ℕ) (place : Place) (old new : Passage)
+    (head : Header)
+    → HandedOut limit stream written place old → old.left ≡ None
+    → BeginsWith old.limit old.bytes head
     → 1 + head.length ≤ length old.bytes → link_message head.kind head.length ≡ PassOn
     → new.passed ≡ old.passed ++ take (1 + head.length) old.bytes → new.left ≡ None
-    → new.bytes ≡ drop (1 + head.length) old.bytes → HandedOut stream written place new
-hands_whole stream written place old new head out closed begins whole means passed_is left_is
-    bytes_are =
+    → new.bytes ≡ drop (1 + head.length) old.bytes → new.limit ≡ old.limit
+    → HandedOut limit stream written place new
+hands_whole limit stream written place old new head out closed begins whole means passed_is left_is
+    bytes_are same =
     let size = head.length - 4 in
     let front = head_text head.kind head.length in
     let more = drop 5 old.bytes in
@@ -333,24 +365,30 @@ hands_whole stream written place old new head out closed begins whole means pass
     let enough : size ≤ length more =
     omega (arith, whole, begins.head.low, ap length begins.whole, length-append front more) in
     let long : length body ≡ size = length-take-le size more enough in
-    let here = none_open place out.shown
-    (subst (λ (l : Option ℕ). IsShown place l out.shown) closed out.is_shown) in
-    let between = subst (λ (p : Place). HandedOut stream written p old) here.0 out in
+    let here = none_open limit place out.shown
+    (subst (λ (l : Option ℕ). IsShown limit place l out.shown) closed out.is_shown) in
+    let between = subst (λ (p : Place). HandedOut limit stream written p old) here.0 out in
     let begun : Passage = record {
+      limit = old.limit;
       passed = old.passed ++ front;
       left = Some size;
       bytes = more;
     } in
     let filled : Passage = record {
+      limit = old.limit;
       passed = begun.passed ++ body;
       left = Some 0;
       bytes = rest;
     } in
-    let inside : HandedOut stream written Inside begun = head_between stream written old begun
-    head.kind head.length PassOn (More Inside) between begins.head begins.whole refl refl means
-    refl in
-    let full : HandedOut stream written Inside filled = part_inside stream written begun filled body 0
-    inside (ap Some (omega (arith, long))) (sym (take-append-drop size more)) refl refl in
+    let inside : HandedOut limit stream written Inside begun = head_between limit stream written
+    old begun
+    head.kind head.length PassOn (More Inside) between
+    (subst
+    (λ (n : ℕ). IsHead n head.kind head.length) out.limit_is begins.head) begins.whole refl refl
+    refl means refl in
+    let full : HandedOut limit stream written Inside filled = part_inside limit stream written
+    begun filled body 0
+    inside (ap Some (omega (arith, long))) (sym (take-append-drop size more)) refl refl refl in
     let all : old.bytes ≡ (front ++ body) ++ rest =
     begins.whole ∙ ap (λ xs. front ++ xs) (sym (take-append-drop size more))
     ∙ sym (append_assoc front body rest) in
@@ -364,25 +402,31 @@ hands_whole stream written place old new head out closed begins whole means pass
     ∙ drop_at (front ++ body) rest (1 + head.length) (sym fits) in
     let passed : new.passed ≡ filled.passed =
     passed_is ∙ ap (λ xs. old.passed ++ xs) front_is ∙ sym (append_assoc old.passed front body) in
-    let done = tail_inside stream written filled new full refl left_is (bytes_are ∙ rest_is) passed in
-    subst (λ (p : Place). HandedOut stream written p new) (sym here.0) done
+    let done = tail_inside limit stream written filled new full refl left_is (bytes_are
+    ∙ rest_is) passed
+    same in
+    subst (λ (p : Place). HandedOut limit stream written p new) (sym here.0) done
 
 -- the piece that was handed out
-pub hands_piece : (stream written : List ℕ) (place : Place) (old new : Passage) (piece : Piece)
-    (handed : Handed) (session session' : Session) → session ≡ asking session.database
-    → HandedOut stream written place old → Hands old (Some piece) new
-    → PieceMeans place session piece handed session' → HandsOut stream written handed new
-hands_piece stream written place old new (Head kind size) handed session session' is out hands seen =
-    hands_head stream written place old new kind size handed out hands
+pub hands_piece : (limit : ℕ) (stream written : List ℕ) (place : Place) (old new : Passage)
+    (piece : Piece)
+    (handed : Handed) (session session' : Session) → session ≡ asking session.limit session.database
+    → HandedOut limit stream written place old → Hands old (Some piece) new
+    → PieceMeans place session piece handed session' → HandsOut limit stream written handed new
+hands_piece limit stream written place old new (Head kind size) handed session session' is out
+    hands seen =
+    hands_head limit stream written place old new kind size handed out hands
     (subst (λ n. HeadMeans (act_on_head (link_message kind size) n) handed)
     (ap (λ s. s.outstanding) is) seen.0)
-hands_piece stream written place old new (Part part) handed session session' is out hands seen =
-    subst (λ (h : Handed). HandsOut stream written h new) (sym seen.0)
-    (hands_part stream written place old new part.now hands.0 out hands.1 hands.2 hands.3 hands.4
-    hands.5)
-hands_piece stream written place old new Tail handed session session' is out hands seen =
-    subst (λ (h : Handed). HandsOut stream written h new) (sym seen.0)
-    (hands_tail stream written place old new out hands.0 hands.1 hands.2 hands.3)
+hands_piece limit stream written place old new (Part part) handed session session' is out hands
+    seen =
+    subst (λ (h : Handed). HandsOut limit stream written h new) (sym seen.0)
+    (hands_part limit stream written place old new part.now hands.0 out hands.1 hands.2 hands.3
+    hands.4
+    hands.5 hands.6)
+hands_piece limit stream written place old new Tail handed session session' is out hands seen =
+    subst (λ (h : Handed). HandsOut limit stream written h new) (sym seen.0)
+    (hands_tail limit stream written place old new out hands.0 hands.1 hands.2 hands.3 hands.4)
 
 -- the session after the head of a frame
 head_session : (m : LinkMessage) (handed : Handed) (session : Session)
@@ -406,7 +450,8 @@ tail_session (Status status) session = refl
 
 -- the session after a piece
 pub piece_session : (place : Place) (piece : Piece) (handed : Handed) (session session' : Session)
-    → session ≡ asking session.database → PieceMeans place session piece handed session'
+    → session ≡ asking session.limit session.database
+    → PieceMeans place session piece handed session'
     → KeepsSession handed session session'
 piece_session place (Head kind size) handed session session' is seen =
     let outstanding : session.outstanding ≡ 1 = ap (λ s. s.outstanding) is in

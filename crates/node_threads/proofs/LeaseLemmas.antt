@@ -31,14 +31,16 @@ of_lease A B C D all (Refused code) a b c = tt
 of_lease A B C D all Ended a b c = tt
 
 -- a link at the same place, over the same stream
-pub same_link : {T : Type 0} (wrote gave : Effect T) (opens : Opens T)
+pub same_link : {T : Type 0} (limit : ℕ) (wrote gave : Effect T) (opens : Opens T)
     (entries : List DatabaseSettings) (key : List ℕ) (at is : LinkPlace) (link opened : Link T)
     → at ≡ is → link ≡ opened
-    → IsLoggedIn wrote gave opens entries is.database key opened.stream
-    → IsLoggedIn wrote gave opens entries at.database key link.stream
-same_link wrote gave opens entries key at is link opened place stream logged =
-    subst (λ (l : Link _). IsLoggedIn wrote gave opens entries at.database key l.stream) (sym stream)
-    (subst (λ (p : LinkPlace). IsLoggedIn wrote gave opens entries p.database key opened.stream)
+    → IsLoggedIn limit wrote gave opens entries is.database key opened.stream
+    → IsLoggedIn limit wrote gave opens entries at.database key link.stream
+same_link limit wrote gave opens entries key at is link opened place stream logged =
+    subst (λ (l : Link _). IsLoggedIn limit wrote gave opens entries at.database key l.stream)
+    (sym stream)
+    (subst
+    (λ (p : LinkPlace). IsLoggedIn limit wrote gave opens entries p.database key opened.stream)
     (sym place) logged)
 
 -- the node was asked for a link, or told that one is up
@@ -64,7 +66,12 @@ is_denied {S} pass reply old new is counted =
     let said : AcquireReply (LinkValue S) PermitRecord → AcquireReply _ PermitRecord =
     λ r. acquire_said r in
     inl (elim is [
-      | inl holding ↦ (acquire.Holding, refl, subst (λ r. WasAnswered pass r new) (ap said holding) was)
+      | inl holding ↦ (
+        acquire.Holding,
+        refl,
+        subst (λ r. WasAnswered pass r new) (ap said holding)
+            was,
+      )
       | inr none ↦ (acquire.Exhausted, refl, subst (λ r. WasAnswered pass r new) (ap said none) was)
     ])
 

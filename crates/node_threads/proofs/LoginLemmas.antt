@@ -6,7 +6,7 @@ use Rattle.pg_frames.specs.declared.frame.Frame.{Frame}
 use Rattle.pg_frames.specs.declared.piece.Piece.{Piece}
 use Rattle.pg_frames.specs.declared.piece.Piece.TheVariants as piece
 use Rattle.pg_frames.specs.FrameText.{text, texts, IsFrame}
-use Rattle.pg_frames.specs.Passage.{Passage, start, fed, head_text, Hands}
+use Rattle.pg_frames.specs.Passage.{IsHead, Passage, start, fed, head_text, Hands}
 use Rattle.startup.specs.StartupMessage.{startup_request}
 use Rattle.link_state.specs.declared.error.LinkError.{LinkError}
 use Rattle.link_state.specs.declared.act.LoginHead.{LoginHead}
@@ -35,7 +35,7 @@ some_some m n e = cc
 
 -- with all forgotten that was handed out
 abbrev pub emptied : Passage → Passage
-emptied passage = record { passed = []; left = passage.left; bytes = passage.bytes }
+emptied passage = record passage { passed = [] }
 
 -- a piece that was handed out, known by its mark
 pub handed_piece : (before now : Passage) (handed : Piece) → Hands before (Some handed) now
@@ -45,39 +45,44 @@ handed_piece before now (piece.Part part) hands = (part, hands)
 handed_piece before now piece.Tail hands = hands
 
 -- where no body's bytes are to come, the reader is between two messages
-between_only : (place : LoginPlace) (login : Login) (frames : List Frame) (shown : List ℕ)
-    (left : Option ℕ) (kept : List ℕ) → left ≡ None → IsAt place login frames shown left kept
+between_only : (limit : ℕ) (place : LoginPlace) (login : Login) (frames : List Frame)
+    (shown : List ℕ)
+    (left : Option ℕ) (kept : List ℕ) → left ≡ None → IsAt limit place login frames shown left kept
     → HasRead login frames × (shown ≡ [])
-between_only Between login frames shown left kept none is = (is.0, is.1)
-between_only Passing login frames shown left kept none is =
+between_only limit Between login frames shown left kept none is = (is.0, is.1)
+between_only limit Passing login frames shown left kept none is =
     absurd (none_some is.3.more (sym none ∙ is.3.left_is))
-between_only (Reading wanted) login frames shown left kept none is =
+between_only limit (Reading wanted) login frames shown left kept none is =
     absurd (none_some is.3.more (sym none ∙ is.3.left_is))
-between_only (Up key) login frames shown left kept none is =
+between_only limit (Up key) login frames shown left kept none is =
     absurd (none_some is.3.more (sym none ∙ is.3.left_is))
 
 -- of the messages that were read, and of one more the head
-record IsBegun (stream : List ℕ) (login : Login) (kind size : ℕ) (now : Passage) : Type 0 where
+record IsBegun (limit : ℕ) (stream : List ℕ) (login : Login) (kind size : ℕ) (now : Passage)
+    : Type 0 where
+  pub limit_is : now.limit ≡ limit
   pub frames : List Frame
-  pub each : AllByRecursion IsFrame frames
+  pub each : AllByRecursion (IsFrame limit) frames
   pub read : HasRead login frames
   pub stream_is : stream ≡ texts frames ++ (head_text kind size ++ now.bytes)
-  pub opened : IsOpen kind size [] (head_text kind size) now.left
+  pub opened : IsOpen limit kind size [] (head_text kind size) now.left
 
-head_begins : (stream : List ℕ) (place : LoginPlace) (login : Login) (before now : Passage)
-    (kind size : ℕ) → HasCome stream place login before
-    → Hands before (Some (piece.Head kind size)) now → IsBegun stream login kind size now
-head_begins stream place login before now kind size come hands =
-    let at = between_only place login come.frames come.shown before.left before.passed hands.0
+head_begins : (limit : ℕ) (stream : List ℕ) (place : LoginPlace) (login : Login)
+    (before now : Passage)
+    (kind size : ℕ) → HasCome limit stream place login before
+    → Hands before (Some (piece.Head kind size)) now → IsBegun limit stream login kind size now
+head_begins limit stream place login before now kind size come hands =
+    let at = between_only limit place login come.frames come.shown before.left before.passed hands.0
     come.is_at in
     record {
+      limit_is = hands.5 ∙ come.limit_is;
       frames = come.frames;
       each = come.each;
       read = at.0;
       stream_is = come.stream_is ∙ ap (λ xs. texts come.frames ++ (xs ++ before.bytes)) at.1
           ∙ ap (λ xs. texts come.frames ++ xs) hands.2;
       opened = record {
-        head = hands.1;
+        head = subst (λ (n : ℕ). IsHead n kind size) come.limit_is hands.1;
         shown_is = sym (append-nil (head_text kind size));
         more = size - 4;
         left_is = hands.3;
@@ -86,17 +91,19 @@ head_begins stream place login before now kind size come hands =
     }
 
 -- the head of a message that is passed over
-pub head_skipped : (stream : List ℕ) (place : LoginPlace) (old new : Login)
+pub head_skipped : (limit : ℕ) (stream : List ℕ) (place : LoginPlace) (old new : Login)
     (before now after : Passage) (kind size : ℕ) (answer : Result LoginHead LinkError)
     → answer ≡ Ok Skip → after ≡ emptied now
     → ((frames : List Frame) → HasRead old frames → ReadsOn answer new frames kind size)
-    → HasCome stream place old before → Hands before (Some (piece.Head kind size)) now
-    → HasCome stream Passing new after
-head_skipped stream place old new before now after kind size answer is after_is reads come hands =
-    let begun = head_begins stream place old before now kind size come hands in
+    → HasCome limit stream place old before → Hands before (Some (piece.Head kind size)) now
+    → HasCome limit stream Passing new after
+head_skipped limit stream place old new before now after kind size answer is after_is reads come
+    hands =
+    let begun = head_begins limit stream place old before now kind size come hands in
     let whole = subst (λ (a : Result LoginHead LinkError). ReadsOn a new begun.frames kind size) is
     (reads begun.frames begun.read) in
-    let here : HasCome stream Passing new (emptied now) = record {
+    let here : HasCome limit stream Passing new (emptied now) = record {
+      limit_is = begun.limit_is;
       frames = begun.frames;
       each = begun.each;
       shown = head_text kind size;
@@ -110,7 +117,7 @@ head_skipped stream place old new before now after kind size answer is after_is 
         λ rest sizes. whole (frame_of kind rest) (record { kind_is = refl; len_is = sizes }),
       );
     } in
-    subst (λ (p : Passage). HasCome stream Passing new p) (sym after_is) here
+    subst (λ (p : Passage). HasCome limit stream Passing new p) (sym after_is) here
 
 -- a login reads a byte of a body at least, and eight at most
 part_size : (means : Meaning) (n : ℕ) → part_of means ≡ Some n → (0 < n) × (n ≤ 8)
@@ -125,21 +132,23 @@ part_size (meaning.Body Status) n is =
     let e = some_some 1 n is in (omega (arith, e), omega (arith, e))
 
 -- the head of a message of whose body some is read
-pub head_read : (stream : List ℕ) (place : LoginPlace) (old new : Login)
+pub head_read : (limit : ℕ) (stream : List ℕ) (place : LoginPlace) (old new : Login)
     (before now after : Passage) (kind size wanted : ℕ) (answer : Result LoginHead LinkError)
     → answer ≡ Ok (ReadBody wanted) → after ≡ emptied now
     → ((frames : List Frame) → HasRead old frames → ReadsOn answer new frames kind size)
     → ((frames : List Frame) → HasRead old frames → (n : ℕ)
     → (answer ≡ Ok (ReadBody n)) ↔ (GoOn frames × (body_part kind size ≡ Some n)))
-    → HasCome stream place old before → Hands before (Some (piece.Head kind size)) now
-    → HasCome stream (Reading wanted) new after
-head_read stream place old new before now after kind size wanted answer is after_is reads wants come
+    → HasCome limit stream place old before → Hands before (Some (piece.Head kind size)) now
+    → HasCome limit stream (Reading wanted) new after
+head_read limit stream place old new before now after kind size wanted answer is after_is reads
+    wants come
     hands =
-    let begun = head_begins stream place old before now kind size come hands in
+    let begun = head_begins limit stream place old before now kind size come hands in
     let head = subst (λ (a : Result LoginHead LinkError). ReadsOn a new begun.frames kind size) is
     (reads begun.frames begun.read) in
     let part_is = ((wants begun.frames begun.read wanted).0 is).1 in
-    let here : HasCome stream (Reading wanted) new (emptied now) = record {
+    let here : HasCome limit stream (Reading wanted) new (emptied now) = record {
+      limit_is = begun.limit_is;
       frames = begun.frames;
       each = begun.each;
       shown = head_text kind size;
@@ -155,13 +164,14 @@ head_read stream place old new before now after kind size wanted answer is after
         part_is,
       );
     } in
-    subst (λ (p : Passage). HasCome stream (Reading wanted) new p) (sym after_is) here
+    subst (λ (p : Passage). HasCome limit stream (Reading wanted) new p) (sym after_is) here
 
 -- a part more of a body
-open_more : (kind size : ℕ) (body shown : List ℕ) (left left' : Option ℕ) (part : List ℕ)
-    (more : ℕ) → IsOpen kind size body shown left → left ≡ Some (length part + more)
-    → left' ≡ Some more → IsOpen kind size (body ++ part) (shown ++ part) left'
-open_more kind size body shown left left' part more is was now =
+open_more : (limit : ℕ) (kind size : ℕ) (body shown : List ℕ) (left left' : Option ℕ)
+    (part : List ℕ)
+    (more : ℕ) → IsOpen limit kind size body shown left → left ≡ Some (length part + more)
+    → left' ≡ Some more → IsOpen limit kind size (body ++ part) (shown ++ part) left'
+open_more limit kind size body shown left left' part more is was now =
     let count = some_some is.more (length part + more) (sym is.left_is ∙ was) in
     record {
       head = is.head;
@@ -186,102 +196,112 @@ stream_more stream shown part bytes bytes' frames is bytes_are =
     ∙ ap (λ xs. texts frames ++ xs) (sym (append_assoc shown part bytes'))
 
 -- the reader is inside a message, of which this is known, and keeps nothing
-abbrev IsOver : List ℕ → Option ℕ → List ℕ → (Frame → Type 0) → Type 0
-IsOver shown left kept P = (kind : ℕ) × (size : ℕ) × (body : List ℕ)
-    × IsOpen kind size body shown left × (kept ≡ []) × OfEach kind size body P
+abbrev IsOver : ℕ → List ℕ → Option ℕ → List ℕ → (Frame → Type 0) → Type 0
+IsOver limit shown left kept P = (kind : ℕ) × (size : ℕ) × (body : List ℕ)
+    × IsOpen limit kind size body shown left × (kept ≡ []) × OfEach kind size body P
 
-over_more : (shown : List ℕ) (left left' : Option ℕ) (kept part : List ℕ) (more : ℕ)
-    (P : Frame → Type 0) → IsOver shown left kept P → left ≡ Some (length part + more)
-    → left' ≡ Some more → IsOver (shown ++ part) left' [] P
-over_more shown left left' kept part more P is was now = (
+over_more : (limit : ℕ) (shown : List ℕ) (left left' : Option ℕ) (kept part : List ℕ) (more : ℕ)
+    (P : Frame → Type 0) → IsOver limit shown left kept P → left ≡ Some (length part + more)
+    → left' ≡ Some more → IsOver limit (shown ++ part) left' [] P
+over_more limit shown left left' kept part more P is was now = (
   is.0,
   is.1,
   is.2 ++ part,
-  open_more is.0 is.1 is.2 shown left left' part more is.3 was now,
+  open_more limit is.0 is.1 is.2 shown left left' part more is.3 was now,
   refl,
   of_each_more is.0 is.1 is.2 part P is.5,
 )
 
 -- a part of a body of which nothing is read
-part_here : (stream : List ℕ) (place : LoginPlace) (login : Login) (before now : Passage)
-    → ((wanted : ℕ) → place ≡ Reading wanted → ⊥) → HasCome stream place login before
-    → Handed before Part now → HasCome stream place login (emptied now)
-part_here stream Between login before now not come hands =
+part_here : (limit : ℕ) (stream : List ℕ) (place : LoginPlace) (login : Login)
+    (before now : Passage)
+    → ((wanted : ℕ) → place ≡ Reading wanted → ⊥) → HasCome limit stream place login before
+    → Handed before Part now → HasCome limit stream place login (emptied now)
+part_here limit stream Between login before now not come hands =
     absurd (none_some (length hands.0.now + hands.1.0) (sym come.is_at.2 ∙ hands.1.2))
-part_here stream Passing login before now not come hands =
+part_here limit stream Passing login before now not come hands =
     let part = hands.0.now in
     record {
+      limit_is = hands.1.6 ∙ come.limit_is;
       frames = come.frames;
       each = come.each;
       shown = come.shown ++ part;
-      stream_is = stream_more stream come.shown part before.bytes now.bytes come.frames come.stream_is
+      stream_is = stream_more stream come.shown part before.bytes now.bytes come.frames
+          come.stream_is
           hands.1.3;
-      is_at = over_more come.shown before.left now.left before.passed part hands.1.0
+      is_at = over_more limit come.shown before.left now.left before.passed part hands.1.0
           (λ frame. HasRead login (come.frames ++ frame ∷ [])) come.is_at hands.1.2 hands.1.4;
     }
-part_here stream (Reading wanted) login before now not come hands = absurd (not wanted refl)
-part_here stream (Up key) login before now not come hands =
+part_here limit stream (Reading wanted) login before now not come hands = absurd (not wanted refl)
+part_here limit stream (Up key) login before now not come hands =
     let part = hands.0.now in
     record {
+      limit_is = hands.1.6 ∙ come.limit_is;
       frames = come.frames;
       each = come.each;
       shown = come.shown ++ part;
-      stream_is = stream_more stream come.shown part before.bytes now.bytes come.frames come.stream_is
+      stream_is = stream_more stream come.shown part before.bytes now.bytes come.frames
+          come.stream_is
           hands.1.3;
-      is_at = over_more come.shown before.left now.left before.passed part hands.1.0
+      is_at = over_more limit come.shown before.left now.left before.passed part hands.1.0
           (λ frame. IsUpAt come.frames frame key) come.is_at hands.1.2 hands.1.4;
     }
 
-pub part_passed : (stream : List ℕ) (place : LoginPlace) (login : Login)
+pub part_passed : (limit : ℕ) (stream : List ℕ) (place : LoginPlace) (login : Login)
     (before now after : Passage) → ((wanted : ℕ) → place ≡ Reading wanted → ⊥)
-    → after ≡ emptied now → HasCome stream place login before → Handed before Part now
-    → HasCome stream place login after
-part_passed stream place login before now after not after_is come hands =
-    subst (λ (p : Passage). HasCome stream place login p) (sym after_is)
-    (part_here stream place login before now not come hands)
+    → after ≡ emptied now → HasCome limit stream place login before → Handed before Part now
+    → HasCome limit stream place login after
+part_passed limit stream place login before now after not after_is come hands =
+    subst (λ (p : Passage). HasCome limit stream place login p) (sym after_is)
+    (part_here limit stream place login before now not come hands)
 
 -- a part more of a body that is read: all that was handed out of it is kept
-record IsKept (stream : List ℕ) (login : Login) (wanted : ℕ) (now : Passage) : Type 0 where
+record IsKept (limit : ℕ) (stream : List ℕ) (login : Login) (wanted : ℕ) (now : Passage)
+    : Type 0 where
+  pub limit_is : now.limit ≡ limit
   pub frames : List Frame
-  pub each : AllByRecursion IsFrame frames
+  pub each : AllByRecursion (IsFrame limit) frames
   pub shown : List ℕ
   pub stream_is : stream ≡ texts frames ++ (shown ++ now.bytes)
   pub kind : ℕ
   pub size : ℕ
-  pub opened : IsOpen kind size now.passed shown now.left
+  pub opened : IsOpen limit kind size now.passed shown now.left
   pub begun : HasReadHead login frames kind size
   pub part_is : body_part kind size ≡ Some wanted
 
-part_kept : (stream : List ℕ) (login : Login) (wanted : ℕ) (before now : Passage)
-    → HasCome stream (Reading wanted) login before → Handed before Part now
-    → IsKept stream login wanted now
-part_kept stream login wanted before now come hands =
+part_kept : (limit : ℕ) (stream : List ℕ) (login : Login) (wanted : ℕ) (before now : Passage)
+    → HasCome limit stream (Reading wanted) login before → Handed before Part now
+    → IsKept limit stream login wanted now
+part_kept limit stream login wanted before now come hands =
     let part = hands.0.now in
     let at = come.is_at in
     let passed_is : at.2 ++ part ≡ now.passed =
     ap (λ xs. xs ++ part) (sym at.4) ∙ sym hands.1.5 in
     record {
+      limit_is = hands.1.6 ∙ come.limit_is;
       frames = come.frames;
       each = come.each;
       shown = come.shown ++ part;
-      stream_is = stream_more stream come.shown part before.bytes now.bytes come.frames come.stream_is
+      stream_is = stream_more stream come.shown part before.bytes now.bytes come.frames
+          come.stream_is
           hands.1.3;
       kind = at.0;
       size = at.1;
-      opened = subst (λ xs. IsOpen at.0 at.1 xs (come.shown ++ part) now.left) passed_is
-          (open_more at.0 at.1 at.2 come.shown before.left now.left part hands.1.0 at.3
+      opened = subst (λ xs. IsOpen limit at.0 at.1 xs (come.shown ++ part) now.left) passed_is
+          (open_more limit at.0 at.1 at.2 come.shown before.left now.left part hands.1.0 at.3
           hands.1.2 hands.1.4);
       begun = at.6;
       part_is = at.7;
     }
 
 -- more of it is to come
-pub part_short : (stream : List ℕ) (login : Login) (wanted : ℕ) (before now : Passage)
-    → length now.passed < wanted → HasCome stream (Reading wanted) login before
-    → Handed before Part now → HasCome stream (Reading wanted) login now
-part_short stream login wanted before now short come hands =
-    let is = part_kept stream login wanted before now come hands in
+pub part_short : (limit : ℕ) (stream : List ℕ) (login : Login) (wanted : ℕ) (before now : Passage)
+    → length now.passed < wanted → HasCome limit stream (Reading wanted) login before
+    → Handed before Part now → HasCome limit stream (Reading wanted) login now
+part_short limit stream login wanted before now short come hands =
+    let is = part_kept limit stream login wanted before now come hands in
     record {
+      limit_is = is.limit_is;
       frames = is.frames;
       each = is.each;
       shown = is.shown;
@@ -306,11 +326,13 @@ reaches login frames kind size wanted passed rest begun part_is whole is =
     }
 
 -- all that is read of it is there
-body_taken : (stream : List ℕ) (old new : Login) (wanted : ℕ) (now : Passage) (taken : Taken)
-    → wanted ≤ length now.passed → IsKept stream old wanted now
-    → TakesBody old (take wanted now.passed) taken new → Takes stream taken new (emptied now)
-body_taken stream old new wanted now (More Between) whole is takes = absurd takes
-body_taken stream old new wanted now (More Passing) whole is takes = record {
+body_taken : (limit : ℕ) (stream : List ℕ) (old new : Login) (wanted : ℕ) (now : Passage)
+    (taken : Taken)
+    → wanted ≤ length now.passed → IsKept limit stream old wanted now
+    → TakesBody old (take wanted now.passed) taken new → Takes limit stream taken new (emptied now)
+body_taken limit stream old new wanted now (More Between) whole is takes = absurd takes
+body_taken limit stream old new wanted now (More Passing) whole is takes = record {
+  limit_is = is.limit_is;
   frames = is.frames;
   each = is.each;
   shown = is.shown;
@@ -326,8 +348,9 @@ body_taken stream old new wanted now (More Passing) whole is takes = record {
         sizes),
   );
 }
-body_taken stream old new wanted now (More (Reading next)) whole is takes = absurd takes
-body_taken stream old new wanted now (More (Up key)) whole is takes = record {
+body_taken limit stream old new wanted now (More (Reading next)) whole is takes = absurd takes
+body_taken limit stream old new wanted now (More (Up key)) whole is takes = record {
+  limit_is = is.limit_is;
   frames = is.frames;
   each = is.each;
   shown = is.shown;
@@ -343,26 +366,28 @@ body_taken stream old new wanted now (More (Up key)) whole is takes = record {
         sizes),
   );
 }
-body_taken stream old new wanted now (Done key) whole is takes = absurd takes
-body_taken stream old new wanted now Failed whole is takes = tt
+body_taken limit stream old new wanted now (Done key) whole is takes = absurd takes
+body_taken limit stream old new wanted now Failed whole is takes = tt
 
-pub part_whole : (stream : List ℕ) (old new : Login) (wanted : ℕ) (before now after : Passage)
+pub part_whole : (limit : ℕ) (stream : List ℕ) (old new : Login) (wanted : ℕ)
+    (before now after : Passage)
     (bytes : List ℕ) (taken : Taken) → wanted ≤ length now.passed → after ≡ emptied now
     → bytes ≡ take wanted now.passed → TakesBody old bytes taken new
-    → HasCome stream (Reading wanted) old before → Handed before Part now
-    → Takes stream taken new after
-part_whole stream old new wanted before now after bytes taken whole after_is bytes_are takes come
+    → HasCome limit stream (Reading wanted) old before → Handed before Part now
+    → Takes limit stream taken new after
+part_whole limit stream old new wanted before now after bytes taken whole after_is bytes_are takes
+    come
     hands =
-    subst (λ (p : Passage). Takes stream taken new p) (sym after_is)
-    (body_taken stream old new wanted now taken whole
-    (part_kept stream old wanted before now come hands)
+    subst (λ (p : Passage). Takes limit stream taken new p) (sym after_is)
+    (body_taken limit stream old new wanted now taken whole
+    (part_kept limit stream old wanted before now come hands)
     (subst (λ xs. TakesBody old xs taken new) bytes_are takes))
 
 -- a message whose tail comes is whole
-over_whole : (shown : List ℕ) (left : Option ℕ) (kept : List ℕ) (P : Frame → Type 0)
-    → IsOver shown left kept P → left ≡ Some 0
-    → (frame : Frame) × IsFrame frame × (shown ≡ text frame) × P frame
-over_whole shown left kept P is was =
+over_whole : (limit : ℕ) (shown : List ℕ) (left : Option ℕ) (kept : List ℕ) (P : Frame → Type 0)
+    → IsOver limit shown left kept P → left ≡ Some 0
+    → (frame : Frame) × IsFrame limit frame × (shown ≡ text frame) × P frame
+over_whole limit shown left kept P is was =
     let kind = is.0 in
     let body = is.2 in
     let opened = is.3 in
@@ -372,6 +397,7 @@ over_whole shown left kept P is was =
       record {
         type_byte = opened.head.type_byte;
         size = omega (arith, sizes, opened.head.high);
+        fits = omega (arith, sizes, opened.head.fits);
       },
       opened.shown_is ∙ ap (λ n. head_text kind n ++ body) sizes ∙ sym (text_is kind body),
       subst (λ xs. P (frame_of kind xs)) (append-nil body)
@@ -388,31 +414,33 @@ stream_whole stream shown bytes bytes' frames frame is shown_is bytes_are =
     ∙ ap (λ xs. texts (frames ++ frame ∷ []) ++ xs) (sym bytes_are)
 
 -- the tail of a message
-tail_here : (stream : List ℕ) (place : LoginPlace) (login : Login) (before now : Passage)
-    → HasCome stream place login before → Hands before (Some piece.Tail) now
-    → Takes stream (after_tail place) login now
-tail_here stream Between login before now come hands = tt
-tail_here stream Passing login before now come hands =
-    let whole = over_whole come.shown before.left before.passed
+tail_here : (limit : ℕ) (stream : List ℕ) (place : LoginPlace) (login : Login)
+    (before now : Passage)
+    → HasCome limit stream place login before → Hands before (Some piece.Tail) now
+    → Takes limit stream (after_tail place) login now
+tail_here limit stream Between login before now come hands = tt
+tail_here limit stream Passing login before now come hands =
+    let whole = over_whole limit come.shown before.left before.passed
     (λ frame. HasRead login (come.frames ++ frame ∷ [])) come.is_at hands.0 in
     let frame = whole.0 in
     record {
+      limit_is = hands.4 ∙ come.limit_is;
       frames = come.frames ++ frame ∷ [];
-      each = each-append IsFrame come.frames (frame ∷ []) come.each (whole.1, tt);
+      each = each-append (IsFrame limit) come.frames (frame ∷ []) come.each (whole.1, tt);
       shown = [];
       stream_is = stream_whole stream come.shown before.bytes now.bytes come.frames frame
           come.stream_is whole.2 hands.2;
       is_at = (whole.3, refl, hands.1, hands.3 ∙ come.is_at.4);
     }
-tail_here stream (Reading wanted) login before now come hands = tt
-tail_here stream (Up key) login before now come hands =
-    let whole = over_whole come.shown before.left before.passed
+tail_here limit stream (Reading wanted) login before now come hands = tt
+tail_here limit stream (Up key) login before now come hands =
+    let whole = over_whole limit come.shown before.left before.passed
     (λ frame. IsUpAt come.frames frame key) come.is_at hands.0 in
     let frame = whole.0 in
     record {
       frames = come.frames;
       ready = frame;
-      each = each-append IsFrame come.frames (frame ∷ []) come.each (whole.1, tt);
+      each = each-append (IsFrame limit) come.frames (frame ∷ []) come.each (whole.1, tt);
       stream_is = stream_whole stream come.shown before.bytes now.bytes come.frames frame
           come.stream_is whole.2 hands.2;
       up = whole.3;
@@ -420,42 +448,46 @@ tail_here stream (Up key) login before now come hands =
       passed_is = hands.3 ∙ come.is_at.4;
     }
 
-pub tail_taken : (stream : List ℕ) (place : LoginPlace) (login : Login) (before now : Passage)
-    (taken : Taken) → taken ≡ after_tail place → HasCome stream place login before
-    → Hands before (Some piece.Tail) now → Takes stream taken login now
-tail_taken stream place login before now taken is come hands =
-    subst (λ (t : Taken). Takes stream t login now) (sym is)
-    (tail_here stream place login before now come hands)
+pub tail_taken : (limit : ℕ) (stream : List ℕ) (place : LoginPlace) (login : Login)
+    (before now : Passage)
+    (taken : Taken) → taken ≡ after_tail place → HasCome limit stream place login before
+    → Hands before (Some piece.Tail) now → Takes limit stream taken login now
+tail_taken limit stream place login before now taken is come hands =
+    subst (λ (t : Taken). Takes limit stream t login now) (sym is)
+    (tail_here limit stream place login before now come hands)
 
 -- few bytes are kept
-kept_few : (place : LoginPlace) (login : Login) (frames : List Frame) (shown : List ℕ)
-    (left : Option ℕ) (kept : List ℕ) → IsAt place login frames shown left kept → length kept ≤ 8
-kept_few Between login frames shown left kept is = omega (arith, ap length is.3)
-kept_few Passing login frames shown left kept is = omega (arith, ap length is.4)
-kept_few (Reading wanted) login frames shown left kept is =
+kept_few : (limit : ℕ) (place : LoginPlace) (login : Login) (frames : List Frame) (shown : List ℕ)
+    (left : Option ℕ) (kept : List ℕ) → IsAt limit place login frames shown left kept
+    → length kept ≤ 8
+kept_few limit Between login frames shown left kept is = omega (arith, ap length is.3)
+kept_few limit Passing login frames shown left kept is = omega (arith, ap length is.4)
+kept_few limit (Reading wanted) login frames shown left kept is =
     let most = (part_size (head_of is.0 is.1) wanted is.7).1 in
     omega (arith, ap length is.4, is.5, most)
-kept_few (Up key) login frames shown left kept is = omega (arith, ap length is.4)
+kept_few limit (Up key) login frames shown left kept is = omega (arith, ap length is.4)
 
-pub come_few : (stream : List ℕ) (place : LoginPlace) (login : Login) (passage : Passage)
-    → HasCome stream place login passage → length passage.passed ≤ 8
-come_few stream place login passage come =
-    kept_few place login come.frames come.shown passage.left passage.passed come.is_at
+pub come_few : (limit : ℕ) (stream : List ℕ) (place : LoginPlace) (login : Login)
+    (passage : Passage)
+    → HasCome limit stream place login passage → length passage.passed ≤ 8
+come_few limit stream place login passage come =
+    kept_few limit place login come.frames come.shown passage.left passage.passed come.is_at
 
 -- so far these calls read the server's messages up to this place
-pub record Coming {T : Type 0} (wrote gave : Effect T) (old : T) (place : LoginPlace)
+pub record Coming {T : Type 0} (limit : ℕ) (wrote gave : Effect T) (old : T) (place : LoginPlace)
     (login : Login) (passage : Passage) (new : T) : Type 0 where
   pub calls : List Call
   pub made : Makes wrote gave old calls new
   pub stream : List ℕ
   pub read : Read stream calls
-  pub come : HasCome stream place login passage
+  pub come : HasCome limit stream place login passage
 
-pub coming_start : {T : Type 0} (wrote gave : Effect T) (old : T) (login : Login)
-    (passage : Passage) → HasRead login [] → passage ≡ start
-    → Coming wrote gave old Between login passage old
-coming_start wrote gave old login passage none is =
-    let here : HasCome [] Between login start = record {
+pub coming_start : {T : Type 0} (limit : ℕ) (wrote gave : Effect T) (old : T) (login : Login)
+    (passage : Passage) → HasRead login [] → passage ≡ start limit
+    → Coming limit wrote gave old Between login passage old
+coming_start limit wrote gave old login passage none is =
+    let here : HasCome limit [] Between login (start limit) = record {
+      limit_is = refl;
       frames = [];
       each = tt;
       shown = [];
@@ -467,14 +499,16 @@ coming_start wrote gave old login passage none is =
       made = refl;
       stream = [];
       read = Read-nothing;
-      come = subst (λ (p : Passage). HasCome [] Between login p) (sym is) here;
+      come = subst (λ (p : Passage). HasCome limit [] Between login p) (sym is) here;
     }
 
 -- more was read
-fed_more : (stream bytes : List ℕ) (place : LoginPlace) (login : Login) (passage : Passage)
-    → HasCome stream place login passage
-    → HasCome (stream ++ bytes) place login (fed passage bytes)
-fed_more stream bytes place login passage come = record {
+fed_more : (limit : ℕ) (stream bytes : List ℕ) (place : LoginPlace) (login : Login)
+    (passage : Passage)
+    → HasCome limit stream place login passage
+    → HasCome limit (stream ++ bytes) place login (fed passage bytes)
+fed_more limit stream bytes place login passage come = record {
+  limit_is = come.limit_is;
   frames = come.frames;
   each = come.each;
   shown = come.shown;
@@ -484,31 +518,32 @@ fed_more stream bytes place login passage come = record {
   is_at = come.is_at;
 }
 
-pub coming_more : {T : Type 0} (wrote gave : Effect T) (old new new' : T)
+pub coming_more : {T : Type 0} (limit : ℕ) (wrote gave : Effect T) (old new new' : T)
     (place place' : LoginPlace) (login login' : Login) (passage taken passage' : Passage)
-    (so_far : Coming wrote gave old place login passage new)
-    → HasCome so_far.stream place' login' taken
+    (so_far : Coming limit wrote gave old place login passage new)
+    → HasCome limit so_far.stream place' login' taken
     → SomeCalls wrote gave new new'
     (λ calls. (bytes : List ℕ) × Read bytes calls × (passage' ≡ fed taken bytes))
-    → Coming wrote gave old place' login' passage' new'
-coming_more wrote gave old new new' place place' login login' passage taken passage' so_far come more =
+    → Coming limit wrote gave old place' login' passage' new'
+coming_more limit wrote gave old new new' place place' login login' passage taken passage' so_far
+    come more =
     let bytes = more.2.0 in
     record {
       calls = so_far.calls ++ more.0;
       made = Makes-append wrote gave old new new' so_far.calls more.0 so_far.made more.1;
       stream = so_far.stream ++ bytes;
       read = Read-append so_far.stream bytes so_far.calls more.0 so_far.read more.2.1;
-      come = subst (λ (p : Passage). HasCome (so_far.stream ++ bytes) place' login' p)
-          (sym more.2.2) (fed_more so_far.stream bytes place' login' taken come);
+      come = subst (λ (p : Passage). HasCome limit (so_far.stream ++ bytes) place' login' p)
+          (sym more.2.2) (fed_more limit so_far.stream bytes place' login' taken come);
     }
 
 -- the link is up, and nothing more was read
-coming_done : {T : Type 0} (wrote gave : Effect T) (old new : T) (place : LoginPlace)
+coming_done : {T : Type 0} (limit : ℕ) (wrote gave : Effect T) (old new : T) (place : LoginPlace)
     (login : Login) (passage taken : Passage) (key : List ℕ)
-    (so_far : Coming wrote gave old place login passage new)
-    → IsDone so_far.stream key taken → taken ≡ start
-    → SomeCalls wrote gave old new (ReadsLogin key)
-coming_done wrote gave old new place login passage taken key so_far done is =
+    (so_far : Coming limit wrote gave old place login passage new)
+    → IsDone limit so_far.stream key taken → taken ≡ start taken.limit
+    → SomeCalls wrote gave old new (ReadsLogin limit key)
+coming_done limit wrote gave old new place login passage taken key so_far done is =
     let whole : so_far.stream ≡ texts (done.frames ++ done.ready ∷ []) =
     done.stream_is ∙ ap (λ xs. texts (done.frames ++ done.ready ∷ []) ++ xs) (ap (λ p. p.bytes) is)
     ∙ append-nil (texts (done.frames ++ done.ready ∷ [])) in (
@@ -523,23 +558,25 @@ coming_done wrote gave old new place login passage taken key so_far done is =
       },
     )
 
-pub key_found : {T : Type 0} (wrote gave : Effect T) (old new : T) (place : LoginPlace)
+pub key_found : {T : Type 0} (limit : ℕ) (wrote gave : Effect T) (old new : T) (place : LoginPlace)
     (login : Login) (passage taken : Passage) (key : List ℕ) (result : Option (List ℕ))
-    (so_far : Coming wrote gave old place login passage new)
-    → IsDone so_far.stream key taken
-    → IfSome result (λ found. (found ≡ key) × (taken ≡ start))
-    → IfSome result (λ found. SomeCalls wrote gave old new (ReadsLogin found))
-key_found wrote gave old new place login passage taken key None so_far done is = tt
-key_found wrote gave old new place login passage taken key (Some found) so_far done is =
-    subst (λ (k : List ℕ). SomeCalls wrote gave old new (ReadsLogin k)) (sym is.0)
-    (coming_done wrote gave old new place login passage taken key so_far done is.1)
+    (so_far : Coming limit wrote gave old place login passage new)
+    → IsDone limit so_far.stream key taken
+    → IfSome result (λ found. (found ≡ key) × (taken ≡ start taken.limit))
+    → IfSome result (λ found. SomeCalls wrote gave old new (ReadsLogin limit found))
+key_found limit wrote gave old new place login passage taken key None so_far done is = tt
+key_found limit wrote gave old new place login passage taken key (Some found) so_far done is =
+    subst (λ (k : List ℕ). SomeCalls wrote gave old new (ReadsLogin limit k)) (sym is.0)
+    (coming_done limit wrote gave old new place login passage taken key so_far done is.1)
 
 -- the StartupMessage was written whole before
-pub logged_in : {T : Type 0} (wrote gave : Effect T) (old new new' : T) (request : List ℕ)
-    (user database key : List ℕ) → request ≡ startup_request user database
-    → SomeCalls wrote gave old new (Wrote request) → SomeCalls wrote gave new new' (ReadsLogin key)
-    → SomeCalls wrote gave old new' (LogsIn user database key)
-logged_in wrote gave old new new' request user database key is sent answered = (
+pub logged_in : {T : Type 0} (limit at : ℕ) (wrote gave : Effect T) (old new new' : T)
+    (request : List ℕ)
+    (user database key : List ℕ) → at ≡ limit → request ≡ startup_request user database
+    → SomeCalls wrote gave old new (Wrote request)
+    → SomeCalls wrote gave new new' (ReadsLogin at key)
+    → SomeCalls wrote gave old new' (LogsIn limit user database key)
+logged_in limit at wrote gave old new new' request user database key limit_is is sent answered = (
   sent.0 ++ answered.0,
   Makes-append wrote gave old new new' sent.0 answered.0 sent.1 answered.1,
   record {
@@ -547,6 +584,6 @@ logged_in wrote gave old new new' request user database key is sent answered = (
     reads = answered.0;
     all = refl;
     sent = subst (λ xs. Wrote xs sent.0) is sent.2;
-    answered = answered.2;
+    answered = subst (λ (n : ℕ). ReadsLogin n key answered.0) limit_is answered.2;
   },
 )

@@ -24,7 +24,7 @@ use Rattle.startup.specs.declared.first.First.TheVariants as first
 use Rattle.client_state.specs.Acts.{fatal}
 use Rattle.node_threads.specs.declared.login.first_packets.Opened.{Opened}
 use Rattle.node_threads.specs.declared.login.first_packets.Opened.TheVariants.{Session, Cancel, Over}
-use Rattle.node_threads.specs.StreamCalls.{given, IsDone, IsWrite, IsFailedWrite, IsRead, Wrote, WroteSome, Read, SomeCalls}
+use Rattle.node_threads.specs.StreamCalls.{given, IsDone, IsWrite, IsRead, Wrote, WroteSome, Read, SomeCalls}
 use Rattle.node_threads.specs.Opening.{Negotiation, Ssl, Gss, packet_of, Asks, Negotiated, WritesError, IsRefusedFor, EndsBy, Ends, Opens, Begins, IsSession}
 use Rattle.peer_forward.proofs.CallLemmas.{Makes-append, taken-append, each-append, taken_is}
 use Rattle.node_threads.proofs.CallLists.{given-append}
@@ -34,7 +34,13 @@ pub took_nothing : (byte : ℕ) (calls : List Call) → WroteSome (byte ∷ []) 
     → taken calls ≡ []
 took_nothing byte calls some =
     let none : length (taken some.writes) ≡ 0 =
-    omega (arith, ap length some.beginning, length-append (taken some.writes) some.left, some.some_left) in
+    omega (
+      arith,
+      ap length some.beginning,
+      length-append
+          (taken some.writes) some.left,
+      some.some_left,
+    ) in
     taken_is calls some.writes some.last some.all some.failed
     ∙ nil_from_length (taken some.writes) none
 
@@ -127,25 +133,25 @@ read_some_more wrote gave a b buffer count old new some call is = (
 )
 
 -- no frame begins no bytes, and no fault stands there
-no_frame : BeginsNoFrame []
+no_frame : (limit : ℕ) → BeginsNoFrame limit []
 unfolding text
-no_frame frame more is e = cc
+no_frame limit frame more is e = cc
 
-no_fault : HasFault [] None
+no_fault : (limit : ℕ) → HasFault limit [] None
 unfolding fault_at
-no_fault = record {
+no_fault limit = record {
   frames = [];
   rest = [];
-  cuts = record { whole = refl; each = tt; longest = no_frame };
+  cuts = record { whole = refl; each = tt; longest = no_frame limit };
   stands = refl;
 }
 
 -- the bytes were taken for the session
-pub begun : {T : Type 0} (wrote gave : Effect T) (a : T) (kept rest behind : List ℕ)
-    → kept ≡ [] → (HasFault kept None → behind ≡ kept ++ rest)
+pub begun : {T : Type 0} (limit : ℕ) (wrote gave : Effect T) (a : T) (kept rest behind : List ℕ)
+    → kept ≡ [] → (HasFault limit kept None → behind ≡ kept ++ rest)
     → SomeCalls wrote gave a a (λ calls. (calls ≡ []) × (behind ≡ rest))
-begun wrote gave a kept rest behind empty fed =
-    let none = subst (λ (xs : List ℕ). HasFault xs None) (sym empty) no_fault in
+begun limit wrote gave a kept rest behind empty fed =
+    let none = subst (λ (xs : List ℕ). HasFault limit xs None) (sym empty) (no_fault limit) in
     ([], refl, (refl, fed none ∙ ap (λ xs. xs ++ rest) empty))
 
 -- writes wrote, reads read
@@ -211,7 +217,8 @@ negotiated_asked calls more seen seen' rest rest' one is asks rest_is wrote =
           ∙ append-nil (given calls) ∙ is.read
           ∙ ap (λ xs. flat_map packet_of is.asked ++ xs) rest_is
           ∙ sym (append_assoc (flat_map packet_of is.asked) (packet_of one) rest')
-          ∙ ap (λ xs. (flat_map packet_of is.asked ++ xs) ++ rest') (sym (append-nil (packet_of one)))
+          ∙ ap (λ xs. (flat_map packet_of is.asked ++ xs) ++ rest') (sym (append-nil (packet_of
+          one)))
           ∙ ap (λ xs. xs ++ rest') (sym (flat_map-append packet_of is.asked (one ∷ [])));
       written = taken-append calls more ∙ ap (λ xs. xs ++ taken more) is.written
           ∙ ap (λ xs. replicate (length is.asked) 78 ++ xs) wrote.whole
@@ -309,7 +316,8 @@ pub underway_asked : {T : Type 0} (wrote gave : Effect T) (old new new' : T)
     → Answers seen text false (Ok found) → seen' ≡ seen_after seen (Ok found)
     → rest ≡ drop 8 text → SomeCalls wrote gave new new' (Wrote (78 ∷ []))
     → Underway wrote gave old seen' rest new'
-underway_asked wrote gave old new new' seen seen' text rest found so_far which answer after is more =
+underway_asked wrote gave old new new' seen seen' text rest found so_far which answer after is more
+    =
     let here = asks_here seen seen' text found which answer after in
     record {
       calls = so_far.calls ++ more.0;
@@ -343,7 +351,8 @@ opens_cancel wrote gave old new seen text behind key so_far answer = (
     text,
     [],
     decided (subst (λ (o : Outcome). IsOutcome seen text false o) answer.told answer.is),
-    subst (λ (r : List ℕ). Negotiated so_far.calls seen r) (sym (append-nil text)) so_far.negotiated,
+    subst (λ (r : List ℕ). Negotiated so_far.calls seen r)
+        (sym (append-nil text)) so_far.negotiated,
   ),
 )
   where
@@ -404,7 +413,8 @@ pub opens_session : {T : Type 0} (wrote gave : Effect T) (old new new' : T) (see
     → SomeCalls wrote gave new new' (λ calls. Begins rest result calls behind)
     → IsSession result (string_bytes database) kind
     → SomeCalls wrote gave old new' (λ calls. Opens calls result behind)
-opens_session wrote gave old new new' seen text rest behind kind user database used (Session name of_kind) so_far answer is more same =
+opens_session wrote gave old new new' seen text rest behind kind user database used (Session name
+    of_kind) so_far answer is more same =
     let here = starts_here seen text kind (string_bytes user) (string_bytes database) used
     (subst (λ (o : Outcome). IsOutcome seen text false o) answer.told answer.is) in (
       so_far.calls ++ more.0,
@@ -420,11 +430,14 @@ opens_session wrote gave old new new' seen text rest behind kind user database u
         subst (λ (calls : List Call). Negotiated calls seen (here.packet ++ behind))
             (sym (ap (λ xs. so_far.calls ++ xs) more.2.0 ∙ append-nil so_far.calls))
             (subst (λ (r : List ℕ). Negotiated so_far.calls seen r)
-            (here.text_is ∙ ap (λ xs. here.packet ++ xs) (sym is ∙ sym more.2.1)) so_far.negotiated),
+            (here.text_is ∙ ap (λ xs. here.packet ++ xs) (sym is
+            ∙ sym more.2.1)) so_far.negotiated),
       ),
     )
-opens_session wrote gave old new new' seen text rest behind kind user database used (Cancel key) so_far answer is more same =
+opens_session wrote gave old new new' seen text rest behind kind user database used (Cancel key)
+    so_far answer is more same =
     absurd same
-opens_session wrote gave old new new' seen text rest behind kind user database used Over so_far answer is more same =
+opens_session wrote gave old new new' seen text rest behind kind user database used Over so_far
+    answer is more same =
     opens_over wrote gave old new new' seen text behind so_far
     (more.0, more.1, (Some Memory, (inl refl, more.2)))

@@ -37,17 +37,20 @@ writes_after (Cut kind size body) a b xs ys first more = Wrote-append a b xs ys 
 writes_after (Untold begun after) a b xs ys first more = WroteSome-append a b xs ys first more
 
 -- a reply whose front was read and written before
-pub finishes_after : (before bytes text : List ℕ) (end : ReplyEnd) (xs ys reads tells : List Call)
-    → CanEnd end → Unfinished before xs → Read bytes xs → Wrote text ys
-    → Finishes (before ++ bytes) text end reads tells
-    → Finishes before [] end (xs ++ reads) (ys ++ tells)
-finishes_after before bytes text end xs ys reads tells can unfinished read told more = record {
+pub finishes_after : (limit : ℕ) (before bytes text : List ℕ) (end : ReplyEnd)
+    (xs ys reads tells : List Call)
+    → CanEnd limit end → Unfinished limit before xs → Read bytes xs → Wrote text ys
+    → Finishes limit (before ++ bytes) text end reads tells
+    → Finishes limit before [] end (xs ++ reads) (ys ++ tells)
+finishes_after limit before bytes text end xs ys reads tells can unfinished read told more = record {
   frames = more.frames;
   each = more.each;
+  head = more.head;
   bytes = bytes ++ more.bytes;
   bytes_are = sym (append_assoc before bytes more.bytes) ∙ more.bytes_are;
   read = reads_after end bytes more.bytes xs reads read more.read;
-  stops = stops_after more.frames end before bytes more.bytes xs reads more.each can read unfinished
+  stops = stops_after limit more.frames end before bytes more.bytes xs reads more.each can read
+      unfinished
       more.bytes_are more.stops;
   text = text ++ more.text;
   text_is = more.text_is;
@@ -55,7 +58,8 @@ finishes_after before bytes text end xs ys reads tells can unfinished read told 
 }
 
 -- so far the reply was read by some calls, and written by others
-pub record Passing {L C : Type 0} (wrote gave : Effect L) (wrote' gave' : Effect C) (link : L)
+pub record Passing {L C : Type 0} (limit : ℕ) (wrote gave : Effect L) (wrote' gave' : Effect C)
+    (link : L)
     (client : C) (before : List ℕ) (place : Place) (passage : Passage) (link' : L) (client' : C)
     : Type 0 where
   pub reads : List Call
@@ -64,26 +68,29 @@ pub record Passing {L C : Type 0} (wrote gave : Effect L) (wrote' gave' : Effect
   pub made' : Makes wrote' gave' client tells client'
   pub bytes : List ℕ
   pub read : Read bytes reads
-  pub unfinished : Unfinished before reads
+  pub unfinished : Unfinished limit before reads
   pub text : List ℕ
   pub told : Wrote text tells
-  pub out : HandedOut (before ++ bytes) text place passage
+  pub out : HandedOut limit (before ++ bytes) text place passage
 
-pub passing_start : {L C : Type 0} (wrote gave : Effect L) (wrote' gave' : Effect C) (link : L)
-    (client : C) (passage : Passage) → passage.left ≡ None → passage.passed ≡ []
-    → Passing wrote gave wrote' gave' link client passage.bytes Between passage link client
-passing_start wrote gave wrote' gave' link client passage left passed = record {
+pub passing_start : {L C : Type 0} (limit : ℕ) (wrote gave : Effect L) (wrote' gave' : Effect C)
+    (link : L)
+    (client : C) (passage : Passage) → passage.limit ≡ limit → passage.left ≡ None
+    → passage.passed ≡ []
+    → Passing limit wrote gave wrote' gave' link client passage.bytes Between passage link client
+passing_start limit wrote gave wrote' gave' link client passage is left passed = record {
   reads = [];
   made = refl;
   tells = [];
   made' = refl;
   bytes = [];
   read = Read-nothing;
-  unfinished = unfinished_none passage.bytes;
+  unfinished = unfinished_none limit passage.bytes;
   text = [];
   told = Wrote-nothing;
   out = record {
     frames = [];
+    limit_is = is;
     each = tt;
     shown = [];
     is_shown = (left, refl);
@@ -95,55 +102,59 @@ passing_start wrote gave wrote' gave' link client passage left passed = record {
 }
 
 -- more was handed out, passed on and read
-pub passing_more : {L C : Type 0} (wrote gave : Effect L) (wrote' gave' : Effect C)
+pub passing_more : {L C : Type 0} (limit : ℕ) (wrote gave : Effect L) (wrote' gave' : Effect C)
     (link link' link'' : L) (client client' client'' : C) (before : List ℕ) (place place' : Place)
     (passage handed passage' : Passage)
-    (so_far : Passing wrote gave wrote' gave' link client before place passage link' client')
-    → HandedOut (before ++ so_far.bytes) so_far.text place' handed
-    → HasNoNext handed.left handed.bytes
+    (so_far : Passing limit wrote gave wrote' gave' link client before place passage link' client')
+    → HandedOut limit (before ++ so_far.bytes) so_far.text place' handed
+    → HasNoNext handed.limit handed.left handed.bytes
     → ((call : Call) × Makes wrote gave link' (call ∷ []) link''
     × SomeCalls wrote' gave' client' client''
     (λ tells. (bytes : List ℕ) × Read bytes (call ∷ []) × (text : List ℕ) × Wrote text tells
-    × ((stream written : List ℕ) → HandedOut stream written place' handed
-    → HandedOut (stream ++ bytes) (written ++ text) place' passage')))
-    → Passing wrote gave wrote' gave' link client before place' passage' link'' client''
-passing_more wrote gave wrote' gave' link link' link'' client client' client'' before place place'
+    × ((limit : ℕ) (stream written : List ℕ) → HandedOut limit stream written place' handed
+    → HandedOut limit (stream ++ bytes) (written ++ text) place' passage')))
+    → Passing limit wrote gave wrote' gave' link client before place' passage' link'' client''
+passing_more limit wrote gave wrote' gave' link link' link'' client client' client'' before place
+    place'
     passage handed passage' so_far out dry more =
     let told = more.2 in
-    let here = told.2.4 (before ++ so_far.bytes) so_far.text out in
+    let here = told.2.4 limit (before ++ so_far.bytes) so_far.text out in
     record {
       reads = so_far.reads ++ more.0 ∷ [];
-      made = Makes-append wrote gave link link' link'' so_far.reads (more.0 ∷ []) so_far.made more.1;
+      made = Makes-append wrote gave link link' link'' so_far.reads (more.0 ∷ []) so_far.made
+          more.1;
       tells = so_far.tells ++ told.0;
       made' = Makes-append wrote' gave' client client' client'' so_far.tells told.0 so_far.made'
           told.1;
       bytes = so_far.bytes ++ told.2.0;
       read = Read-append so_far.bytes told.2.0 so_far.reads (more.0 ∷ []) so_far.read told.2.1;
-      unfinished = unfinished_more before so_far.bytes so_far.reads more.0 so_far.read (record {
-        written = so_far.text;
-        place = place';
-        passage = handed;
-        out = out;
-        dry = dry;
-      });
+      unfinished = unfinished_more limit before so_far.bytes so_far.reads more.0 so_far.read
+          (record {
+            written = so_far.text;
+            place = place';
+            passage = handed;
+            out = out;
+            dry = subst (λ (n : ℕ). HasNoNext n handed.left handed.bytes) out.limit_is dry;
+          });
       text = so_far.text ++ told.2.2;
       told = Wrote-append so_far.text told.2.2 so_far.tells told.0 so_far.told told.2.3;
       out = subst
-          (λ xs. HandedOut xs (so_far.text ++ told.2.2) place' passage')
+          (λ xs. HandedOut limit xs (so_far.text ++ told.2.2) place' passage')
           (append_assoc before so_far.bytes told.2.0) here;
     }
 
 -- the stay ended
-pub passing_ends : {L C : Type 0} (wrote gave : Effect L) (wrote' gave' : Effect C)
+pub passing_ends : {L C : Type 0} (limit : ℕ) (wrote gave : Effect L) (wrote' gave' : Effect C)
     (link link' link'' : L) (client client' client'' : C) (before : List ℕ) (place : Place)
     (passage : Passage) (stayed : Stayed)
-    (so_far : Passing wrote gave wrote' gave' link client before place passage link' client')
+    (so_far : Passing limit wrote gave wrote' gave' link client before place passage link' client')
     (reads tells : List Call) → Makes wrote gave link' reads link''
     → Makes wrote' gave' client' tells client''
-    → EndsHere (before ++ so_far.bytes) so_far.text reads tells stayed
+    → EndsHere limit (before ++ so_far.bytes) so_far.text reads tells stayed
     → SomeCalls wrote gave link link'' (λ reads. SomeCalls wrote' gave' client client''
-    (λ tells. EndsHere before [] reads tells stayed))
-passing_ends wrote gave wrote' gave' link link' link'' client client' client'' before place passage
+    (λ tells. EndsHere limit before [] reads tells stayed))
+passing_ends limit wrote gave wrote' gave' link link' link'' client client' client'' before place
+    passage
     stayed so_far reads tells made made' ends = (
       so_far.reads ++ reads,
       Makes-append wrote gave link link' link'' so_far.reads reads so_far.made made,
@@ -152,24 +163,26 @@ passing_ends wrote gave wrote' gave' link link' link'' client client' client'' b
         Makes-append wrote' gave' client client' client'' so_far.tells tells so_far.made' made',
         (
           ends.0,
-          finishes_after before so_far.bytes so_far.text ends.0 so_far.reads so_far.tells reads tells
-              (can_end ends.0 stayed ends.2) so_far.unfinished so_far.read so_far.told ends.1,
+          finishes_after limit before so_far.bytes so_far.text ends.0 so_far.reads so_far.tells
+              reads tells
+              (can_end limit ends.0 stayed ends.1.head ends.2) so_far.unfinished so_far.read
+              so_far.told ends.1,
           ends.2,
         ),
       ),
     )
 
 -- the reply is whole
-pub passing_goes_on : {L C : Type 0} (wrote gave : Effect L) (wrote' gave' : Effect C)
+pub passing_goes_on : {L C : Type 0} (limit : ℕ) (wrote gave : Effect L) (wrote' gave' : Effect C)
     (link link' link'' : L) (client client' client'' : C) (before : List ℕ) (place : Place)
     (passage : Passage)
-    (so_far : Passing wrote gave wrote' gave' link client before place passage link' client')
+    (so_far : Passing limit wrote gave wrote' gave' link client before place passage link' client')
     (reads tells : List Call) → Makes wrote gave link' reads link''
     → Makes wrote' gave' client' tells client''
-    → GoesOn (before ++ so_far.bytes) so_far.text reads tells
+    → GoesOn limit (before ++ so_far.bytes) so_far.text reads tells
     → SomeCalls wrote gave link link'' (λ reads. SomeCalls wrote' gave' client client''
-    (λ tells. GoesOn before [] reads tells))
-passing_goes_on wrote gave wrote' gave' link link' link'' client client' client'' before place
+    (λ tells. GoesOn limit before [] reads tells))
+passing_goes_on limit wrote gave wrote' gave' link link' link'' client client' client'' before place
     passage so_far reads tells made made' goes = (
       so_far.reads ++ reads,
       Makes-append wrote gave link link' link'' so_far.reads reads so_far.made made,
@@ -178,34 +191,39 @@ passing_goes_on wrote gave wrote' gave' link link' link'' client client' client'
         Makes-append wrote' gave' client client' client'' so_far.tells tells so_far.made' made',
         (
           goes.0,
-          finishes_after before so_far.bytes so_far.text (Ready goes.0 []) so_far.reads so_far.tells
-              reads tells tt so_far.unfinished so_far.read so_far.told goes.1,
+          finishes_after limit before so_far.bytes so_far.text (Ready goes.0 []) so_far.reads
+              so_far.tells
+              reads tells goes.1.head so_far.unfinished so_far.read so_far.told goes.1,
           goes.2,
         ),
       ),
     )
 
 -- five bytes at least were handed out with the head of a frame that isn't passed on
-pub unfit_enough : (stream written reply : List ℕ) (passage : Passage)
-    → HandedUnfit stream written reply passage → 5 ≤ length passage.passed
-unfit_enough stream written reply passage unfit =
+pub unfit_enough : (limit : ℕ) (stream written reply : List ℕ) (passage : Passage)
+    → HandedUnfit limit stream written reply passage → 5 ≤ length passage.passed
+unfit_enough limit stream written reply passage unfit =
     enough passage.passed unfit.front (head_text unfit.kind unfit.size) unfit.passed_is
 
 -- the stay ended at a ReadyForQuery, if it did
-pub passing_finished : {L C : Type 0} (wrote gave : Effect L) (wrote' gave' : Effect C)
+pub passing_finished : {L C : Type 0} (limit : ℕ) (wrote gave : Effect L) (wrote' gave' : Effect C)
     (link link' : L) (client client' client'' : C) (before : List ℕ) (place : Place)
     (passage handed : Passage) (status : ℕ) (found : Option Stayed)
-    (so_far : Passing wrote gave wrote' gave' link client before place passage link' client')
-    → HandedLast (before ++ so_far.bytes) so_far.text (ready_text status) handed
+    (so_far : Passing limit wrote gave wrote' gave' link client before place passage link' client')
+    → HandedLast limit (before ++ so_far.bytes) so_far.text (ready_text status) handed
     → IfSome found (λ stayed. SomeCalls wrote' gave' client' client''
-    (λ tells. (stream written : List ℕ) → HandedLast stream written (ready_text status) handed
-    → EndsHere stream written [] tells stayed))
+    (λ tells. (limit : ℕ) (stream written : List ℕ)
+    → HandedLast limit stream written (ready_text status) handed
+    → EndsHere limit stream written [] tells stayed))
     → IfSome found (λ stayed. SomeCalls wrote gave link link'
     (λ reads. SomeCalls wrote' gave' client client''
-    (λ tells. EndsHere before [] reads tells stayed)))
-passing_finished wrote gave wrote' gave' link link' client client' client'' before place passage
+    (λ tells. EndsHere limit before [] reads tells stayed)))
+passing_finished limit wrote gave wrote' gave' link link' client client' client'' before place
+    passage
     handed status None so_far last ends = tt
-passing_finished wrote gave wrote' gave' link link' client client' client'' before place passage
+passing_finished limit wrote gave wrote' gave' link link' client client' client'' before place
+    passage
     handed status (Some stayed) so_far last ends =
-    passing_ends wrote gave wrote' gave' link link' link' client client' client'' before place
-    passage stayed so_far [] ends.0 refl ends.1 (ends.2 (before ++ so_far.bytes) so_far.text last)
+    passing_ends limit wrote gave wrote' gave' link link' link' client client' client'' before place
+    passage stayed so_far [] ends.0 refl ends.1 (ends.2 limit (before ++ so_far.bytes) so_far.text
+    last)

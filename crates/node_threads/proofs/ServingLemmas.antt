@@ -1,9 +1,7 @@
 -- A client's session, request after request.
-use Rattle.std.proofs.Common.{◌≡◌, ◌⊎◌, inl, inr, Bool, true, false, ℕ, ◌<◌, List, [], ◌∷◌, ◌++◌, length, Option, Some, None, Result, Ok, Err, refl, sym, ap, ◌∙◌, subst, arith, append_assoc, append-nil, length-append}
-use Rattle.pg_ids.specs.declared.any_key.AnyKey.{AnyKey}
+use Rattle.std.proofs.Common.{◌≡◌, ◌⊎◌, inl, inr, Bool, true, false, ℕ, List, [], ◌∷◌, ◌++◌, Option, Some, None, Result, Ok, Err, refl, sym, ap, ◌∙◌, subst, arith, append_assoc, append-nil, length-append}
 use Rattle.pg_ids.specs.declared.any_key.Kind.{Kind}
 use Rattle.lease.specs.LinkValue.{LinkValue}
-use Rattle.lease.specs.declared.link_record.LinkRecord.{LinkRecord}
 use Rattle.lease.specs.declared.pass.PassRecord.{PassRecord}
 use Rattle.link_pool.specs.declared.replies.AcquireReply.TheVariants as acquire
 use Rattle.link_pool.specs.declared.replies.CloseReply.{CloseReply}
@@ -20,21 +18,20 @@ use Rattle.startup.specs.declared.error_code.Severity.TheVariants.{Error}
 use Rattle.pg_frames.specs.Passage.{Passage, start}
 use Rattle.client_state.specs.Acts.{start as begun, fatal, error_text, ready_text}
 use Rattle.client_state.specs.Session.{Session}
-use Rattle.node_threads.specs.declared.desk.call.DeskCall.TheVariants as call
 use Rattle.node_threads.specs.declared.session.link.Link.{Link}
 use Rattle.node_threads.specs.declared.session.outcome.Stayed.{Stayed}
-use Rattle.node_threads.specs.declared.session.outcome.Stayed.TheVariants.{Release, Close, End}
+use Rattle.node_threads.specs.declared.session.outcome.Stayed.TheVariants.{Release, Close}
 use Rattle.node_threads.specs.declared.session.leases.Acquired.{Acquired}
 use Rattle.node_threads.specs.declared.session.leases.Acquired.TheVariants as acquired
 use Rattle.node_threads.specs.StreamCalls.{SomeCalls, Wrote, WroteSome, Sends}
-use Rattle.node_threads.specs.Asking.{IsError, SendsError, Leaves}
+use Rattle.node_threads.specs.Asking.{IsError, SendsError}
 use Rattle.node_threads.specs.Finding.{AsksNext}
 use Rattle.node_threads.specs.Stay.{Stay}
 use Rattle.node_threads.specs.Turn.{handed_in}
 use Rattle.node_threads.specs.Desks.{Tells}
-use Rattle.node_threads.specs.Balance.{Moves, nothing, a_pass, a_lease}
+use Rattle.node_threads.specs.Balance.{Moves, nothing, a_pass}
 use Rattle.node_threads.specs.Leasing.{hand_of, OfLease, WasAnswered, IsDenied, IsAnswer}
-use Rattle.node_threads.specs.Serving.{Greets, TellsCancelled, Fate, Carried, Spoilt, Cancelled, Refused, Dropped, end_of, EndsByError, EndsWith, Gets, Carries, Comes, IsRequest, IsLeft, Serves, Requests, GreetedSession, Stays, Joins, ServesClient, ComesOf}
+use Rattle.node_threads.specs.Serving.{Greets, TellsCancelled, Fate, Carried, Spoilt, Cancelled, Refused, Dropped, end_of, EndsWith, Gets, Comes, IsRequest, Serves, Requests, Stays, Joins, ServesClient, ComesOf}
 use Rattle.peer_forward.proofs.CallLemmas.{Makes-append, Wrote-append, WroteSome-append}
 use Rattle.node_threads.proofs.Told.{said-counted}
 
@@ -77,7 +74,8 @@ wrote_one wrote gave a b c xs ys first more = (
 )
 
 -- the beginning of a text
-some_of_more : (xs ys : List ℕ) (calls : List Call) → WroteSome xs calls → WroteSome (xs ++ ys) calls
+some_of_more : (xs ys : List ℕ) (calls : List Call) → WroteSome xs calls → WroteSome
+    (xs ++ ys) calls
 some_of_more xs ys calls some = record {
   writes = some.writes;
   last = some.last;
@@ -98,7 +96,8 @@ told_cancelled wrote gave a b c error ready is then first more =
     let calls = wrote_both wrote gave a b c error ready first more in (
       calls.0,
       calls.1,
-      subst (λ xs. Wrote xs calls.0) (ap (λ xs. xs ++ ready) is ∙ ap (λ xs. error_text Error QueryCanceled ++ xs) then) calls.2,
+      subst (λ xs. Wrote xs calls.0) (ap (λ xs. xs ++ ready) is ∙ ap
+          (λ xs. error_text Error QueryCanceled ++ xs) then) calls.2,
     )
 
 pub told_cancelled_some : {T : Type 0} (wrote gave : Effect T) (a b c : T)
@@ -111,7 +110,9 @@ told_cancelled_some wrote gave a b c error ready reply is then none first more =
       calls.0,
       calls.1,
       (
-        inr (subst (λ xs. WroteSome xs calls.0) (ap (λ xs. xs ++ ready) is ∙ ap (λ xs. error_text Error QueryCanceled ++ xs) then) calls.2),
+        inr (subst (λ xs. WroteSome xs calls.0)
+            (ap (λ xs. xs ++ ready) is ∙ ap
+            (λ xs. error_text Error QueryCanceled ++ xs) then) calls.2),
         none,
       ),
     )
@@ -138,14 +139,16 @@ none_of stayed is = elim is [
 ]
 
 -- a link that isn't as it was left is closed
-pub spoilt : {T C : Type 0} (wrote gave : Effect T) (wrote' gave' : Effect C) (client : C)
+pub spoilt : {T C : Type 0} (limit : ℕ) (wrote gave : Effect T) (wrote' gave' : Effect C)
+    (client : C)
     (lease : LinkValue (Link T)) (request reply kept : List ℕ) (said : CloseReply (Link T))
     (old new : CallerView)
-    → Counted (step.Close lease.details (close_said said)) said (close.Exhausted lease.stream) old new
+    → Counted (step.Close lease.details (close_said said)) said (close.Exhausted lease.stream) old
+    new
     → IsError ConnectionFailure reply
-    → SomeCalls wrote' gave' client client (λ calls. ComesOf wrote gave (acquired.Lease lease)
+    → SomeCalls wrote' gave' client client (λ calls. ComesOf limit wrote gave (acquired.Lease lease)
     request (Some reply) kept calls kept old new)
-spoilt wrote gave wrote' gave' client lease request reply kept said old new counted error = (
+spoilt limit wrote gave wrote' gave' client lease request reply kept said old new counted error = (
   [],
   refl,
   inr (
@@ -157,30 +160,34 @@ spoilt wrote gave wrote' gave' client lease request reply kept said old new coun
 )
 
 -- a stay on a link that is as at its start
-pub stay_at_start : {T C : Type 0} (wrote gave : Effect T) (wrote' gave' : Effect C)
+pub stay_at_start : {T C : Type 0} (limit : ℕ) (wrote gave : Effect T) (wrote' gave' : Effect C)
     (stream after : T) (client client' : C) (flow : Passage) (request kept left : List ℕ)
-    (stayed : Stayed) → flow ≡ start
+    (stayed : Stayed) → flow ≡ start limit
     → SomeCalls wrote gave stream after (λ on_link. SomeCalls wrote' gave' client client'
-    (λ on_client. Stay request flow.bytes kept on_link on_client stayed left))
+    (λ on_client. Stay limit request flow.bytes kept on_link on_client stayed left))
     → SomeCalls wrote gave stream after (λ on_link. SomeCalls wrote' gave' client client'
-    (λ on_client. Stay request [] kept on_link on_client stayed left))
-stay_at_start wrote gave wrote' gave' stream after client client' flow request kept left stayed is
+    (λ on_client. Stay limit request [] kept on_link on_client stayed left))
+stay_at_start limit wrote gave wrote' gave' stream after client client' flow request kept left
+    stayed is
     stays =
     subst (λ (f : Passage). SomeCalls wrote gave stream after
     (λ on_link. SomeCalls wrote' gave' client client'
-    (λ on_client. Stay request f.bytes kept on_link on_client stayed left))) is stays
+    (λ on_client. Stay limit request f.bytes kept on_link on_client stayed left))) is stays
 
 -- a stay on a link, after which the session goes on or ends
-pub rides : {T C : Type 0} (wrote gave : Effect T) (wrote' gave' : Effect C) (client client' : C)
+pub rides : {T C : Type 0} (limit : ℕ) (wrote gave : Effect T) (wrote' gave' : Effect C)
+    (client client' : C)
     (lease : LinkValue (Link T)) (stream : T) (request kept left : List ℕ) (stayed : Stayed)
     (end : Option (List ℕ)) (old new : CallerView)
     → ((after : T) × SomeCalls wrote gave stream after (λ on_link.
     SomeCalls wrote' gave' client client' (λ on_client.
-    Stay request [] kept on_link on_client stayed left)))
+    Stay limit request [] kept on_link on_client stayed left)))
     → Tells (handed_in stayed lease.details) old new → end ≡ end_of stayed
-    → SomeCalls wrote' gave' client client' (λ calls. ComesOf wrote gave (acquired.Lease lease)
+    → SomeCalls wrote' gave' client client' (λ calls. ComesOf limit wrote gave (acquired.Lease
+    lease)
     request end kept calls left old new)
-rides wrote gave wrote' gave' client client' lease stream request kept left stayed end old new stays
+rides limit wrote gave wrote' gave' client client' lease stream request kept left stayed end old
+    new stays
     told is =
     let on_link = stays.1 in
     let on_client = on_link.2 in (
@@ -198,30 +205,34 @@ rides wrote gave wrote' gave' client client' lease stream request kept left stay
       ),
     )
 
-pub rides_on : {T C : Type 0} (wrote gave : Effect T) (wrote' gave' : Effect C)
+pub rides_on : {T C : Type 0} (limit : ℕ) (wrote gave : Effect T) (wrote' gave' : Effect C)
     (client client' : C) (lease : LinkValue (Link T)) (stream : T) (request kept left : List ℕ)
     (stayed : Stayed) (old new : CallerView)
     → ((after : T) × SomeCalls wrote gave stream after (λ on_link.
     SomeCalls wrote' gave' client client' (λ on_client.
-    Stay request [] kept on_link on_client stayed left)))
+    Stay limit request [] kept on_link on_client stayed left)))
     → Tells (handed_in stayed lease.details) old new → (stayed ≡ Release) ⊎ (stayed ≡ Close)
-    → SomeCalls wrote' gave' client client' (λ calls. ComesOf wrote gave (acquired.Lease lease)
+    → SomeCalls wrote' gave' client client' (λ calls. ComesOf limit wrote gave (acquired.Lease
+    lease)
     request None kept calls left old new)
-rides_on wrote gave wrote' gave' client client' lease stream request kept left stayed old new stays
+rides_on limit wrote gave wrote' gave' client client' lease stream request kept left stayed old new
+    stays
     told is =
-    rides wrote gave wrote' gave' client client' lease stream request kept left stayed None old new
+    rides limit wrote gave wrote' gave' client client' lease stream request kept left stayed None
+    old new
     stays told (none_of stayed is)
 
 -- what came of a request, by what came of asking for a link
-comes_of : {T : Type 0} (wrote gave : Effect T) (pass : PassRecord) (database : ℕ)
+comes_of : {T : Type 0} (limit : ℕ) (wrote gave : Effect T) (pass : PassRecord) (database : ℕ)
     (given : Acquired (LinkValue (Link T))) (request : List ℕ) (end : Option (List ℕ))
     (kept : List ℕ) (calls : List Call) (left : List ℕ) (old between new : CallerView)
     → IsAnswer pass given between → OfLease (λ lease. lease.details.at.database ≡ database) given
     → Moves nothing old (hand_of given) between
-    → ComesOf wrote gave given request end kept calls left between new
-    → (fate : Fate) × Comes wrote gave pass database request fate end kept calls left old new
+    → ComesOf limit wrote gave given request end kept calls left between new
+    → (fate : Fate) × Comes limit wrote gave pass database request fate end kept calls left old new
     × EndsWith fate end
-comes_of wrote gave pass database (acquired.Lease lease) request end kept calls left old between new
+comes_of limit wrote gave pass database (acquired.Lease lease) request end kept calls left old
+    between new
     answer is moves comes =
     let gets : Gets pass database lease.details old between =
     record { given = answer; place = is; moves = moves } in
@@ -237,7 +248,8 @@ comes_of wrote gave pass database (acquired.Lease lease) request end kept calls 
         closed.1,
       )
     ]
-comes_of wrote gave pass database acquired.Cancelled request end kept calls left old between new
+comes_of limit wrote gave pass database acquired.Cancelled request end kept calls left old between
+    new
     answer is moves comes = (
       Cancelled,
       (
@@ -251,7 +263,8 @@ comes_of wrote gave pass database acquired.Cancelled request end kept calls left
           → (end ≡ None) ⊎ (end ≡ Some [])
       ended None calls told = inl refl
       ended (Some reply) calls told = inr (ap Some told.1)
-comes_of wrote gave pass database (acquired.Refused code) request end kept calls left old between new
+comes_of limit wrote gave pass database (acquired.Refused code) request end kept calls left old
+    between new
     answer is moves comes = (
       Refused code,
       (
@@ -261,35 +274,39 @@ comes_of wrote gave pass database (acquired.Refused code) request end kept calls
       ),
       comes.0,
     )
-comes_of wrote gave pass database acquired.Ended request end kept calls left old between new answer
+comes_of limit wrote gave pass database acquired.Ended request end kept calls left old between new
+    answer
     is moves comes = (Dropped, (comes.1, comes.2), comes.0)
 
 -- a request is one of a session
-served_by : {T : Type 0} (wrote gave : Effect T) (pass : PassRecord) (database : ℕ)
+served_by : {T : Type 0} (limit : ℕ) (wrote gave : Effect T) (pass : PassRecord) (database : ℕ)
     (end : Option (List ℕ)) (kept : List ℕ) (calls : List Call) (left : List ℕ)
-    (old new : CallerView) → IsRequest wrote gave pass database end kept calls left old new
-    → Serves wrote gave pass database end kept calls left old new
-served_by wrote gave pass database None kept calls left old new is = is
-served_by wrote gave pass database (Some reply) kept calls left old new is = inl is
+    (old new : CallerView) → IsRequest limit wrote gave pass database end kept calls left old new
+    → Serves limit wrote gave pass database end kept calls left old new
+served_by limit wrote gave pass database None kept calls left old new is = is
+served_by limit wrote gave pass database (Some reply) kept calls left old new is = inl is
 
 -- the next request was read, a link asked for, and it was served
-pub request_served : {T C : Type 0} (wrote gave : Effect T) (wrote' gave' : Effect C) (a b c : C)
+pub request_served : {T C : Type 0} (limit : ℕ) (wrote gave : Effect T) (wrote' gave' : Effect C)
+    (a b c : C)
     (pass : PassRecord) (database : ℕ) (given : Acquired (LinkValue (Link T))) (request : List ℕ)
     (end : Option (List ℕ)) (kept behind left : List ℕ) (old between new : CallerView)
-    → SomeCalls wrote' gave' a b (λ calls. AsksNext kept calls (Ok request) behind)
+    → SomeCalls wrote' gave' a b (λ calls. AsksNext limit kept calls (Ok request) behind)
     → IsAnswer pass given between → OfLease (λ lease. lease.details.at.database ≡ database) given
     → Moves nothing old (hand_of given) between
     → SomeCalls wrote' gave' b c
-    (λ calls. ComesOf wrote gave given request end behind calls left between new)
+    (λ calls. ComesOf limit wrote gave given request end behind calls left between new)
     → SomeCalls wrote' gave' a c
-    (λ calls. Serves wrote gave pass database end kept calls left old new)
-request_served wrote gave wrote' gave' a b c pass database given request end kept behind left old
+    (λ calls. Serves limit wrote gave pass database end kept calls left old new)
+request_served limit wrote gave wrote' gave' a b c pass database given request end kept behind left
+    old
     between new asks answer is moves comes =
-    let came = comes_of wrote gave pass database given request end behind comes.0 left old between
+    let came = comes_of limit wrote gave pass database given request end behind comes.0 left old
+    between
     new answer is moves comes.2 in (
       asks.0 ++ comes.0,
       Makes-append wrote' gave' a b c asks.0 comes.0 asks.1 comes.1,
-      served_by wrote gave pass database end kept (asks.0 ++ comes.0) left old new (record {
+      served_by limit wrote gave pass database end kept (asks.0 ++ comes.0) left old new (record {
         asks = asks.0;
         rest = comes.0;
         calls_are = refl;
@@ -302,62 +319,75 @@ request_served wrote gave wrote' gave' a b c pass database given request end kep
       }),
     )
 
-pub request_served_at : {T C : Type 0} (wrote gave : Effect T) (wrote' gave' : Effect C)
+pub request_served_at : {T C : Type 0} (limit limit' : ℕ) (wrote gave : Effect T)
+    (wrote' gave' : Effect C)
     (a b c : C) (pass : PassRecord) (at database : ℕ) (given : Acquired (LinkValue (Link T)))
     (request : List ℕ) (end : Option (List ℕ)) (kept behind left : List ℕ)
-    (old between new : CallerView) → at ≡ database
-    → SomeCalls wrote' gave' a b (λ calls. AsksNext kept calls (Ok request) behind)
+    (old between new : CallerView) → at ≡ database → limit' ≡ limit
+    → SomeCalls wrote' gave' a b (λ calls. AsksNext limit kept calls (Ok request) behind)
     → IsAnswer pass given between → OfLease (λ lease. lease.details.at.database ≡ at) given
     → Moves nothing old (hand_of given) between
     → SomeCalls wrote' gave' b c
-    (λ calls. ComesOf wrote gave given request end behind calls left between new)
+    (λ calls. ComesOf limit' wrote gave given request end behind calls left between new)
     → SomeCalls wrote' gave' a c
-    (λ calls. Serves wrote gave pass database end kept calls left old new)
-request_served_at wrote gave wrote' gave' a b c pass at database given request end kept behind left old
-    between new same asks answer is moves comes =
+    (λ calls. Serves limit wrote gave pass database end kept calls left old new)
+request_served_at limit limit' wrote gave wrote' gave' a b c pass at database given request end
+    kept behind left old
+    between new same limit_is asks answer is moves comes =
     subst (λ d. SomeCalls wrote' gave' a c
-    (λ calls. Serves wrote gave pass d end kept calls left old new)) same
-    (request_served wrote gave wrote' gave' a b c pass at given request end kept behind left old between
-    new asks answer is moves comes)
+    (λ calls. Serves limit wrote gave pass d end kept calls left old new)) same
+    (request_served limit wrote gave wrote' gave' a b c pass at given request end kept behind left
+    old between
+    new asks answer is moves
+    (subst (λ (n : ℕ). SomeCalls wrote' gave' b c
+    (λ calls. ComesOf n wrote gave given request end behind calls left between new)) limit_is
+    comes))
 
 -- the client leaves
-pub request_left : {T C : Type 0} (wrote gave : Effect T) (wrote' gave' : Effect C) (a b : C)
+pub request_left : {T C : Type 0} (limit : ℕ) (wrote gave : Effect T) (wrote' gave' : Effect C)
+    (a b : C)
     (pass : PassRecord) (database : ℕ) (reply kept left : List ℕ) (old : CallerView)
-    → SomeCalls wrote' gave' a b (λ calls. AsksNext kept calls (Err reply) left)
+    → SomeCalls wrote' gave' a b (λ calls. AsksNext limit kept calls (Err reply) left)
     → SomeCalls wrote' gave' a b
-    (λ calls. Serves wrote gave pass database (Some reply) kept calls left old old)
-request_left wrote gave wrote' gave' a b pass database reply kept left old asks =
+    (λ calls. Serves limit wrote gave pass database (Some reply) kept calls left old old)
+request_left limit wrote gave wrote' gave' a b pass database reply kept left old asks =
     (asks.0, asks.1, inr (asks.2.0, asks.2.1, refl))
 
 -- one request more
-requests_more : {T : Type 0} (wrote gave : Effect T) (pass : PassRecord) (database : ℕ)
+requests_more : {T : Type 0} (limit : ℕ) (wrote gave : Effect T) (pass : PassRecord) (database : ℕ)
     (each : List (List Call)) (kept : List ℕ) (calls : List Call) (behind : List ℕ)
     (first : List Call) (left : List ℕ) (old between new : CallerView)
-    → Requests wrote gave pass database each kept calls behind old between
-    → Serves wrote gave pass database None behind first left between new
-    → Requests wrote gave pass database (each ++ first ∷ []) kept (calls ++ first) left old new
-requests_more wrote gave pass database [] kept calls behind first left old between new so_far one = (
-  [],
-  ap (λ xs. xs ++ first) so_far.0 ∙ sym (append-nil first),
-  left,
-  new,
-  subst (λ v. Serves wrote gave pass database None kept first left v new) so_far.2
-      (subst (λ xs. Serves wrote gave pass database None xs first left between new) so_far.1 one),
-  (refl, refl, refl),
-)
-requests_more wrote gave pass database (head ∷ others) kept calls behind first left old between new
+    → Requests limit wrote gave pass database each kept calls behind old between
+    → Serves limit wrote gave pass database None behind first left between new
+    → Requests limit wrote gave pass database (each ++ first ∷ []) kept (calls ++ first) left old
+    new
+requests_more limit wrote gave pass database [] kept calls behind first left old between new so_far
+    one = (
+      [],
+      ap (λ xs. xs ++ first) so_far.0 ∙ sym (append-nil first),
+      left,
+      new,
+      subst (λ v. Serves limit wrote gave pass database None kept first left v new) so_far.2
+          (subst
+          (λ xs. Serves limit wrote gave pass database None xs first left between new) so_far.1
+          one),
+      (refl, refl, refl),
+    )
+requests_more limit wrote gave pass database (head ∷ others) kept calls behind first left old
+    between new
     so_far one = (
       so_far.0 ++ first,
       ap (λ xs. xs ++ first) so_far.1 ∙ append_assoc head so_far.0 first,
       so_far.2,
       so_far.3,
       so_far.4,
-      requests_more wrote gave pass database others so_far.2 so_far.0 behind first left so_far.3
+      requests_more limit wrote gave pass database others so_far.2 so_far.0 behind first left
+          so_far.3
           between new so_far.5 one,
     )
 
 -- A session of a client that took its greeting, so far.
-pub record Serving {T C : Type 0} (wrote gave : Effect T) (wrote' gave' : Effect C)
+pub record Serving {T C : Type 0} (limit : ℕ) (wrote gave : Effect T) (wrote' gave' : Effect C)
     (reports : List Report) (pass : PassRecord) (database : ℕ) (kept : List ℕ) (client client' : C)
     (left : List ℕ) (old new : CallerView) : Type 0 where
   pub greeting : List Call
@@ -365,57 +395,65 @@ pub record Serving {T C : Type 0} (wrote gave : Effect T) (wrote' gave' : Effect
   pub made : Makes wrote' gave' client (greeting ++ served) client'
   pub greets : Greets reports pass.key None greeting
   pub each : List (List Call)
-  pub requests : Requests wrote gave pass database each kept served left old new
+  pub requests : Requests limit wrote gave pass database each kept served left old new
 
-pub serving_start : {T C : Type 0} (wrote gave : Effect T) (wrote' gave' : Effect C)
+pub serving_start : {T C : Type 0} (limit : ℕ) (wrote gave : Effect T) (wrote' gave' : Effect C)
     (reports : List Report) (pass : PassRecord) (database : ℕ) (kept : List ℕ) (client client' : C)
     (old : CallerView)
     → SomeCalls wrote' gave' client client' (Greets reports pass.key None)
-    → Serving wrote gave wrote' gave' reports pass database kept client client' kept old old
-serving_start wrote gave wrote' gave' reports pass database kept client client' old greets = record {
-  greeting = greets.0;
-  served = [];
-  made = subst (λ xs. Makes wrote' gave' client xs client') (sym (append-nil greets.0)) greets.1;
-  greets = greets.2;
-  each = [];
-  requests = (refl, refl, refl);
-}
+    → Serving limit wrote gave wrote' gave' reports pass database kept client client' kept old old
+serving_start limit wrote gave wrote' gave' reports pass database kept client client' old greets =
+    record {
+      greeting = greets.0;
+      served = [];
+      made = subst (λ xs. Makes wrote' gave' client xs client') (sym (append-nil greets.0)) greets.1;
+      greets = greets.2;
+      each = [];
+      requests = (refl, refl, refl);
+    }
 
-pub serving_more : {T C : Type 0} (wrote gave : Effect T) (wrote' gave' : Effect C)
+pub serving_more : {T C : Type 0} (limit : ℕ) (wrote gave : Effect T) (wrote' gave' : Effect C)
     (reports : List Report) (pass : PassRecord) (database : ℕ) (kept : List ℕ)
     (client client' client'' : C) (behind left : List ℕ) (old between new : CallerView)
-    → Serving wrote gave wrote' gave' reports pass database kept client client' behind old between
+    → Serving limit wrote gave wrote' gave' reports pass database kept client client' behind old
+    between
     → SomeCalls wrote' gave' client' client''
-    (λ calls. Serves wrote gave pass database None behind calls left between new)
-    → Serving wrote gave wrote' gave' reports pass database kept client client'' left old new
-serving_more wrote gave wrote' gave' reports pass database kept client client' client'' behind left
+    (λ calls. Serves limit wrote gave pass database None behind calls left between new)
+    → Serving limit wrote gave wrote' gave' reports pass database kept client client'' left old new
+serving_more limit wrote gave wrote' gave' reports pass database kept client client' client''
+    behind left
     old between new so_far one = record {
       greeting = so_far.greeting;
       served = so_far.served ++ one.0;
       made = subst (λ xs. Makes wrote' gave' client xs client'')
           (append_assoc so_far.greeting so_far.served one.0)
-          (Makes-append wrote' gave' client client' client'' (so_far.greeting ++ so_far.served) one.0
+          (Makes-append wrote' gave' client client' client'' (so_far.greeting ++ so_far.served)
+          one.0
           so_far.made one.1);
       greets = so_far.greets;
       each = so_far.each ++ one.0 ∷ [];
-      requests = requests_more wrote gave pass database so_far.each kept so_far.served behind one.0
+      requests = requests_more limit wrote gave pass database so_far.each kept so_far.served behind
+          one.0
           left old between new so_far.requests one.2;
     }
 
-pub serving_ends : {T C : Type 0} (wrote gave : Effect T) (wrote' gave' : Effect C)
+pub serving_ends : {T C : Type 0} (limit : ℕ) (wrote gave : Effect T) (wrote' gave' : Effect C)
     (reports : List Report) (pass : PassRecord) (database : ℕ) (kept : List ℕ)
     (client client' client'' : C) (behind left reply : List ℕ) (old between new : CallerView)
-    → Serving wrote gave wrote' gave' reports pass database kept client client' behind old between
+    → Serving limit wrote gave wrote' gave' reports pass database kept client client' behind old
+    between
     → SomeCalls wrote' gave' client' client''
-    (λ calls. Serves wrote gave pass database (Some reply) behind calls left between new)
+    (λ calls. Serves limit wrote gave pass database (Some reply) behind calls left between new)
     → SomeCalls wrote' gave' client client''
-    (λ calls. Stays wrote gave reports pass database reply kept calls left old new)
-serving_ends wrote gave wrote' gave' reports pass database kept client client' client'' behind left
+    (λ calls. Stays limit wrote gave reports pass database reply kept calls left old new)
+serving_ends limit wrote gave wrote' gave' reports pass database kept client client' client''
+    behind left
     reply old between new so_far last = (
       so_far.greeting ++ (so_far.served ++ last.0),
       subst (λ xs. Makes wrote' gave' client xs client'')
           (append_assoc so_far.greeting so_far.served last.0)
-          (Makes-append wrote' gave' client client' client'' (so_far.greeting ++ so_far.served) last.0
+          (Makes-append wrote' gave' client client' client'' (so_far.greeting ++ so_far.served)
+          last.0
           so_far.made last.1),
       inl (record {
         greeting = so_far.greeting;
@@ -432,40 +470,45 @@ serving_ends wrote gave wrote' gave' reports pass database kept client client' c
     )
 
 -- a client that isn't greeted
-pub stays_unmade : {T C : Type 0} (wrote gave : Effect T) (wrote' gave' : Effect C) (client : C)
+pub stays_unmade : {T C : Type 0} (limit : ℕ) (wrote gave : Effect T) (wrote' gave' : Effect C)
+    (client : C)
     (reports : List Report) (pass : PassRecord) (database : ℕ) (reply kept : List ℕ)
     (old : CallerView)
     → IsError OutOfMemory reply
     → SomeCalls wrote' gave' client client
-    (λ calls. Stays wrote gave reports pass database reply kept calls kept old old)
-stays_unmade wrote gave wrote' gave' client reports pass database reply kept old error =
+    (λ calls. Stays limit wrote gave reports pass database reply kept calls kept old old)
+stays_unmade limit wrote gave wrote' gave' client reports pass database reply kept old error =
     ([], refl, inr (inl (error, refl), refl, refl))
 
-pub stays_ungreeted : {T C : Type 0} (wrote gave : Effect T) (wrote' gave' : Effect C)
+pub stays_ungreeted : {T C : Type 0} (limit : ℕ) (wrote gave : Effect T) (wrote' gave' : Effect C)
     (client client' : C) (reports : List Report) (pass : PassRecord) (database : ℕ)
     (reply kept : List ℕ)
     (old : CallerView) → SomeCalls wrote' gave' client client'
     (Greets reports pass.key (Some reply))
     → SomeCalls wrote' gave' client client'
-    (λ calls. Stays wrote gave reports pass database reply kept calls kept old old)
-stays_ungreeted wrote gave wrote' gave' client client' reports pass database reply kept old greets =
+    (λ calls. Stays limit wrote gave reports pass database reply kept calls kept old old)
+stays_ungreeted limit wrote gave wrote' gave' client client' reports pass database reply kept old
+    greets =
     (greets.0, greets.1, inr (greets.2, refl, refl))
 
 -- a client that got a slot
-pub client_served : {T C : Type 0} (wrote gave : Effect T) (wrote' gave' : Effect C) (a b c : C)
+pub client_served : {T C : Type 0} (limit : ℕ) (wrote gave : Effect T) (wrote' gave' : Effect C)
+    (a b c : C)
     (reports : List Report) (database secret : ℕ) (kind : Kind) (pass : PassRecord)
     (reply text kept left : List ℕ) (old joined done new : CallerView) (whole : Bool)
     → Joins database secret kind (Ok pass) old joined
     → SomeCalls wrote' gave' a b
-    (λ calls. Stays wrote gave reports pass database reply kept calls left joined done)
+    (λ calls. Stays limit wrote gave reports pass database reply kept calls left joined done)
     → Moves a_pass done nothing new → text ≡ reply
     → (whole ≡ true → SomeCalls wrote' gave' b c (Wrote text))
     → (whole ≡ false → SomeCalls wrote' gave' b c (WroteSome text))
     → SomeCalls wrote' gave' a c
-    (λ calls. ServesClient wrote gave reports database secret kind kept calls left old new)
-client_served wrote gave wrote' gave' a b c reports database secret kind pass reply text kept left
+    (λ calls. ServesClient limit wrote gave reports database secret kind kept calls left old new)
+client_served limit wrote gave wrote' gave' a b c reports database secret kind pass reply text kept
+    left
     old joined done new whole joins stays leaves is did some =
-    let said = sends_same wrote' gave' b c text reply is (sends wrote' gave' b c text whole did some) in (
+    let said = sends_same wrote' gave' b c text reply is (sends wrote' gave' b c text whole did
+    some) in (
       stays.0 ++ said.0,
       Makes-append wrote' gave' a b c stays.0 said.0 stays.1 said.1,
       inl (record {
@@ -484,73 +527,94 @@ client_served wrote gave wrote' gave' a b c reports database secret kind pass re
     )
 
 -- a client that got none
-pub client_refused : {T C : Type 0} (wrote gave : Effect T) (wrote' gave' : Effect C) (a b : C)
+pub client_refused : {T C : Type 0} (limit : ℕ) (wrote gave : Effect T) (wrote' gave' : Effect C)
+    (a b : C)
     (reports : List Report) (database secret : ℕ) (kind : Kind)
     (answer : Result PassRecord JoinRefusal) (kept : List ℕ)
     (old new : CallerView) → ((pass : PassRecord) → answer ≡ Ok pass → ⊥)
     → Joins database secret kind answer old new
     → SomeCalls wrote' gave' a b (SendsError TooManyConnections)
     → SomeCalls wrote' gave' a b
-    (λ calls. ServesClient wrote gave reports database secret kind kept calls kept old new)
-client_refused wrote gave wrote' gave' a b reports database secret kind (Ok pass) kept old new none
+    (λ calls. ServesClient limit wrote gave reports database secret kind kept calls kept old new)
+client_refused limit wrote gave wrote' gave' a b reports database secret kind (Ok pass) kept old
+    new none
     joins said =
     absurd (none pass refl)
-client_refused wrote gave wrote' gave' a b reports database secret kind (Err refusal) kept old new
+client_refused limit wrote gave wrote' gave' a b reports database secret kind (Err refusal) kept
+    old new
     none joins said = (said.0, said.1, inr (refusal, joins, said.2, refl))
 
 -- the session goes on with a request more, and is as at its start
-pub serving_next : {T C : Type 0} (wrote gave : Effect T) (wrote' gave' : Effect C)
+pub serving_next : {T C : Type 0} (limit : ℕ) (wrote gave : Effect T) (wrote' gave' : Effect C)
     (reports : List Report) (pass : PassRecord) (database : ℕ) (kept : List ℕ)
     (client client' client'' : C)
     (behind left : List ℕ) (old between new : CallerView) (session next : Session)
-    (result : Option (List ℕ)) → session ≡ begun database → result ≡ None
-    → (result ≡ None → next ≡ begun session.database)
-    → Serving wrote gave wrote' gave' reports pass database kept client client' behind old between
+    (result : Option (List ℕ)) → session ≡ begun limit database → result ≡ None
+    → (result ≡ None → next ≡ begun session.limit session.database)
+    → Serving limit wrote gave wrote' gave' reports pass database kept client client' behind old
+    between
     → SomeCalls wrote' gave' client' client''
-    (λ calls. Serves wrote gave pass session.database result behind calls left between new)
-    → (next ≡ begun database)
-    × Serving wrote gave wrote' gave' reports pass database kept client client'' left old new
-serving_next wrote gave wrote' gave' reports pass database kept client client' client'' behind left
+    (λ calls. Serves session.limit wrote gave pass session.database result behind calls left
+    between new)
+    → (next ≡ begun limit database)
+    × Serving limit wrote gave wrote' gave' reports pass database kept client client'' left old new
+serving_next limit wrote gave wrote' gave' reports pass database kept client client' client''
+    behind left
     old between new session next result is none after so_far one =
-    let same : session.database ≡ database = ap (λ (s : Session). s.database) is in (
-      after none ∙ ap begun same,
-      serving_more wrote gave wrote' gave' reports pass database kept client client' client'' behind
+    let same : session.database ≡ database = ap (λ (s : Session). s.database) is in
+    let limit_is : session.limit ≡ limit = ap (λ (s : Session). s.limit) is in (
+      after none ∙ ap (λ (s : Session). begun s.limit s.database) is,
+      serving_more limit wrote gave wrote' gave' reports pass database kept client client' client''
+          behind
           left old between new so_far
           (subst (λ (r : Option (List ℕ)). SomeCalls wrote' gave' client' client''
-          (λ calls. Serves wrote gave pass database r behind calls left between new)) none
+          (λ calls. Serves limit wrote gave pass database r behind calls left between new)) none
           (subst (λ d. SomeCalls wrote' gave' client' client''
-          (λ calls. Serves wrote gave pass d result behind calls left between new)) same one)),
+          (λ calls. Serves limit wrote gave pass d result behind calls left between new)) same
+          (subst (λ (n : ℕ). SomeCalls wrote' gave' client' client''
+          (λ calls. Serves n wrote gave pass session.database result behind calls left between new))
+          limit_is one))),
     )
 
 -- the session ends
-pub serving_last : {T C : Type 0} (wrote gave : Effect T) (wrote' gave' : Effect C)
+pub serving_last : {T C : Type 0} (limit : ℕ) (wrote gave : Effect T) (wrote' gave' : Effect C)
     (reports : List Report) (pass : PassRecord) (database : ℕ) (kept : List ℕ)
     (client client' client'' : C)
     (behind left : List ℕ) (old between new : CallerView) (session : Session)
-    (result : Option (List ℕ)) (reply : List ℕ) → session ≡ begun database → result ≡ Some reply
-    → Serving wrote gave wrote' gave' reports pass database kept client client' behind old between
+    (result : Option (List ℕ)) (reply : List ℕ) → session ≡ begun limit database
+    → result ≡ Some reply
+    → Serving limit wrote gave wrote' gave' reports pass database kept client client' behind old
+    between
     → SomeCalls wrote' gave' client' client''
-    (λ calls. Serves wrote gave pass session.database result behind calls left between new)
+    (λ calls. Serves session.limit wrote gave pass session.database result behind calls left
+    between new)
     → SomeCalls wrote' gave' client client''
-    (λ calls. Stays wrote gave reports pass database reply kept calls left old new)
-serving_last wrote gave wrote' gave' reports pass database kept client client' client'' behind left
+    (λ calls. Stays limit wrote gave reports pass database reply kept calls left old new)
+serving_last limit wrote gave wrote' gave' reports pass database kept client client' client''
+    behind left
     old between new session result reply is some so_far last =
     let same : session.database ≡ database = ap (λ (s : Session). s.database) is in
-    serving_ends wrote gave wrote' gave' reports pass database kept client client' client'' behind
+    let limit_is : session.limit ≡ limit = ap (λ (s : Session). s.limit) is in
+    serving_ends limit wrote gave wrote' gave' reports pass database kept client client' client''
+    behind
     left reply old between new so_far
     (subst (λ (r : Option (List ℕ)). SomeCalls wrote' gave' client' client''
-    (λ calls. Serves wrote gave pass database r behind calls left between new)) some
+    (λ calls. Serves limit wrote gave pass database r behind calls left between new)) some
     (subst (λ d. SomeCalls wrote' gave' client' client''
-    (λ calls. Serves wrote gave pass d result behind calls left between new)) same last))
+    (λ calls. Serves limit wrote gave pass d result behind calls left between new)) same
+    (subst (λ (n : ℕ). SomeCalls wrote' gave' client' client''
+    (λ calls. Serves n wrote gave pass session.database result behind calls left between new))
+    limit_is last)))
 
 -- a client that is greeted
-pub serving_greeted : {T C : Type 0} (wrote gave : Effect T) (wrote' gave' : Effect C)
+pub serving_greeted : {T C : Type 0} (limit : ℕ) (wrote gave : Effect T) (wrote' gave' : Effect C)
     (reports : List Report) (pass : PassRecord) (database : ℕ) (kept : List ℕ) (client client' : C)
     (old : CallerView) (result : Option (List ℕ)) → result ≡ None
     → SomeCalls wrote' gave' client client' (Greets reports pass.key result)
-    → Serving wrote gave wrote' gave' reports pass database kept client client' kept old old
-serving_greeted wrote gave wrote' gave' reports pass database kept client client' old result none
+    → Serving limit wrote gave wrote' gave' reports pass database kept client client' kept old old
+serving_greeted limit wrote gave wrote' gave' reports pass database kept client client' old result
+    none
     greets =
-    serving_start wrote gave wrote' gave' reports pass database kept client client' old
+    serving_start limit wrote gave wrote' gave' reports pass database kept client client' old
     (subst (λ (r : Option (List ℕ)). SomeCalls wrote' gave' client client'
     (Greets reports pass.key r)) none greets)

@@ -147,177 +147,186 @@ reply_given (Cut kind size body) text tells told = wrote_given text tells told
 reply_given (Untold begun after) text tells told = wrote_some_given text tells told
 
 -- where the session goes on, the reply was written whole
-reply_whole : (end : ReplyEnd) (text : List ℕ) (tells : List Call) (outcome : Stayed)
-    → WritesReply end text tells → EndsStay end outcome → SessionGoesOn outcome
+reply_whole : (limit : ℕ) (end : ReplyEnd) (text : List ℕ) (tells : List Call) (outcome : Stayed)
+    → WritesReply end text tells → EndsStay limit end outcome → SessionGoesOn outcome
     → taken tells ≡ text
-reply_whole (Ready status after) text tells outcome told ends goes = told.whole
-reply_whole (Unclear status after) text tells outcome told ends goes = told.whole
-reply_whole (Unfit kind size after) text tells outcome told ends goes = told.whole
-reply_whole (FaultyEnd rest fault) text tells outcome told ends goes = told.whole
-reply_whole (Lost rest) text tells outcome told ends goes = told.whole
-reply_whole (Cut kind size body) text tells outcome told ends goes = told.whole
-reply_whole (Untold begun after) text tells outcome told ends goes =
+reply_whole limit (Ready status after) text tells outcome told ends goes = told.whole
+reply_whole limit (Unclear status after) text tells outcome told ends goes = told.whole
+reply_whole limit (Unfit kind size after) text tells outcome told ends goes = told.whole
+reply_whole limit (FaultyEnd rest fault) text tells outcome told ends goes = told.whole
+reply_whole limit (Lost rest) text tells outcome told ends goes = told.whole
+reply_whole limit (Cut kind size body) text tells outcome told ends goes = told.whole
+reply_whole limit (Untold begun after) text tells outcome told ends goes =
     absurd (subst SessionGoesOn ends.1 goes)
 
 -- what a client reads before it leaves
-leaves_taken : (leaving : Leaving) (kept : List ℕ) (calls : List Call) (reply left : List ℕ)
-    → Leaves leaving kept calls reply left → taken calls ≡ []
-leaves_taken (Says parts last) kept calls reply left leaves = read_taken leaves.0 calls leaves.2
-leaves_taken (Faulty parts fault) kept calls reply left leaves =
+leaves_taken : (limit : ℕ) (leaving : Leaving) (kept : List ℕ) (calls : List Call)
+    (reply left : List ℕ)
+    → Leaves limit leaving kept calls reply left → taken calls ≡ []
+leaves_taken limit (Says parts last) kept calls reply left leaves = read_taken leaves.0 calls
+    leaves.2
+leaves_taken limit (Faulty parts fault) kept calls reply left leaves =
     read_taken leaves.0 calls leaves.1
-leaves_taken (Silent parts) kept calls reply left leaves = read_end_taken leaves.0 calls leaves.1
-leaves_taken (NoMemory parts rest) kept calls reply left leaves =
+leaves_taken limit (Silent parts) kept calls reply left leaves = read_end_taken leaves.0 calls
+    leaves.1
+leaves_taken limit (NoMemory parts rest) kept calls reply left leaves =
     read_taken leaves.0 calls leaves.1
 
-leaves_given : (frames : List Frame) (status : ℕ) (leaving : Leaving) (kept : List ℕ)
+leaves_given : (limit : ℕ) (frames : List Frame) (status : ℕ) (leaving : Leaving) (kept : List ℕ)
     (calls : List Call) (reply left : List ℕ)
     → (IsRefusedMemory (Deserted frames status leaving) → ⊥)
-    → Leaves leaving kept calls reply left → kept ++ given calls ≡ left_by leaving ++ left
-leaves_given frames status (Says parts last) kept calls reply left memory leaves =
+    → Leaves limit leaving kept calls reply left → kept ++ given calls ≡ left_by leaving ++ left
+leaves_given limit frames status (Says parts last) kept calls reply left memory leaves =
     ap (λ xs. kept ++ xs) leaves.2.whole ∙ leaves.3
-leaves_given frames status (Faulty parts fault) kept calls reply left memory leaves =
+leaves_given limit frames status (Faulty parts fault) kept calls reply left memory leaves =
     ap (λ xs. kept ++ xs) leaves.1.whole ∙ leaves.2
-leaves_given frames status (Silent parts) kept calls reply left memory leaves =
+leaves_given limit frames status (Silent parts) kept calls reply left memory leaves =
     ap (λ xs. kept ++ xs) (read_end_given leaves.0 calls leaves.1) ∙ leaves.2
-leaves_given frames status (NoMemory parts rest) kept calls reply left memory leaves =
+leaves_given limit frames status (NoMemory parts rest) kept calls reply left memory leaves =
     absurd (memory tt)
 
 -- what the link took
-sent_at : (ending : Ending) (request before kept : List ℕ) (link client : List Call)
+sent_at : (limit : ℕ) (ending : Ending) (request before kept : List ℕ) (link client : List Call)
     (outcome : Stayed) (left : List ℕ)
-    → Ends ending request before kept link client outcome left → IsWritten (request ++ []) link
-sent_at Unsent request before kept link client outcome left ends =
+    → Ends limit ending request before kept link client outcome left
+    → IsWritten (request ++ []) link
+sent_at limit Unsent request before kept link client outcome left ends =
     subst (λ xs. IsWritten xs link) (sym (append-nil request)) (written_some request link ends.0)
-sent_at (Replied frames end) request before kept link client outcome left ends =
+sent_at limit (Replied frames end) request before kept link client outcome left ends =
     written_whole (request ++ []) link
     (written_before request ends.0 ends.1 link ends.3.whole
     (reply_taken end ends.4.bytes ends.1 ends.4.read) ends.2 ∙ sym (append-nil request))
-sent_at (Deserted frames status leaving) request before kept link client outcome left ends =
+sent_at limit (Deserted frames status leaving) request before kept link client outcome left ends =
     written_whole (request ++ []) link
     (written_before request ends.0 ends.1 link ends.6.whole
     (read_taken ends.7.bytes ends.1 ends.7.read) ends.2 ∙ sym (append-nil request))
 
-round_sent : (request before kept : List ℕ) (round : Round) (link client : List Call)
-    (left : List ℕ) → IsRound request before kept round link client left → taken link ≡ request
-round_sent request before kept round link client left is =
+round_sent : (limit : ℕ) (request before kept : List ℕ) (round : Round) (link client : List Call)
+    (left : List ℕ) → IsRound limit request before kept round link client left
+    → taken link ≡ request
+round_sent limit request before kept round link client left is =
     written_before request is.sends is.reads link is.sent.whole
     (read_taken is.replied.bytes is.reads is.replied.read) is.link_is
 
-all_sent : (rounds : List Round) (ending : Ending) (request before kept : List ℕ)
+all_sent : (limit : ℕ) (rounds : List Round) (ending : Ending) (request before kept : List ℕ)
     (link client : List Call) (outcome : Stayed) (left : List ℕ)
-    → Runs rounds ending request before kept link client outcome left
+    → Runs limit rounds ending request before kept link client outcome left
     → IsWritten (to_link request rounds) link
-all_sent [] ending request before kept link client outcome left runs =
-    sent_at ending request before kept link client outcome left runs
-all_sent (round ∷ rounds) ending request before kept link client outcome left runs =
+all_sent limit [] ending request before kept link client outcome left runs =
+    sent_at limit ending request before kept link client outcome left runs
+all_sent limit (round ∷ rounds) ending request before kept link client outcome left runs =
     written_after request (to_link (asked round) rounds) (to_link request (round ∷ rounds)) runs.0
     runs.1 link
-    (round_sent request before kept round runs.0 runs.3 runs.6 runs.7)
-    (all_sent rounds ending (asked round) [] runs.6 runs.1 runs.4 outcome left runs.8) refl runs.2
+    (round_sent limit request before kept round runs.0 runs.3 runs.6 runs.7)
+    (all_sent limit rounds ending (asked round) [] runs.6 runs.1 runs.4 outcome left runs.8) refl
+    runs.2
 
 -- what the client took
-round_told : (request before kept : List ℕ) (round : Round) (link client : List Call)
-    (left : List ℕ) → IsRound request before kept round link client left
+round_told : (limit : ℕ) (request before kept : List ℕ) (round : Round) (link client : List Call)
+    (left : List ℕ) → IsRound limit request before kept round link client left
     → taken client ≡ told_in round
-round_told request before kept round link client left is =
+round_told limit request before kept round link client left is =
     written_before (told_in round) is.tells is.asks client is.replied.told.whole
     (read_taken is.bytes is.asks is.read) is.client_is
 
-told_last : (ending : Ending) (request before kept : List ℕ) (link client : List Call)
+told_last : (limit : ℕ) (ending : Ending) (request before kept : List ℕ) (link client : List Call)
     (outcome : Stayed) (left : List ℕ)
-    → Ends ending request before kept link client outcome left
+    → Ends limit ending request before kept link client outcome left
     → IsWritten (told_at ending) client
-told_last Unsent request before kept link client outcome left ends =
+told_last limit Unsent request before kept link client outcome left ends =
     written_whole [] client (ap taken ends.1)
-told_last (Replied frames end) request before kept link client outcome left ends =
+told_last limit (Replied frames end) request before kept link client outcome left ends =
     reply_written end (passed_on frames end) client ends.4.told
-told_last (Deserted frames status leaving) request before kept link client outcome left ends =
+told_last limit (Deserted frames status leaving) request before kept link client outcome left ends =
     written_whole (texts frames ++ ready_text status) client
     (written_before (texts frames ++ ready_text status) ends.3 ends.4 client ends.7.told.whole
-    (leaves_taken leaving kept ends.4 ends.9 left ends.10) ends.5)
+    (leaves_taken limit leaving kept ends.4 ends.9 left ends.10) ends.5)
 
-all_told : (rounds : List Round) (ending : Ending) (request before kept : List ℕ)
+all_told : (limit : ℕ) (rounds : List Round) (ending : Ending) (request before kept : List ℕ)
     (link client : List Call) (outcome : Stayed) (left : List ℕ)
-    → Runs rounds ending request before kept link client outcome left
+    → Runs limit rounds ending request before kept link client outcome left
     → IsWritten (to_client rounds ending) client
-all_told [] ending request before kept link client outcome left runs =
-    told_last ending request before kept link client outcome left runs
-all_told (round ∷ rounds) ending request before kept link client outcome left runs =
+all_told limit [] ending request before kept link client outcome left runs =
+    told_last limit ending request before kept link client outcome left runs
+all_told limit (round ∷ rounds) ending request before kept link client outcome left runs =
     written_after (told_in round) (to_client rounds ending) (to_client (round ∷ rounds) ending)
     runs.3 runs.4 client
-    (round_told request before kept round runs.0 runs.3 runs.6 runs.7)
-    (all_told rounds ending (asked round) [] runs.6 runs.1 runs.4 outcome left runs.8)
+    (round_told limit request before kept round runs.0 runs.3 runs.6 runs.7)
+    (all_told limit rounds ending (asked round) [] runs.6 runs.1 runs.4 outcome left runs.8)
     (append_assoc (told_in round) (flat_map told_in rounds) (told_at ending)) runs.5
 
 -- both took all where the session goes on
-whole_at : (ending : Ending) (request before kept : List ℕ) (link client : List Call)
+whole_at : (limit : ℕ) (ending : Ending) (request before kept : List ℕ) (link client : List Call)
     (outcome : Stayed) (left : List ℕ)
-    → Ends ending request before kept link client outcome left → SessionGoesOn outcome
+    → Ends limit ending request before kept link client outcome left → SessionGoesOn outcome
     → (taken link ≡ request ++ []) × (taken client ≡ told_at ending)
-whole_at Unsent request before kept link client outcome left ends goes =
+whole_at limit Unsent request before kept link client outcome left ends goes =
     absurd (subst SessionGoesOn ends.3.2 goes)
-whole_at (Replied frames end) request before kept link client outcome left ends goes = (
+whole_at limit (Replied frames end) request before kept link client outcome left ends goes = (
   written_before request ends.0 ends.1 link ends.3.whole
       (reply_taken end ends.4.bytes ends.1 ends.4.read) ends.2 ∙ sym (append-nil request),
-  reply_whole end (passed_on frames end) client outcome ends.4.told ends.5 goes,
+  reply_whole limit end (passed_on frames end) client outcome ends.4.told ends.5 goes,
 )
-whole_at (Deserted frames status leaving) request before kept link client outcome left ends goes =
+whole_at limit (Deserted frames status leaving) request before kept link client outcome left ends
+    goes =
     absurd (subst SessionGoesOn ends.11 goes)
 
-all_whole : (rounds : List Round) (ending : Ending) (request before kept : List ℕ)
+all_whole : (limit : ℕ) (rounds : List Round) (ending : Ending) (request before kept : List ℕ)
     (link client : List Call) (outcome : Stayed) (left : List ℕ)
-    → Runs rounds ending request before kept link client outcome left → SessionGoesOn outcome
+    → Runs limit rounds ending request before kept link client outcome left → SessionGoesOn outcome
     → (taken link ≡ to_link request rounds) × (taken client ≡ to_client rounds ending)
-all_whole [] ending request before kept link client outcome left runs goes =
-    whole_at ending request before kept link client outcome left runs goes
-all_whole (round ∷ rounds) ending request before kept link client outcome left runs goes =
-    let rest = all_whole rounds ending (asked round) [] runs.6 runs.1 runs.4 outcome left runs.8
+all_whole limit [] ending request before kept link client outcome left runs goes =
+    whole_at limit ending request before kept link client outcome left runs goes
+all_whole limit (round ∷ rounds) ending request before kept link client outcome left runs goes =
+    let rest = all_whole limit rounds ending (asked round) [] runs.6 runs.1 runs.4 outcome left
+    runs.8
     goes in (
       ap taken runs.2 ∙ taken-append runs.0 runs.1
           ∙ ap (λ xs. xs ++ taken runs.1)
-          (round_sent request before kept round runs.0 runs.3 runs.6 runs.7)
+          (round_sent limit request before kept round runs.0 runs.3 runs.6 runs.7)
           ∙ ap (λ xs. request ++ xs) rest.0,
       ap taken runs.5 ∙ taken-append runs.3 runs.4
           ∙ ap (λ xs. xs ++ taken runs.4)
-          (round_told request before kept round runs.0 runs.3 runs.6 runs.7)
+          (round_told limit request before kept round runs.0 runs.3 runs.6 runs.7)
           ∙ ap (λ xs. told_in round ++ xs) rest.1
           ∙ sym (append_assoc (told_in round) (flat_map told_in rounds) (told_at ending)),
     )
 
 -- what was read of the client
-given_at : (ending : Ending) (request before kept : List ℕ) (link client : List Call)
+given_at : (limit : ℕ) (ending : Ending) (request before kept : List ℕ) (link client : List Call)
     (outcome : Stayed) (left : List ℕ) → (IsRefusedMemory ending → ⊥)
-    → Ends ending request before kept link client outcome left
+    → Ends limit ending request before kept link client outcome left
     → kept ++ given client ≡ asked_at ending ++ left
-given_at Unsent request before kept link client outcome left memory ends =
+given_at limit Unsent request before kept link client outcome left memory ends =
     ap (λ calls. kept ++ given calls) ends.1 ∙ append-nil kept ∙ sym ends.2
-given_at (Replied frames end) request before kept link client outcome left memory ends =
+given_at limit (Replied frames end) request before kept link client outcome left memory ends =
     ap (λ xs. kept ++ xs) (reply_given end (passed_on frames end) client ends.4.told)
     ∙ append-nil kept ∙ sym ends.6
-given_at (Deserted frames status leaving) request before kept link client outcome left memory
+given_at limit (Deserted frames status leaving) request before kept link client outcome left memory
     ends =
     ap (λ xs. kept ++ xs) (ap given ends.5 ∙ given-append ends.3 ends.4
     ∙ ap (λ xs. xs ++ given ends.4)
     (wrote_given (texts frames ++ ready_text status) ends.3 ends.7.told))
-    ∙ leaves_given frames status leaving kept ends.4 ends.9 left memory ends.10
+    ∙ leaves_given limit frames status leaving kept ends.4 ends.9 left memory ends.10
 
-round_given : (request before kept : List ℕ) (round : Round) (link client : List Call)
-    (left : List ℕ) → IsRound request before kept round link client left
+round_given : (limit : ℕ) (request before kept : List ℕ) (round : Round) (link client : List Call)
+    (left : List ℕ) → IsRound limit request before kept round link client left
     → kept ++ given client ≡ asked round ++ left
-round_given request before kept round link client left is =
+round_given limit request before kept round link client left is =
     ap (λ xs. kept ++ xs) (ap given is.client_is ∙ given-append is.tells is.asks
     ∙ ap (λ xs. xs ++ given is.asks) (wrote_given (told_in round) is.tells is.replied.told)
     ∙ is.read.whole) ∙ is.bytes_are
 
-all_given : (rounds : List Round) (ending : Ending) (request before kept : List ℕ)
+all_given : (limit : ℕ) (rounds : List Round) (ending : Ending) (request before kept : List ℕ)
     (link client : List Call) (outcome : Stayed) (left : List ℕ) → (IsRefusedMemory ending → ⊥)
-    → Runs rounds ending request before kept link client outcome left
+    → Runs limit rounds ending request before kept link client outcome left
     → kept ++ given client ≡ asked_for rounds ending ++ left
-all_given [] ending request before kept link client outcome left memory runs =
-    given_at ending request before kept link client outcome left memory runs
-all_given (round ∷ rounds) ending request before kept link client outcome left memory runs =
-    let first = round_given request before kept round runs.0 runs.3 runs.6 runs.7 in
-    let rest = all_given rounds ending (asked round) [] runs.6 runs.1 runs.4 outcome left memory
+all_given limit [] ending request before kept link client outcome left memory runs =
+    given_at limit ending request before kept link client outcome left memory runs
+all_given limit (round ∷ rounds) ending request before kept link client outcome left memory runs =
+    let first = round_given limit request before kept round runs.0 runs.3 runs.6 runs.7 in
+    let rest = all_given limit rounds ending (asked round) [] runs.6 runs.1 runs.4 outcome left
+    memory
     runs.8 in
     ap (λ xs. kept ++ xs) (ap given runs.5 ∙ given-append runs.3 runs.4)
     ∙ sym (append_assoc kept (given runs.3) (given runs.4))
@@ -328,17 +337,19 @@ all_given (round ∷ rounds) ending request before kept link client outcome left
     ∙ ap (λ xs. xs ++ left)
     (sym (append_assoc (asked round) (flat_map asked rounds) (asked_at ending)))
 
-pub stay_of : (request before kept : List ℕ) (link client : List Call) (outcome : Stayed)
+pub stay_of : (limit : ℕ) (request before kept : List ℕ) (link client : List Call)
+    (outcome : Stayed)
     (left : List ℕ) (rounds : List Round) (ending : Ending)
-    → Runs rounds ending request before kept link client outcome left
-    → Stay request before kept link client outcome left
-stay_of request before kept link client outcome left rounds ending runs = record {
+    → Runs limit rounds ending request before kept link client outcome left
+    → Stay limit request before kept link client outcome left
+stay_of limit request before kept link client outcome left rounds ending runs = record {
   rounds = rounds;
   ending = ending;
   runs = runs;
-  sent = all_sent rounds ending request before kept link client outcome left runs;
-  told = all_told rounds ending request before kept link client outcome left runs;
-  whole = all_whole rounds ending request before kept link client outcome left runs;
-  left_is = λ memory. all_given rounds ending request before kept link client outcome left memory
+  sent = all_sent limit rounds ending request before kept link client outcome left runs;
+  told = all_told limit rounds ending request before kept link client outcome left runs;
+  whole = all_whole limit rounds ending request before kept link client outcome left runs;
+  left_is = λ memory. all_given limit rounds ending request before kept link client outcome left
+      memory
       runs;
 }

@@ -22,16 +22,18 @@ abbrev pub SendsError : ErrorCode → List Call → Type 0
 SendsError code calls = (reply : List ℕ) × IsError code reply × Sends reply calls
 
 -- messages of an extended query that are gathered, after some with this text
-abbrev pub AreGathered : List ℕ → List Frame → Type 0
-AreGathered before [] = Unit {0}
-AreGathered before (frame ∷ frames) = IsFrame frame
-    × (client_message (length before) frame ≡ Gathered) × AreGathered (before ++ text frame) frames
+abbrev pub AreGathered : ℕ → List ℕ → List Frame → Type 0
+AreGathered limit before [] = Unit {0}
+AreGathered limit before (frame ∷ frames) = IsFrame limit frame
+    × (client_message limit (length before) frame ≡ Gathered)
+    × AreGathered limit (before ++ text frame) frames
 
 -- a client's message, after others that are gathered
-pub record Asks (parts : List Frame) (last : Frame) (message : ClientMessage) : Type 0 where
-  pub gathered : AreGathered [] parts
-  pub is_frame : IsFrame last
-  pub means : client_message (length (texts parts)) last ≡ message
+pub record Asks (limit : ℕ) (parts : List Frame) (last : Frame) (message : ClientMessage)
+    : Type 0 where
+  pub gathered : AreGathered limit [] parts
+  pub is_frame : IsFrame limit last
+  pub means : client_message limit (length (texts parts)) last ≡ message
 
 -- the text of the request that is whole with the last message
 abbrev pub request_of : List Frame → Frame → List ℕ
@@ -58,16 +60,17 @@ IsSaid Gathered reply = ⊥
 -- The client leaves so: `kept` is what was read of it before, the calls are those that read more,
 -- the reply is what is written to it then, and `left` is what follows the last frame that was
 -- taken.
-abbrev pub Leaves : Leaving → List ℕ → List Call → List ℕ → List ℕ → Type 0
-Leaves (Says parts last) kept calls reply left = (bytes : List ℕ) × (message : ClientMessage)
+abbrev pub Leaves : ℕ → Leaving → List ℕ → List Call → List ℕ → List ℕ → Type 0
+Leaves limit (Says parts last) kept calls reply left = (bytes : List ℕ) × (message : ClientMessage)
     × Read bytes calls × (kept ++ bytes ≡ request_of parts last ++ left)
-    × Asks parts last message × IsSaid message reply
-Leaves (Faulty parts fault) kept calls reply left = (bytes : List ℕ)
-    × Read bytes calls × (kept ++ bytes ≡ texts parts ++ left) × AreGathered [] parts
-    × BeginsNoFrame left × (fault_at left ≡ Some fault) × IsError ProtocolViolation reply
-Leaves (Silent parts) kept calls reply left = (bytes : List ℕ)
-    × ReadToEnd bytes calls × (kept ++ bytes ≡ texts parts ++ left) × AreGathered [] parts
-    × BeginsNoFrame left × (fault_at left ≡ None) × (reply ≡ [])
-Leaves (NoMemory parts rest) kept calls reply left = (bytes : List ℕ)
-    × Read bytes calls × (kept ++ bytes ≡ texts parts ++ rest) × AreGathered [] parts
+    × Asks limit parts last message × IsSaid message reply
+Leaves limit (Faulty parts fault) kept calls reply left = (bytes : List ℕ)
+    × Read bytes calls × (kept ++ bytes ≡ texts parts ++ left) × AreGathered limit [] parts
+    × BeginsNoFrame limit left × (fault_at limit left ≡ Some fault)
+    × IsError ProtocolViolation reply
+Leaves limit (Silent parts) kept calls reply left = (bytes : List ℕ)
+    × ReadToEnd bytes calls × (kept ++ bytes ≡ texts parts ++ left) × AreGathered limit [] parts
+    × BeginsNoFrame limit left × (fault_at limit left ≡ None) × (reply ≡ [])
+Leaves limit (NoMemory parts rest) kept calls reply left = (bytes : List ℕ)
+    × Read bytes calls × (kept ++ bytes ≡ texts parts ++ rest) × AreGathered limit [] parts
     × (reply ≡ [])

@@ -29,12 +29,14 @@ place_of name databases = position (λ d. bytes_eq name d.name) databases
 
 -- A session was served on the database at this place, with a key of this kind, or refused where
 -- there is none.
-abbrev pub ServesAt : {T : Type 0} → Effect T → Effect T → List Report → Option ℕ → Kind → List ℕ
+abbrev pub ServesAt : {T : Type 0} → ℕ → Effect T → Effect T → List Report → Option ℕ → Kind
+    → List ℕ
     → List Call → List ℕ → CallerView → CallerView → Type 0
-ServesAt wrote gave reports None kind kept calls left old new =
+ServesAt limit wrote gave reports None kind kept calls left old new =
     SendsError InvalidCatalogName calls × (left ≡ kept) × (new ≡ old)
-ServesAt wrote gave reports (Some database) kind kept calls left old new =
-    (secret : ℕ) × ServesClient wrote gave reports database secret kind kept calls left old new
+ServesAt limit wrote gave reports (Some database) kind kept calls left old new =
+    (secret : ℕ)
+    × ServesClient limit wrote gave reports database secret kind kept calls left old new
 
 -- The console greets its client before anything else: the client took all messages of a login
 -- without a key that reports these parameters; or the connection ends with them, of which it didn't
@@ -47,31 +49,37 @@ GreetsConsole {C} wrote gave reports old new =
 
 -- What the first packets lead to, behind which this was read of the client. A cancel request for
 -- which no seat is free is given up without an order.
-abbrev pub ServesOpened : {T C : Type 0} → Effect T → Effect T → Effect C → Effect C → Carries
+abbrev pub ServesOpened : {T C : Type 0} → ℕ → Effect T → Effect T → Effect C → Effect C → Carries
     → Carries → List Report → List DatabaseSettings → Opened → List ℕ → C → C → CallerView
     → CallerView → Type 0
-ServesOpened wrote gave wrote' gave' ToServer ToPeer reports databases (Session name kind) behind
+ServesOpened limit wrote gave wrote' gave' ToServer ToPeer reports databases (Session name kind)
+    behind
     client client' old new =
     ((bytes_eq (string_bytes name) console_name ≡ true) × (new ≡ old)
     × GreetsConsole wrote' gave' reports client client')
     ⊎ ((bytes_eq (string_bytes name) console_name ≡ false) × (left : List ℕ)
-    × SomeCalls wrote' gave' client client' (λ calls. ServesAt wrote gave reports
+    × SomeCalls wrote' gave' client client' (λ calls. ServesAt limit wrote gave reports
     (place_of (string_bytes name) databases) kind behind calls left old new))
-ServesOpened wrote gave wrote' gave' ToServer ToPeer reports databases (Cancel key) behind client
+ServesOpened limit wrote gave wrote' gave' ToServer ToPeer reports databases (Cancel key) behind
+    client
     client' old new =
     ((client' ≡ client) × (new ≡ old))
     ⊎ ((seat next : SeatView) × ServesCancel ToServer ToPeer key old new seat next
     (λ verdict. Finishes wrote' client verdict client'))
-ServesOpened wrote gave wrote' gave' ToServer ToPeer reports databases Over behind client client'
+ServesOpened limit wrote gave wrote' gave' ToServer ToPeer reports databases Over behind client
+    client'
     old new =
     (client' ≡ client) × (new ≡ old)
 
 -- The first packets were read, and then what they lead to was served.
-abbrev pub ServesConnection : {T C : Type 0} → Effect T → Effect T → Effect C → Effect C → Carries
+abbrev pub ServesConnection : {T C : Type 0} → ℕ → Effect T → Effect T → Effect C → Effect C
+    → Carries
     → Carries → List Report → List DatabaseSettings → C → C → CallerView → CallerView → Type 0
-ServesConnection {T} {C} wrote gave wrote' gave' ToServer ToPeer reports databases client client'
+ServesConnection {T} {C} limit wrote gave wrote' gave' ToServer ToPeer reports databases client
+    client'
     old new =
     (opened : Opened) × (behind : List ℕ) × (next : C)
     × SomeCalls wrote' gave' client next (λ calls. Opens calls opened behind)
-    × ServesOpened wrote gave wrote' gave' ToServer ToPeer reports databases opened behind next
+    × ServesOpened limit wrote gave wrote' gave' ToServer ToPeer reports databases opened behind
+    next
     client' old new

@@ -18,32 +18,37 @@ use Rattle.node_threads.specs.Progress.{asking}
 
 -- a session with nothing outstanding that has gathered this for its next request, with a lease, as
 -- in an open transaction, or without one
-abbrev pub gathering : Bool → ℕ → List ℕ → Session
-gathering leased database gathered =
-    record { database = database; leased = leased; outstanding = 0; gathered = gathered }
+abbrev pub gathering : ℕ → Bool → ℕ → List ℕ → Session
+gathering limit leased database gathered = record {
+  limit = limit;
+  database = database;
+  leased = leased;
+  outstanding = 0;
+  gathered = gathered;
+}
 
 -- Messages were gathered after those of which the session knows, and then this one came.
-pub record Comes (old : Session) (kept : List ℕ) (parts : List Frame) (last : Frame)
+pub record Comes (limit : ℕ) (old : Session) (kept : List ℕ) (parts : List Frame) (last : Frame)
     (message : ClientMessage) (left : List ℕ) : Type 0 where
   pub whole : kept ≡ texts parts ++ (text last ++ left)
-  pub gathered : AreGathered old.gathered parts
-  pub is_frame : IsFrame last
-  pub means : client_message (length (old.gathered ++ texts parts)) last ≡ message
+  pub gathered : AreGathered limit old.gathered parts
+  pub is_frame : IsFrame limit last
+  pub means : client_message limit (length (old.gathered ++ texts parts)) last ≡ message
 
 -- What was cut from the bytes that were read of a client, and what is left of them. Memory may have
 -- been refused.
-abbrev pub Finds : Session → List ℕ → Found → Session → List ℕ → Type 0
-Finds old kept More new left = (parts : List Frame) × (kept ≡ texts parts ++ left)
-    × AreGathered old.gathered parts × BeginsNoFrame left
-    × (new ≡ gathering old.leased old.database (old.gathered ++ texts parts))
-Finds old kept (Request request) new left = (parts : List Frame) × (last : Frame)
-    × Comes old kept parts last message.Request left
-    × (request ≡ (old.gathered ++ texts parts) ++ text last) × (new ≡ asking old.database)
-Finds old kept (End reply) new left =
+abbrev pub Finds : ℕ → Session → List ℕ → Found → Session → List ℕ → Type 0
+Finds limit old kept More new left = (parts : List Frame) × (kept ≡ texts parts ++ left)
+    × AreGathered limit old.gathered parts × BeginsNoFrame limit left
+    × (new ≡ gathering limit old.leased old.database (old.gathered ++ texts parts))
+Finds limit old kept (Request request) new left = (parts : List Frame) × (last : Frame)
+    × Comes limit old kept parts last message.Request left
+    × (request ≡ (old.gathered ++ texts parts) ++ text last) × (new ≡ asking limit old.database)
+Finds limit old kept (End reply) new left =
     ((parts : List Frame) × (last : Frame) × (says : ClientMessage)
-    × Comes old kept parts last says left × IsSaid says reply)
+    × Comes limit old kept parts last says left × IsSaid says reply)
     ⊎ ((parts : List Frame) × (rest : List ℕ) × (kept ≡ texts parts ++ rest)
-    × AreGathered old.gathered parts × (reply ≡ []))
+    × AreGathered limit old.gathered parts × (reply ≡ []))
 
 -- what is written to a client whose bytes can't be taken because of this
 abbrev pub IsRefusal : FrameError → List ℕ → Type 0
@@ -53,17 +58,18 @@ IsRefusal BadType reply = IsError ProtocolViolation reply
 IsRefusal Memory reply = reply ≡ []
 
 -- the session ends where no whole frame was there
-abbrev pub Quits : List ℕ → List Call → List ℕ → List ℕ → Type 0
-Quits kept calls reply left =
-    ((fault : FrameError) × (calls ≡ []) × (fault_at kept ≡ Some fault) × (left ≡ kept)
+abbrev pub Quits : ℕ → List ℕ → List Call → List ℕ → List ℕ → Type 0
+Quits limit kept calls reply left =
+    ((fault : FrameError) × (calls ≡ []) × (fault_at limit kept ≡ Some fault) × (left ≡ kept)
     × IsError ProtocolViolation reply)
-    ⊎ (ReadToEnd [] calls × (fault_at kept ≡ None) × (left ≡ kept) × (reply ≡ []))
+    ⊎ (ReadToEnd [] calls × (fault_at limit kept ≡ None) × (left ≡ kept) × (reply ≡ []))
     ⊎ ((bytes : List ℕ) × Read bytes calls × (reply ≡ []))
 
 -- the next request was read, or the client leaves
-abbrev pub AsksNext : List ℕ → List Call → Result (List ℕ) (List ℕ) → List ℕ → Type 0
-AsksNext kept calls (Ok request) left = (bytes : List ℕ) × (parts : List Frame) × (last : Frame)
+abbrev pub AsksNext : ℕ → List ℕ → List Call → Result (List ℕ) (List ℕ) → List ℕ → Type 0
+AsksNext limit kept calls (Ok request) left = (bytes : List ℕ) × (parts : List Frame)
+    × (last : Frame)
     × Read bytes calls × (kept ++ bytes ≡ request_of parts last ++ left)
-    × Asks parts last message.Request × (request ≡ request_of parts last)
-AsksNext kept calls (Err reply) left =
-    (leaving : Leaving) × Leaves leaving kept calls reply left
+    × Asks limit parts last message.Request × (request ≡ request_of parts last)
+AsksNext limit kept calls (Err reply) left =
+    (leaving : Leaving) × Leaves limit leaving kept calls reply left

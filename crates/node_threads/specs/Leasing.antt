@@ -13,7 +13,7 @@ use Rattle.link_pool.specs.declared.replies.UpReply.TheVariants as up
 use Rattle.link_pool.specs.declared.replies.UpFailedReply.{UpFailedReply}
 use Rattle.link_pool.specs.declared.replies.UpFailedReply.TheVariants as failing
 use Rattle.node_core.specs.declared.exchange.Exchange.TheVariants as step
-use Rattle.locked_node.specs.Lock.{CallerView, CallerStep, Counted}
+use Rattle.locked_node.specs.Lock.{CallerView, Counted}
 use Rattle.peer_forward.specs.Calls.{Effect}
 use Rattle.startup.specs.declared.error_code.ErrorCode.{ErrorCode}
 use Rattle.startup.specs.declared.error_code.ErrorCode.TheVariants.{TooManyConnections, ConnectionFailure, AdminShutdown}
@@ -49,13 +49,13 @@ OfAnswer P (Some acquired) = OfLease P acquired
 
 -- A stream was opened at the server of this database, and the login there named the user and the
 -- database of its entry. The server gave this key.
-pub record IsLoggedIn {T : Type 0} (wrote gave : Effect T) (opens : Opens T)
+pub record IsLoggedIn {T : Type 0} (limit : ℕ) (wrote gave : Effect T) (opens : Opens T)
     (entries : List DatabaseSettings) (database : ℕ) (key : List ℕ) (stream : T) : Type 0 where
   pub entry : DatabaseSettings
   pub entry_is : slice_get entries database ≡ Some entry
   pub before : T
   pub opened : opens database (Ok before)
-  pub logs_in : SomeCalls wrote gave before stream (LogsIn entry.user entry.dbname key)
+  pub logs_in : SomeCalls wrote gave before stream (LogsIn limit entry.user entry.dbname key)
 
 -- the caller's last step asked for a link for the client of this pass, and got this answer
 abbrev pub WasAnswered : PassRecord → AcquireReply LinkRecord PermitRecord → CallerView → Type 0

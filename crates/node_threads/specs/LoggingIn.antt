@@ -22,20 +22,20 @@ use Rattle.node_threads.specs.StreamCalls.{Wrote, Read}
 
 -- The calls read the server's messages up to the one with which the link is up with this key, and
 -- not a byte more.
-pub record ReadsLogin (key : List ℕ) (calls : List Call) : Type 0 where
+pub record ReadsLogin (limit : ℕ) (key : List ℕ) (calls : List Call) : Type 0 where
   pub frames : List Frame
   pub ready : Frame
-  pub each : AllByRecursion IsFrame (frames ++ ready ∷ [])
+  pub each : AllByRecursion (IsFrame limit) (frames ++ ready ∷ [])
   pub read : Read (texts (frames ++ ready ∷ [])) calls
   pub up : IsUpAt frames ready key
 
 -- The calls wrote the StartupMessage whole, and after that read the server's messages.
-pub record LogsIn (user database key : List ℕ) (calls : List Call) : Type 0 where
+pub record LogsIn (limit : ℕ) (user database key : List ℕ) (calls : List Call) : Type 0 where
   pub sends : List Call
   pub reads : List Call
   pub all : calls ≡ sends ++ reads
   pub sent : Wrote (startup_request user database) sends
-  pub answered : ReadsLogin key reads
+  pub answered : ReadsLogin limit key reads
 
 -- the frame with this type byte and this body
 abbrev pub frame_of : ℕ → List ℕ → Frame
@@ -43,8 +43,9 @@ frame_of kind body = record { kind = kind; body = body }
 
 -- this head of a message and this beginning of its body were handed out, which is this text, and
 -- this many bytes of its body are to come
-pub record IsOpen (kind size : ℕ) (body : List ℕ) (shown : List ℕ) (left : Option ℕ) : Type 0 where
-  pub head : IsHead kind size
+pub record IsOpen (limit : ℕ) (kind size : ℕ) (body : List ℕ) (shown : List ℕ) (left : Option ℕ)
+    : Type 0 where
+  pub head : IsHead limit kind size
   pub shown_is : shown ≡ head_text kind size ++ body
   pub more : ℕ
   pub left_is : left ≡ Some more
@@ -57,43 +58,45 @@ OfEach kind size body P =
 
 -- How far a login is at this place, which has read these messages, and this text of the next one.
 -- This many bytes of its body are to come, and this part of what was handed out is kept.
-abbrev pub IsAt : LoginPlace → Login → List Frame → List ℕ → Option ℕ → List ℕ → Type 0
-IsAt Between login frames shown left kept =
+abbrev pub IsAt : ℕ → LoginPlace → Login → List Frame → List ℕ → Option ℕ → List ℕ → Type 0
+IsAt limit Between login frames shown left kept =
     HasRead login frames × (shown ≡ []) × (left ≡ None) × (kept ≡ [])
-IsAt Passing login frames shown left kept = (kind : ℕ) × (size : ℕ) × (body : List ℕ)
-    × IsOpen kind size body shown left × (kept ≡ [])
+IsAt limit Passing login frames shown left kept = (kind : ℕ) × (size : ℕ) × (body : List ℕ)
+    × IsOpen limit kind size body shown left × (kept ≡ [])
     × OfEach kind size body (λ frame. HasRead login (frames ++ frame ∷ []))
-IsAt (Reading wanted) login frames shown left kept = (kind : ℕ) × (size : ℕ) × (body : List ℕ)
-    × IsOpen kind size body shown left × (kept ≡ body) × (length body < wanted)
+IsAt limit (Reading wanted) login frames shown left kept = (kind : ℕ) × (size : ℕ) × (body : List ℕ)
+    × IsOpen limit kind size body shown left × (kept ≡ body) × (length body < wanted)
     × HasReadHead login frames kind size × (body_part kind size ≡ Some wanted)
-IsAt (Up key) login frames shown left kept = (kind : ℕ) × (size : ℕ) × (body : List ℕ)
-    × IsOpen kind size body shown left × (kept ≡ [])
+IsAt limit (Up key) login frames shown left kept = (kind : ℕ) × (size : ℕ) × (body : List ℕ)
+    × IsOpen limit kind size body shown left × (kept ≡ [])
     × OfEach kind size body (λ frame. IsUpAt frames frame key)
 
 -- `stream` was read of a server. The reader is at this place, with this login and this passage.
-pub record HasCome (stream : List ℕ) (place : LoginPlace) (login : Login) (passage : Passage)
+pub record HasCome (limit : ℕ) (stream : List ℕ) (place : LoginPlace) (login : Login)
+    (passage : Passage)
     : Type 0 where
   pub frames : List Frame
-  pub each : AllByRecursion IsFrame frames
+  pub each : AllByRecursion (IsFrame limit) frames
   pub shown : List ℕ
+  pub limit_is : passage.limit ≡ limit
   pub stream_is : stream ≡ texts frames ++ (shown ++ passage.bytes)
-  pub is_at : IsAt place login frames shown passage.left passage.passed
+  pub is_at : IsAt limit place login frames shown passage.left passage.passed
 
 -- `stream` was read of a server, and the link is up at the last of the messages that were taken.
-pub record IsDone (stream : List ℕ) (key : List ℕ) (passage : Passage) : Type 0 where
+pub record IsDone (limit : ℕ) (stream : List ℕ) (key : List ℕ) (passage : Passage) : Type 0 where
   pub frames : List Frame
   pub ready : Frame
-  pub each : AllByRecursion IsFrame (frames ++ ready ∷ [])
+  pub each : AllByRecursion (IsFrame limit) (frames ++ ready ∷ [])
   pub stream_is : stream ≡ texts (frames ++ ready ∷ []) ++ passage.bytes
   pub up : IsUpAt frames ready key
   pub left_is : passage.left ≡ None
   pub passed_is : passage.passed ≡ []
 
 -- what was taken of it
-abbrev pub Takes : List ℕ → Taken → Login → Passage → Type 0
-Takes stream (More place) login passage = HasCome stream place login passage
-Takes stream (Done key) login passage = IsDone stream key passage
-Takes stream Failed login passage = Unit {0}
+abbrev pub Takes : ℕ → List ℕ → Taken → Login → Passage → Type 0
+Takes limit stream (More place) login passage = HasCome limit stream place login passage
+Takes limit stream (Done key) login passage = IsDone limit stream key passage
+Takes limit stream Failed login passage = Unit {0}
 
 -- which piece this is
 abbrev pub mark_of : Piece → Mark
@@ -116,8 +119,9 @@ Handed before Tail now = Hands before (Some piece.Tail) now
 
 -- what is taken with a piece that was just handed out
 abbrev pub TakesPiece : LoginPlace → Login → Mark → Passage → Taken → Login → Passage → Type 0
-TakesPiece place old mark now taken new passage = (stream : List ℕ) (before : Passage)
-    → HasCome stream place old before → Handed before mark now → Takes stream taken new passage
+TakesPiece place old mark now taken new passage = (limit : ℕ) (stream : List ℕ) (before : Passage)
+    → HasCome limit stream place old before → Handed before mark now
+    → Takes limit stream taken new passage
 
 -- what is taken with what a login reads of a message's body
 abbrev pub TakesBody : Login → List ℕ → Taken → Login → Type 0
@@ -132,6 +136,6 @@ TakesBody old bytes Failed new = Unit {0}
 
 -- nothing more is there, where more is to come
 abbrev pub IsDry : Taken → Passage → Type 0
-IsDry (More place) passage = HasNoNext passage.left passage.bytes
+IsDry (More place) passage = HasNoNext passage.limit passage.left passage.bytes
 IsDry (Done key) passage = Unit {0}
 IsDry Failed passage = Unit {0}

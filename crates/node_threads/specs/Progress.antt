@@ -1,5 +1,5 @@
 -- How much of a reply was read and passed on (internal).
-use Rattle.std.specs.Prelude.{◌≡◌, ◌⊎◌, ℕ, ◌+◌, true, List, [], ◌∷◌, ◌++◌, length, Option, Some, None}
+use Rattle.std.specs.Prelude.{◌≡◌, ◌⊎◌, ℕ, ◌+◌, ◌≤◌, true, List, [], ◌∷◌, ◌++◌, length, Option, Some, None}
 use Rattle.std.specs.List.{AllByRecursion}
 use Rattle.peer_forward.specs.Calls.{Call}
 use Rattle.pg_frames.specs.declared.frame.Frame.{Frame}
@@ -23,16 +23,27 @@ use Rattle.node_threads.specs.declared.session.outcome.Stayed.{Stayed}
 use Rattle.node_threads.specs.declared.session.outcome.Stayed.TheVariants.{Release, Close, End}
 use Rattle.node_threads.specs.Asking.{IsError}
 use Rattle.node_threads.specs.StreamCalls.{Wrote, WroteSome}
-use Rattle.node_threads.specs.Replying.{IsPassedOn, ReplyEnd, Ready as ReadyEnd, heard, passed_on, ReadsReply, StopsAt, WritesReply, EndsStay, ready_outcome}
+use Rattle.node_threads.specs.Replying.{IsPassedOn, ReplyEnd, Ready as ReadyEnd, Unclear, Unfit, Faulty, Lost, Cut, Untold, heard, passed_on, ReadsReply, StopsAt, WritesReply, EndsStay, ready_outcome}
 
 -- a session that waits for the reply to a request
-abbrev pub asking : ℕ → Session
-asking database = record { database = database; leased = true; outstanding = 1; gathered = [] }
+abbrev pub asking : ℕ → ℕ → Session
+asking limit database = record {
+  limit = limit;
+  database = database;
+  leased = true;
+  outstanding = 1;
+  gathered = [];
+}
 
 -- a session in an open transaction, with nothing outstanding
-abbrev pub in_transaction : ℕ → Session
-in_transaction database =
-    record { database = database; leased = true; outstanding = 0; gathered = [] }
+abbrev pub in_transaction : ℕ → ℕ → Session
+in_transaction limit database = record {
+  limit = limit;
+  database = database;
+  leased = true;
+  outstanding = 0;
+  gathered = [];
+}
 
 -- what of the frame at this place isn't passed on before it is whole
 abbrev pub withheld : Place → List ℕ
@@ -43,30 +54,34 @@ withheld (Status status) = ready_text status
 
 -- what of the frame at this place is passed on before it is whole, where this many bytes of its
 -- body are to come
-abbrev pub IsShown : Place → Option ℕ → List ℕ → Type 0
-IsShown Between left shown = (left ≡ None) × (shown ≡ [])
-IsShown Inside left shown = (kind : ℕ) × (size : ℕ) × (body : List ℕ) × (more : ℕ)
-    × IsHead kind size × (link_message kind size ≡ PassOn)
+abbrev pub IsShown : ℕ → Place → Option ℕ → List ℕ → Type 0
+IsShown limit Between left shown = (left ≡ None) × (shown ≡ [])
+IsShown limit Inside left shown = (kind : ℕ) × (size : ℕ) × (body : List ℕ) × (more : ℕ)
+    × IsHead limit kind size × (link_message kind size ≡ PassOn)
     × (shown ≡ head_text kind size ++ body) × (left ≡ Some more) × (4 + length body + more ≡ size)
-IsShown AtReady left shown = (left ≡ Some 1) × (shown ≡ [])
-IsShown (Status status) left shown = (left ≡ Some 0) × (shown ≡ [])
+IsShown limit AtReady left shown = (left ≡ Some 1) × (shown ≡ []) × (5 ≤ limit)
+IsShown limit (Status status) left shown = (left ≡ Some 0) × (shown ≡ []) × (5 ≤ limit)
 
 -- Of a reply, `stream` was read, and `written` was written to the client. The rest is at this
 -- place, and in this passage.
-pub record HandedOut (stream written : List ℕ) (place : Place) (passage : Passage) : Type 0 where
+pub record HandedOut (limit : ℕ) (stream written : List ℕ) (place : Place) (passage : Passage)
+    : Type 0 where
   pub frames : List Frame
-  pub each : AllByRecursion IsPassedOn frames
+  pub each : AllByRecursion (IsPassedOn limit) frames
+  pub limit_is : passage.limit ≡ limit
   pub shown : List ℕ
-  pub is_shown : IsShown place passage.left shown
+  pub is_shown : IsShown limit place passage.left shown
   pub stream_is : stream ≡ texts frames ++ (shown ++ (withheld place ++ passage.bytes))
   pub front : List ℕ
   pub passed_is : passage.passed ≡ front ++ withheld place
   pub written_is : written ++ front ≡ texts frames ++ shown
 
 -- this was handed out last, and isn't written yet
-pub record HandedLast (stream written last : List ℕ) (passage : Passage) : Type 0 where
+pub record HandedLast (limit : ℕ) (stream written last : List ℕ) (passage : Passage) : Type 0 where
   pub frames : List Frame
-  pub each : AllByRecursion IsPassedOn frames
+  pub each : AllByRecursion (IsPassedOn limit) frames
+  pub limit_is : passage.limit ≡ limit
+  pub enough : 5 ≤ limit
   pub left : passage.left ≡ None
   pub stream_is : stream ≡ texts frames ++ (last ++ passage.bytes)
   pub front : List ℕ
@@ -74,13 +89,13 @@ pub record HandedLast (stream written last : List ℕ) (passage : Passage) : Typ
   pub written_is : written ++ front ≡ texts frames
 
 -- the head of a frame that isn't passed on was handed out last
-pub record HandedUnfit (stream written : List ℕ) (reply : List ℕ) (passage : Passage)
+pub record HandedUnfit (limit : ℕ) (stream written : List ℕ) (reply : List ℕ) (passage : Passage)
     : Type 0 where
   pub frames : List Frame
-  pub each : AllByRecursion IsPassedOn frames
+  pub each : AllByRecursion (IsPassedOn limit) frames
   pub kind : ℕ
   pub size : ℕ
-  pub head : IsHead kind size
+  pub head : IsHead limit kind size
   pub code : ErrorCode
   pub means : link_message kind size ≡ RefusedHead code
   pub error : IsError code reply
@@ -90,15 +105,16 @@ pub record HandedUnfit (stream written : List ℕ) (reply : List ℕ) (passage :
   pub written_is : written ++ front ≡ texts frames
 
 -- what was handed out
-abbrev pub HandsOut : List ℕ → List ℕ → Handed → Passage → Type 0
-HandsOut stream written (More place) passage = HandedOut stream written place passage
-HandsOut stream written (Ready status) passage =
-    HandedLast stream written (ready_text status) passage
-HandsOut stream written (Refused reply) passage = HandedUnfit stream written reply passage
+abbrev pub HandsOut : ℕ → List ℕ → List ℕ → Handed → Passage → Type 0
+HandsOut limit stream written (More place) passage = HandedOut limit stream written place passage
+HandsOut limit stream written (Ready status) passage =
+    HandedLast limit stream written (ready_text status) passage
+HandsOut limit stream written (Refused reply) passage =
+    HandedUnfit limit stream written reply passage
 
 -- nothing more is there, where more of the reply is to come
 abbrev pub IsDry : Handed → Passage → Type 0
-IsDry (More place) passage = HasNoNext passage.left passage.bytes
+IsDry (More place) passage = HasNoNext passage.limit passage.left passage.bytes
 IsDry (Ready status) passage = Unit {0}
 IsDry (Refused reply) passage = Unit {0}
 
@@ -108,11 +124,23 @@ KeepsSession (More place) old new = new ≡ old
 KeepsSession (Ready status) old new = new ≡ old
 KeepsSession (Refused reply) old new = Unit {0}
 
+-- the head of a ReadyForQuery is one of the format
+abbrev pub HasHead : ℕ → ReplyEnd → Type 0
+HasHead limit (ReadyEnd status after) = 5 ≤ limit
+HasHead limit (Unclear status after) = 5 ≤ limit
+HasHead limit (Unfit kind size after) = Unit {0}
+HasHead limit (Faulty rest fault) = Unit {0}
+HasHead limit (Lost rest) = Unit {0}
+HasHead limit (Cut kind size body) = Unit {0}
+HasHead limit (Untold begun after) = Unit {0}
+
 -- A reply ends so, of which `stream` was read before and `written` written.
-pub record Finishes (stream written : List ℕ) (end : ReplyEnd) (reads tells : List Call) : Type 0
+pub record Finishes (limit : ℕ) (stream written : List ℕ) (end : ReplyEnd)
+    (reads tells : List Call) : Type 0
   where
     pub frames : List Frame
-    pub each : AllByRecursion IsPassedOn frames
+    pub each : AllByRecursion (IsPassedOn limit) frames
+    pub head : HasHead limit end
     pub bytes : List ℕ
     pub bytes_are : stream ++ bytes ≡ heard frames end
     pub read : ReadsReply end bytes reads
@@ -122,20 +150,21 @@ pub record Finishes (stream written : List ℕ) (end : ReplyEnd) (reads tells : 
     pub told : WritesReply end text tells
 
 -- The stay ends with the reply.
-abbrev pub EndsHere : List ℕ → List ℕ → List Call → List Call → Stayed → Type 0
-EndsHere stream written reads tells stayed =
-    (end : ReplyEnd) × Finishes stream written end reads tells × EndsStay end stayed
+abbrev pub EndsHere : ℕ → List ℕ → List ℕ → List Call → List Call → Stayed → Type 0
+EndsHere limit stream written reads tells stayed =
+    (end : ReplyEnd) × Finishes limit stream written end reads tells × EndsStay limit end stayed
 
 -- The reply is whole, and the stay goes on.
-abbrev pub GoesOn : List ℕ → List ℕ → List Call → List Call → Type 0
-GoesOn stream written reads tells = (status : ℕ)
-    × Finishes stream written (ReadyEnd status []) reads tells × (status_of status ≡ InTransaction)
+abbrev pub GoesOn : ℕ → List ℕ → List ℕ → List Call → List Call → Type 0
+GoesOn limit stream written reads tells = (status : ℕ)
+    × Finishes limit stream written (ReadyEnd status []) reads tells
+    × (status_of status ≡ InTransaction)
 
 -- what is left of the session and of the link where the session goes on
-abbrev pub LeavesBehind : Stayed → Session → Session → Passage → Type 0
-LeavesBehind Release old new passage = (new ≡ over old) × (passage ≡ start)
-LeavesBehind Close old new passage = new ≡ over old
-LeavesBehind (End reply) old new passage = Unit {0}
+abbrev pub LeavesBehind : ℕ → Stayed → Session → Session → Passage → Type 0
+LeavesBehind limit Release old new passage = (new ≡ over old) × (passage ≡ start limit)
+LeavesBehind limit Close old new passage = new ≡ over old
+LeavesBehind limit (End reply) old new passage = Unit {0}
 
 -- the client took the text, or didn't take it whole, and the stay ends so
 abbrev pub Refuses : List ℕ → List ℕ → Stayed → List Call → Type 0

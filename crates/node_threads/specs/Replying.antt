@@ -21,13 +21,13 @@ use Rattle.node_threads.specs.StreamCalls.{given, Wrote, WroteSome, Read, ReadTo
 use Rattle.node_threads.specs.Asking.{IsError}
 
 -- a frame of the link that is passed on
-pub record IsPassedOn (frame : Frame) : Type 0 where
-  pub is_frame : IsFrame frame
+pub record IsPassedOn (limit : ℕ) (frame : Frame) : Type 0 where
+  pub is_frame : IsFrame limit frame
   pub means : link_message frame.kind (4 + length frame.body) ≡ PassOn
 
 -- a head whose frame is passed on, with the first bytes of its body
-pub record IsBegun (kind size : ℕ) (body : List ℕ) : Type 0 where
-  pub head : IsHead kind size
+pub record IsBegun (limit : ℕ) (kind size : ℕ) (body : List ℕ) : Type 0 where
+  pub head : IsHead limit kind size
   pub means : link_message kind size ≡ PassOn
   pub more : 4 + length body < size
 
@@ -100,10 +100,10 @@ WritesReply end text calls = Wrote text calls
 
 -- A reply: frames that are passed on, and its end. `before` is what was read of the link before;
 -- the calls are those that read the rest from the link, and that write it to the client.
-pub record Replies (before : List ℕ) (frames : List Frame) (end : ReplyEnd)
+pub record Replies (limit : ℕ) (before : List ℕ) (frames : List Frame) (end : ReplyEnd)
     (reads tells : List Call)
     : Type 0 where
-  pub each : AllByRecursion IsPassedOn frames
+  pub each : AllByRecursion (IsPassedOn limit) frames
   pub bytes : List ℕ
   pub bytes_are : before ++ bytes ≡ heard frames end
   pub read : ReadsReply end bytes reads
@@ -112,9 +112,9 @@ pub record Replies (before : List ℕ) (frames : List Frame) (end : ReplyEnd)
 
 -- what the client doesn't take: a ReadyForQuery that it was to get, or a part of a frame, or what
 -- frames were whole
-abbrev pub IsForClient : List ℕ → Type 0
-IsForClient begun = (begun ≡ [])
-    ⊎ ((kind : ℕ) × (size : ℕ) × (body : List ℕ) × IsBegun kind size body
+abbrev pub IsForClient : ℕ → List ℕ → Type 0
+IsForClient limit begun = (begun ≡ [])
+    ⊎ ((kind : ℕ) × (size : ℕ) × (body : List ℕ) × IsBegun limit kind size body
     × (begun ≡ head_text kind size ++ body))
     ⊎ ((status : ℕ) × (status_of status ≡ Unknown → ⊥) × (begun ≡ ready_text status))
 
@@ -131,15 +131,15 @@ abbrev pub EndsBy : ErrorCode → Stayed → Type 0
 EndsBy code outcome = (reply : List ℕ) × IsError code reply × (outcome ≡ End reply)
 
 -- the outcome of a stay that ends with a reply
-abbrev pub EndsStay : ReplyEnd → Stayed → Type 0
-EndsStay (Ready status after) outcome = ready_outcome (status_of status) after outcome
-EndsStay (Unclear status after) outcome =
+abbrev pub EndsStay : ℕ → ReplyEnd → Stayed → Type 0
+EndsStay limit (Ready status after) outcome = ready_outcome (status_of status) after outcome
+EndsStay limit (Unclear status after) outcome =
     (status_of status ≡ Unknown) × EndsBy ConnectionFailure outcome
-EndsStay (Unfit kind size after) outcome = (code : ErrorCode) × IsHead kind size
+EndsStay limit (Unfit kind size after) outcome = (code : ErrorCode) × IsHead limit kind size
     × (link_message kind size ≡ Refused code) × EndsBy code outcome
-EndsStay (Faulty rest fault) outcome =
-    (fault_at rest ≡ Some fault) × EndsBy ConnectionFailure outcome
-EndsStay (Lost rest) outcome = (BeginsNoHead rest ⊎ (rest ≡ head_text 90 5))
-    × (fault_at rest ≡ None) × EndsBy ConnectionFailure outcome
-EndsStay (Cut kind size body) outcome = IsBegun kind size body × (outcome ≡ End [])
-EndsStay (Untold begun after) outcome = IsForClient begun × (outcome ≡ End [])
+EndsStay limit (Faulty rest fault) outcome =
+    (fault_at limit rest ≡ Some fault) × EndsBy ConnectionFailure outcome
+EndsStay limit (Lost rest) outcome = (BeginsNoHead limit rest ⊎ (rest ≡ head_text 90 5))
+    × (fault_at limit rest ≡ None) × EndsBy ConnectionFailure outcome
+EndsStay limit (Cut kind size body) outcome = IsBegun limit kind size body × (outcome ≡ End [])
+EndsStay limit (Untold begun after) outcome = IsForClient limit begun × (outcome ≡ End [])

@@ -91,34 +91,36 @@ pub record Gets (pass : PassRecord) (database : ℕ) (link : LinkRecord) (old ne
   pub moves : Moves nothing old a_lease new
 
 -- A request was carried over a stream of a link, which was handed in by how the stay there ended.
-pub record Carries {T : Type 0} (wrote gave : Effect T) (link : LinkRecord) (request kept : List ℕ)
+pub record Carries {T : Type 0} (limit : ℕ) (wrote gave : Effect T) (link : LinkRecord)
+    (request kept : List ℕ)
     (stayed : Stayed) (calls : List Call) (left : List ℕ) (old new : CallerView) : Type 0 where
   pub stream : T
   pub after : T
   pub stay : SomeCalls wrote gave stream after
-      (λ on_link. Stay request [] kept on_link calls stayed left)
+      (λ on_link. Stay limit request [] kept on_link calls stayed left)
   pub told : Tells (handed_in stayed link) old new
 
 -- A request was dealt with so. `kept` is what was read of the client before, the calls are those on
 -- its stream, and `left` is what is kept of its input then.
-abbrev pub Comes : {T : Type 0} → Effect T → Effect T → PassRecord → ℕ → List ℕ → Fate
+abbrev pub Comes : {T : Type 0} → ℕ → Effect T → Effect T → PassRecord → ℕ → List ℕ → Fate
     → Option (List ℕ) → List ℕ → List Call → List ℕ → CallerView → CallerView → Type 0
-Comes wrote gave pass database request (Carried link stayed) end kept calls left old new =
+Comes limit wrote gave pass database request (Carried link stayed) end kept calls left old new =
     (got : CallerView) × Gets pass database link old got
-    × Carries wrote gave link request kept stayed calls left got new
-Comes wrote gave pass database request (Spoilt link) end kept calls left old new =
+    × Carries limit wrote gave link request kept stayed calls left got new
+Comes limit wrote gave pass database request (Spoilt link) end kept calls left old new =
     (got : CallerView) × Gets pass database link old got × Tells (call.Close link) got new
     × (calls ≡ []) × (left ≡ kept)
-Comes wrote gave pass database request Cancelled end kept calls left old new =
+Comes limit wrote gave pass database request Cancelled end kept calls left old new =
     WasAnswered pass acquire.Cancelled new × TellsCancelled end calls × (left ≡ kept)
-Comes wrote gave pass database request (Refused code) end kept calls left old new =
+Comes limit wrote gave pass database request (Refused code) end kept calls left old new =
     IsDenied pass code new × (calls ≡ []) × (left ≡ kept)
-Comes wrote gave pass database request Dropped end kept calls left old new =
+Comes limit wrote gave pass database request Dropped end kept calls left old new =
     (calls ≡ []) × (left ≡ kept)
 
 -- The client's next request was read, and this came of it: the session goes on, or ends, and this
 -- is written then.
-pub record IsRequest {T : Type 0} (wrote gave : Effect T) (pass : PassRecord) (database : ℕ)
+pub record IsRequest {T : Type 0} (limit : ℕ) (wrote gave : Effect T) (pass : PassRecord)
+    (database : ℕ)
     (end : Option (List ℕ)) (kept : List ℕ) (calls : List Call) (left : List ℕ)
     (old new : CallerView) : Type 0 where
   pub asks : List Call
@@ -126,38 +128,38 @@ pub record IsRequest {T : Type 0} (wrote gave : Effect T) (pass : PassRecord) (d
   pub calls_are : calls ≡ asks ++ rest
   pub request : List ℕ
   pub behind : List ℕ
-  pub asked : AsksNext kept asks (Ok request) behind
+  pub asked : AsksNext limit kept asks (Ok request) behind
   pub fate : Fate
-  pub comes : Comes wrote gave pass database request fate end behind rest left old new
+  pub comes : Comes limit wrote gave pass database request fate end behind rest left old new
   pub ends : EndsWith fate end
 
 -- The client leaves before another request was whole, and this is written then.
-abbrev pub IsLeft : List ℕ → List ℕ → List Call → List ℕ → CallerView → CallerView → Type 0
-IsLeft reply kept calls left old new =
-    (leaving : Leaving) × Leaves leaving kept calls reply left × (new ≡ old)
+abbrev pub IsLeft : ℕ → List ℕ → List ℕ → List Call → List ℕ → CallerView → CallerView → Type 0
+IsLeft limit reply kept calls left old new =
+    (leaving : Leaving) × Leaves limit leaving kept calls reply left × (new ≡ old)
 
 -- a session goes on by the client's next request; or ends, by that or because the client leaves
-abbrev pub Serves : {T : Type 0} → Effect T → Effect T → PassRecord → ℕ → Option (List ℕ)
+abbrev pub Serves : {T : Type 0} → ℕ → Effect T → Effect T → PassRecord → ℕ → Option (List ℕ)
     → List ℕ → List Call → List ℕ → CallerView → CallerView → Type 0
-Serves wrote gave pass database None kept calls left old new =
-    IsRequest wrote gave pass database None kept calls left old new
-Serves wrote gave pass database (Some reply) kept calls left old new =
-    IsRequest wrote gave pass database (Some reply) kept calls left old new
-    ⊎ IsLeft reply kept calls left old new
+Serves limit wrote gave pass database None kept calls left old new =
+    IsRequest limit wrote gave pass database None kept calls left old new
+Serves limit wrote gave pass database (Some reply) kept calls left old new =
+    IsRequest limit wrote gave pass database (Some reply) kept calls left old new
+    ⊎ IsLeft limit reply kept calls left old new
 
 -- that many requests, one after another, with each of which the session goes on
-abbrev pub Requests : {T : Type 0} → Effect T → Effect T → PassRecord → ℕ → List (List Call)
+abbrev pub Requests : {T : Type 0} → ℕ → Effect T → Effect T → PassRecord → ℕ → List (List Call)
     → List ℕ → List Call → List ℕ → CallerView → CallerView → Type 0
-Requests wrote gave pass database [] kept calls left old new =
+Requests limit wrote gave pass database [] kept calls left old new =
     (calls ≡ []) × (left ≡ kept) × (new ≡ old)
-Requests wrote gave pass database (first ∷ others) kept calls left old new =
+Requests limit wrote gave pass database (first ∷ others) kept calls left old new =
     (rest : List Call) × (calls ≡ first ++ rest) × (behind : List ℕ) × (between : CallerView)
-    × Serves wrote gave pass database None kept first behind old between
-    × Requests wrote gave pass database others behind rest left between new
+    × Serves limit wrote gave pass database None kept first behind old between
+    × Requests limit wrote gave pass database others behind rest left between new
 
 -- A session of a client with a pass, which took its greeting, up to its end, at which this is to be
 -- written.
-pub record GreetedSession {T : Type 0} (wrote gave : Effect T) (reports : List Report)
+pub record GreetedSession {T : Type 0} (limit : ℕ) (wrote gave : Effect T) (reports : List Report)
     (pass : PassRecord) (database : ℕ) (reply kept : List ℕ) (calls : List Call) (left : List ℕ)
     (old new : CallerView) : Type 0 where
   pub greeting : List Call
@@ -168,14 +170,14 @@ pub record GreetedSession {T : Type 0} (wrote gave : Effect T) (reports : List R
   pub each : List (List Call)
   pub behind : List ℕ
   pub between : CallerView
-  pub requests : Requests wrote gave pass database each kept served behind old between
-  pub ends : Serves wrote gave pass database (Some reply) behind last left between new
+  pub requests : Requests limit wrote gave pass database each kept served behind old between
+  pub ends : Serves limit wrote gave pass database (Some reply) behind last left between new
 
 -- the session of a client with a pass, whether it took its greeting or not
-abbrev pub Stays : {T : Type 0} → Effect T → Effect T → List Report → PassRecord → ℕ → List ℕ
+abbrev pub Stays : {T : Type 0} → ℕ → Effect T → Effect T → List Report → PassRecord → ℕ → List ℕ
     → List ℕ → List Call → List ℕ → CallerView → CallerView → Type 0
-Stays wrote gave reports pass database reply kept calls left old new =
-    GreetedSession wrote gave reports pass database reply kept calls left old new
+Stays limit wrote gave reports pass database reply kept calls left old new =
+    GreetedSession limit wrote gave reports pass database reply kept calls left old new
     ⊎ (Greets reports pass.key (Some reply) calls × (left ≡ kept) × (new ≡ old))
 
 -- the node was asked for a slot for a client of this database, with this secret and a key of this
@@ -186,7 +188,7 @@ Joins database secret kind answer old new =
 
 -- A client that got a slot was served, and gave its pass back. After that it was written what it is
 -- to read at the end.
-pub record HasServed {T : Type 0} (wrote gave : Effect T) (reports : List Report)
+pub record HasServed {T : Type 0} (limit : ℕ) (wrote gave : Effect T) (reports : List Report)
     (database secret : ℕ) (kind : Kind) (kept : List ℕ) (calls : List Call) (left : List ℕ)
     (old new : CallerView) : Type 0 where
   pub pass : PassRecord
@@ -197,31 +199,31 @@ pub record HasServed {T : Type 0} (wrote gave : Effect T) (reports : List Report
   pub calls_are : calls ≡ served ++ last
   pub reply : List ℕ
   pub done : CallerView
-  pub stays : Stays wrote gave reports pass database reply kept served left joined done
+  pub stays : Stays limit wrote gave reports pass database reply kept served left joined done
   pub leaves : Moves a_pass done nothing new
   pub told : Sends reply last
 
 -- A client was served from its login to its end, or refused since the node gave it no slot.
-abbrev pub ServesClient : {T : Type 0} → Effect T → Effect T → List Report → ℕ → ℕ → Kind
+abbrev pub ServesClient : {T : Type 0} → ℕ → Effect T → Effect T → List Report → ℕ → ℕ → Kind
     → List ℕ → List Call → List ℕ → CallerView → CallerView → Type 0
-ServesClient wrote gave reports database secret kind kept calls left old new =
-    HasServed wrote gave reports database secret kind kept calls left old new
+ServesClient limit wrote gave reports database secret kind kept calls left old new =
+    HasServed limit wrote gave reports database secret kind kept calls left old new
     ⊎ ((refusal : JoinRefusal) × Joins database secret kind (Err refusal) old new
     × SendsError TooManyConnections calls × (left ≡ kept))
 
 -- What comes of a request whose client asked for a link, with what came of that: the session goes
 -- on, or ends, and this is written then.
-abbrev pub ComesOf : {T : Type 0} → Effect T → Effect T → Acquired (LinkValue (Link T)) → List ℕ
+abbrev pub ComesOf : {T : Type 0} → ℕ → Effect T → Effect T → Acquired (LinkValue (Link T)) → List ℕ
     → Option (List ℕ) → List ℕ → List Call → List ℕ → CallerView → CallerView → Type 0
-ComesOf wrote gave (acquired.Lease lease) request end kept calls left old new =
+ComesOf limit wrote gave (acquired.Lease lease) request end kept calls left old new =
     ((stayed : Stayed)
-    × Carries wrote gave lease.details request kept stayed calls left old new
+    × Carries limit wrote gave lease.details request kept stayed calls left old new
     × (end ≡ end_of stayed))
     ⊎ (Tells (call.Close lease.details) old new × EndsByError ConnectionFailure end
     × (calls ≡ []) × (left ≡ kept))
-ComesOf wrote gave acquired.Cancelled request end kept calls left old new =
+ComesOf limit wrote gave acquired.Cancelled request end kept calls left old new =
     TellsCancelled end calls × (left ≡ kept) × (new ≡ old)
-ComesOf wrote gave (acquired.Refused code) request end kept calls left old new =
+ComesOf limit wrote gave (acquired.Refused code) request end kept calls left old new =
     EndsByError code end × (calls ≡ []) × (left ≡ kept) × (new ≡ old)
-ComesOf wrote gave acquired.Ended request end kept calls left old new =
+ComesOf limit wrote gave acquired.Ended request end kept calls left old new =
     (end ≡ Some []) × (calls ≡ []) × (left ≡ kept) × (new ≡ old)

@@ -33,7 +33,8 @@ asked round = request_of round.parts round.last
 
 -- The request was written to the link. After that its reply was read from there, not a byte more,
 -- and was written to the client. After that the next request was read.
-pub record IsRound (request before kept : List ℕ) (round : Round) (link client : List Call)
+pub record IsRound (limit : ℕ) (request before kept : List ℕ) (round : Round)
+    (link client : List Call)
     (left : List ℕ) : Type 0 where
   pub sends : List Call
   pub reads : List Call
@@ -42,12 +43,12 @@ pub record IsRound (request before kept : List ℕ) (round : Round) (link client
   pub asks : List Call
   pub client_is : client ≡ tells ++ asks
   pub sent : Wrote request sends
-  pub replied : Replies before round.frames (Ready round.status []) reads tells
+  pub replied : Replies limit before round.frames (Ready round.status []) reads tells
   pub in_transaction : status_of round.status ≡ InTransaction
   pub bytes : List ℕ
   pub read : Read bytes asks
   pub bytes_are : kept ++ bytes ≡ asked round ++ left
-  pub requested : Asks round.parts round.last Request
+  pub requested : Asks limit round.parts round.last Request
 
 -- how a stay ends
 pub data Ending : Type 0 where
@@ -59,32 +60,34 @@ pub data Ending : Type 0 where
   Deserted : List Frame → (status : ℕ) → Leaving → Ending
 
 -- It ends so, with a request in hand.
-abbrev pub Ends : Ending → List ℕ → List ℕ → List ℕ → List Call → List Call → Stayed → List ℕ
+abbrev pub Ends : ℕ → Ending → List ℕ → List ℕ → List ℕ → List Call → List Call → Stayed → List ℕ
     → Type 0
-Ends Unsent request before kept link client outcome left =
+Ends limit Unsent request before kept link client outcome left =
     WroteSome request link × (client ≡ []) × (left ≡ kept) × EndsBy ConnectionFailure outcome
-Ends (Replied frames end) request before kept link client outcome left =
+Ends limit (Replied frames end) request before kept link client outcome left =
     (sends : List Call) × (reads : List Call) × (link ≡ sends ++ reads)
-    × Wrote request sends × Replies before frames end reads client × EndsStay end outcome
+    × Wrote request sends × Replies limit before frames end reads client
+    × EndsStay limit end outcome
     × (left ≡ kept)
-Ends (Deserted frames status leaving) request before kept link client outcome left =
+Ends limit (Deserted frames status leaving) request before kept link client outcome left =
     (sends : List Call) × (reads : List Call) × (link ≡ sends ++ reads)
     × (tells : List Call) × (asks : List Call) × (client ≡ tells ++ asks)
-    × Wrote request sends × Replies before frames (Ready status []) reads tells
+    × Wrote request sends × Replies limit before frames (Ready status []) reads tells
     × (status_of status ≡ InTransaction)
-    × (reply : List ℕ) × Leaves leaving kept asks reply left × (outcome ≡ End reply)
+    × (reply : List ℕ) × Leaves limit leaving kept asks reply left × (outcome ≡ End reply)
 
 -- Rounds, one after another, and then the end.
-abbrev pub Runs : List Round → Ending → List ℕ → List ℕ → List ℕ → List Call → List Call → Stayed
+abbrev pub Runs : ℕ → List Round → Ending → List ℕ → List ℕ → List ℕ → List Call → List Call
+    → Stayed
     → List ℕ → Type 0
-Runs [] ending request before kept link client outcome left =
-    Ends ending request before kept link client outcome left
-Runs (round ∷ rounds) ending request before kept link client outcome left =
+Runs limit [] ending request before kept link client outcome left =
+    Ends limit ending request before kept link client outcome left
+Runs limit (round ∷ rounds) ending request before kept link client outcome left =
     (link_first : List Call) × (link_more : List Call) × (link ≡ link_first ++ link_more)
     × (client_first : List Call) × (client_more : List Call)
     × (client ≡ client_first ++ client_more) × (next : List ℕ)
-    × IsRound request before kept round link_first client_first next
-    × Runs rounds ending (asked round) [] next link_more client_more outcome left
+    × IsRound limit request before kept round link_first client_first next
+    × Runs limit rounds ending (asked round) [] next link_more client_more outcome left
 
 -- the texts of all requests
 abbrev pub to_link : List ℕ → List Round → List ℕ
@@ -141,11 +144,12 @@ IsRefusedMemory ending = ⊥
 -- A stay on a link with a request in hand. `before` is what was read of the link before, and `kept`
 -- what was read of the client; the calls are those on both streams, and `left` is what is kept of
 -- the client's input then.
-pub record Stay (request before kept : List ℕ) (link client : List Call) (outcome : Stayed)
+pub record Stay (limit : ℕ) (request before kept : List ℕ) (link client : List Call)
+    (outcome : Stayed)
     (left : List ℕ) : Type 0 where
   pub rounds : List Round
   pub ending : Ending
-  pub runs : Runs rounds ending request before kept link client outcome left
+  pub runs : Runs limit rounds ending request before kept link client outcome left
   -- The link took the texts of all requests, or a beginning of them where one of its calls failed,
   -- and the client the texts of all frames that are passed on, likewise.
   pub sent : IsWritten (to_link request rounds) link

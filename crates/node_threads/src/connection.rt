@@ -15,7 +15,7 @@ use crate::{
     open, serve_cancel, serve_client, serve_console,
 };
 use peer_forward::{ReadCalls, WriteCalls};
-use pg_frames::Cutter;
+use pg_frames::{Cutter, MessageLimit};
 use pg_ids::{AnyKey, Kind};
 use startup::{ErrorCode, Reports};
 use std::alloc::Global;
@@ -25,12 +25,12 @@ use std::sync::Wait;
 /// asks for or on the console, or a cancel request. A database that isn't in the settings is
 /// refused. A cancel request for which no seat at the board is free is given up without an order.
 pub fn serve_connection<R, O, G, C>(
-    rt: &R,
+    context: Context<'_, R, G>,
     alloc: Global,
     calling: &mut Calling<O::Stream>,
     opener: &O,
-    gate: &G,
     reports: &Reports,
+    limit: &MessageLimit,
     client: &mut C,
 )
 where
@@ -44,7 +44,7 @@ where
     ensures served { ForSome
         (slice_get (arc_value (arc_value calling.old.node).group) (arc_value calling.old.node).place)
         (λ settings. ServesConnection
-        ⟦<O::Stream as WriteCalls>⟧.wrote ⟦<O::Stream as ReadCalls>⟧.gave C.wrote C.gave
+        limit.now ⟦<O::Stream as WriteCalls>⟧.wrote ⟦<O::Stream as ReadCalls>⟧.gave C.wrote C.gave
         (IsCarried ⟦<O::Stream as WriteCalls>⟧.wrote ⟦<O::Stream as ReadCalls>⟧.gave
         (O.cancels opener.now))
         (IsCarried ⟦<O::Stream as WriteCalls>⟧.wrote ⟦<O::Stream as ReadCalls>⟧.gave
@@ -52,13 +52,15 @@ where
         reports.now settings.databases client.old client.new calling.old.caller
         calling.new.caller) }
 {
-    let mut cutter = Cutter::new(alloc);
+    let mut cutter = Cutter::with_limit(alloc, *limit);
+    let Context { rt, gate } = context;
     let visit = Visit {
         rt,
         alloc,
         opener,
         gate,
         reports,
+        limit,
     };
     match open(rt, alloc, client, &mut cutter) {
         Opened::Session { database, kind } => {
@@ -85,6 +87,7 @@ struct Visit<'a, R, O, G> {
     opener: &'a O,
     gate: &'a G,
     reports: &'a Reports,
+    limit: &'a MessageLimit,
 }
 
 // Serves a session on the database of this name.
@@ -101,13 +104,14 @@ where
     O: Opener,
     G: Gate,
     C: WriteCalls + ReadCalls,
+    requires cutter { cutter.old.limit ≡ visit.limit.now }
     ensures balanced { Balanced calling.old.caller calling.new.caller }
     ensures served { ForSome
         (slice_get (arc_value (arc_value calling.old.node).group) (arc_value calling.old.node).place)
         (λ settings. SomeCalls C.wrote C.gave client.old client.new (λ calls. ServesAt
-        ⟦<O::Stream as WriteCalls>⟧.wrote ⟦<O::Stream as ReadCalls>⟧.gave
-        visit.entry.reports.now (place_of name.now settings.databases) kind cutter.old calls
-        cutter.new calling.old.caller calling.new.caller)) }
+        visit.entry.limit.now ⟦<O::Stream as WriteCalls>⟧.wrote ⟦<O::Stream as ReadCalls>⟧.gave
+        visit.entry.reports.now (place_of name.now settings.databases) kind cutter.old.bytes
+        calls cutter.new.bytes calling.old.caller calling.new.caller)) }
 {
     let Some(database) = calling.node.settings().find_database(name) else {
         refuse(visit.alloc, client, ErrorCode::InvalidCatalogName);
@@ -179,6 +183,7 @@ impl<'a, R, O: Opener, G> Visit<'a, R, O, G> {
         ensures shared { result.shared.now ≡ node.now.shared }
         ensures opener { result.opener.now ≡ self.now.opener.now }
         ensures reports { result.reports.now ≡ self.now.reports.now }
+        ensures limit { result.limit.now ≡ self.now.limit.now }
     {
         Service {
             rt: self.rt,
@@ -186,6 +191,7 @@ impl<'a, R, O: Opener, G> Visit<'a, R, O, G> {
             shared: &node.shared,
             settings: node.settings(),
             reports: self.reports,
+            limit: self.limit,
             admission: &node.admission,
             opener: self.opener,
             gate: self.gate,

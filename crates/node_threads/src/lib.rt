@@ -18,7 +18,10 @@ pub use connection::serve_connection;
 pub use desk::{Desk, DeskCall, ListDesk, LockDesk, RequestDesk, Requested};
 pub use gate::{Gate, Open, Point};
 pub use login::{Opened, open};
-pub use node::{Admission, Calling, Entrance, Front, Node, Secrets, restart};
+pub use node::{
+    Admission, Calling, ClientCensus, Entrance, Front, LinkCensus, Node, PoolCensus, Secrets,
+    restart,
+};
 pub use opener::Opener;
 pub use service::{Context, Service};
 pub use session::{CONSOLE, Link, Stayed, serve_client, serve_console, stay, turn};

@@ -2,6 +2,7 @@
 use crate::Admission;
 use ini_config::Settings;
 use locked_node::Shared;
+use pg_frames::MessageLimit;
 use startup::Reports;
 use std::alloc::{AllocError, Global};
 
@@ -33,6 +34,8 @@ pub struct Service<'a, R, S, O, G> {
     pub settings: &'a Settings,
     /// The parameters that logins report beside those that every login has.
     pub reports: &'a Reports,
+    /// How long a message may be, of a client and of a server.
+    pub limit: &'a MessageLimit,
     /// How many clients ask for a link at a time.
     pub admission: &'a Admission,
     /// The servers and peers that the connection reaches.

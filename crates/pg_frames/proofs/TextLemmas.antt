@@ -24,10 +24,10 @@ unfolding text
 length-text f = omega (arith, length-append (big_bytes 4 (4 + length f.body)) f.body)
 
 -- what stands in a text's length field
-pub number-text : (f : Frame) (more : List ℕ) → IsFrame f
+pub number-text : (limit : ℕ) (f : Frame) (more : List ℕ) → IsFrame limit f
     → big_number 4 (drop 1 (text f ++ more)) ≡ 4 + length f.body
 unfolding text
-number-text f more is = omega (arith, is.size)
+number-text limit f more is = omega (arith, is.fits)
 
 -- the type byte comes first, and the body after the header
 text_kind : (f : Frame) (more : List ℕ) → get_or (text f ++ more) 0 0 ≡ f.kind
@@ -46,10 +46,10 @@ same_parts a b x y len e = (
 )
 
 -- one text begins a stream at most
-pub same_front : (f g : Frame) (x y : List ℕ) → IsFrame f → IsFrame g → text f ++ x ≡ text g ++ y
+pub same_front : (limit : ℕ) (f g : Frame) (x y : List ℕ) → IsFrame limit f → IsFrame limit g → text f ++ x ≡ text g ++ y
     → (f ≡ g) × (x ≡ y)
 unfolding text
-same_front f g x y is is' e =
+same_front limit f g x y is is' e =
     let n = 4 + length f.body in
     let m = 4 + length g.body in
     let b3 : n / 16777216 % 256 ≡ m / 16777216 % 256 = cc in
@@ -58,69 +58,70 @@ same_front f g x y is is' e =
     let b0 : n % 256 ≡ m % 256 = cc in
     let kinds : f.kind ≡ g.kind = cc in
     let tails : f.body ++ x ≡ g.body ++ y = cc in
-    let sizes : length f.body ≡ length g.body = omega (arith, is.size, is'.size) in
+    let sizes : length f.body ≡ length g.body = omega (arith, is.fits, is'.fits) in
     let parts = same_parts f.body g.body x y sizes tails in
     (same_frame f g kinds parts.0, parts.1)
 
 -- no fault stands at a whole header of the format
-pub fault_at_header : (kind : ℕ) (after : List ℕ) → is_type kind ≡ true → 4 ≤ length after
-    → 4 ≤ big_number 4 after → big_number 4 after ≤ 1048576 → fault_at (kind ∷ after) ≡ None
+pub fault_at_header : (limit : ℕ) (kind : ℕ) (after : List ℕ) → is_type kind ≡ true → 4 ≤ length after
+    → 4 ≤ big_number 4 after → big_number 4 after ≤ limit → fault_at limit (kind ∷ after) ≡ None
 unfolding fault_at
-fault_at_header kind after is size low high =
+fault_at_header limit kind after is size low high =
     let whole : ltb (length after) 4 ≡ false = le-ltb _ _ size in
     let not_low : ltb (big_number 4 after) 4 ≡ false = le-ltb _ _ low in
-    let not_high : ltb 1048576 (big_number 4 after) ≡ false = le-ltb _ _ high in
+    let not_high : ltb limit (big_number 4 after) ≡ false = le-ltb _ _ high in
     rw (is, whole, not_low, not_high) refl
 
 -- the faults, each under its own tests
-pub fault_at_type : (kind : ℕ) (after : List ℕ) → is_type kind ≡ false
-    → fault_at (kind ∷ after) ≡ Some BadType
+pub fault_at_type : (limit : ℕ) (kind : ℕ) (after : List ℕ) → is_type kind ≡ false
+    → fault_at limit (kind ∷ after) ≡ Some BadType
 unfolding fault_at
-fault_at_type kind after is = rw is refl
+fault_at_type limit kind after is = rw is refl
 
-pub fault_at_short : (kind : ℕ) (after : List ℕ) → is_type kind ≡ true → length after < 4
-    → fault_at (kind ∷ after) ≡ None
+pub fault_at_short : (limit : ℕ) (kind : ℕ) (after : List ℕ) → is_type kind ≡ true → length after < 4
+    → fault_at limit (kind ∷ after) ≡ None
 unfolding fault_at
-fault_at_short kind after is short =
+fault_at_short limit kind after is short =
     let test : ltb (length after) 4 ≡ true = lt-ltb _ _ short in
     rw (is, test) refl
 
-pub fault_at_low : (kind : ℕ) (after : List ℕ) → is_type kind ≡ true → 4 ≤ length after
-    → big_number 4 after < 4 → fault_at (kind ∷ after) ≡ Some BadLength
+pub fault_at_low : (limit : ℕ) (kind : ℕ) (after : List ℕ) → is_type kind ≡ true → 4 ≤ length after
+    → big_number 4 after < 4 → fault_at limit (kind ∷ after) ≡ Some BadLength
 unfolding fault_at
-fault_at_low kind after is size low =
+fault_at_low limit kind after is size low =
     let whole : ltb (length after) 4 ≡ false = le-ltb _ _ size in
     let test : ltb (big_number 4 after) 4 ≡ true = lt-ltb _ _ low in
     rw (is, whole, test) refl
 
-pub fault_at_high : (kind : ℕ) (after : List ℕ) → is_type kind ≡ true → 4 ≤ length after
-    → 1048576 < big_number 4 after → fault_at (kind ∷ after) ≡ Some TooLong
+pub fault_at_high : (limit : ℕ) (kind : ℕ) (after : List ℕ) → is_type kind ≡ true → 4 ≤ length after
+    → 4 ≤ big_number 4 after → limit < big_number 4 after → fault_at limit (kind ∷ after) ≡ Some TooLong
 unfolding fault_at
-fault_at_high kind after is size high =
+fault_at_high limit kind after is size low high =
     let whole : ltb (length after) 4 ≡ false = le-ltb _ _ size in
-    let not_low : ltb (big_number 4 after) 4 ≡ false = le-ltb _ _ (omega arith) in
-    let test : ltb 1048576 (big_number 4 after) ≡ true = lt-ltb _ _ high in
+    let not_low : ltb (big_number 4 after) 4 ≡ false = le-ltb _ _ low in
+    let test : ltb limit (big_number 4 after) ≡ true = lt-ltb _ _ high in
     rw (is, whole, not_low, test) refl
 
 -- the front of some bytes, by the tests that judge it
-pub data Front (kind : ℕ) (after : List ℕ) : Type 0 where
-  is_no_type : is_type kind ≡ false → Front kind after
-  is_short : is_type kind ≡ true → length after < 4 → Front kind after
-  is_low : is_type kind ≡ true → 4 ≤ length after → big_number 4 after < 4 → Front kind after
-  is_high : is_type kind ≡ true → 4 ≤ length after → 1048576 < big_number 4 after → Front kind after
+pub data Front (limit kind : ℕ) (after : List ℕ) : Type 0 where
+  is_no_type : is_type kind ≡ false → Front limit kind after
+  is_short : is_type kind ≡ true → length after < 4 → Front limit kind after
+  is_low : is_type kind ≡ true → 4 ≤ length after → big_number 4 after < 4 → Front limit kind after
+  is_high : is_type kind ≡ true → 4 ≤ length after → 4 ≤ big_number 4 after
+      → limit < big_number 4 after → Front limit kind after
   is_good : is_type kind ≡ true → 4 ≤ length after → 4 ≤ big_number 4 after
-      → big_number 4 after ≤ 1048576 → Front kind after
+      → big_number 4 after ≤ limit → Front limit kind after
 
-pub front_is : (kind : ℕ) (after : List ℕ) → Front kind after
-front_is kind after =
+pub front_is : (limit kind : ℕ) (after : List ℕ) → Front limit kind after
+front_is limit kind after =
     elim (cases_Bool (is_type kind)) [
       | inr is_not ↦ is_no_type is_not
       | inl is ↦ elim (cases_lt (length after) 4) [
         | inl few ↦ is_short is few
         | inr whole ↦ elim (cases_lt (big_number 4 after) 4) [
           | inl few ↦ is_low is whole few
-          | inr enough ↦ elim (cases_lt 1048576 (big_number 4 after)) [
-            | inl many ↦ is_high is whole many
+          | inr enough ↦ elim (cases_lt limit (big_number 4 after)) [
+            | inl many ↦ is_high is whole enough many
             | inr fits ↦ is_good is whole enough fits
           ]
         ]
@@ -128,29 +129,29 @@ front_is kind after =
     ]
 
 -- no fault stands where a frame's text does
-pub fault_at-text : (f : Frame) (more : List ℕ) → IsFrame f → fault_at (text f ++ more) ≡ None
+pub fault_at-text : (limit : ℕ) (f : Frame) (more : List ℕ) → IsFrame limit f → fault_at limit (text f ++ more) ≡ None
 unfolding text
-fault_at-text f more is =
-    fault_at_header f.kind _ (is.type_byte) (omega arith) (omega (arith, is.size))
-    (omega (arith, is.size))
+fault_at-text limit f more is =
+    fault_at_header limit f.kind _ (is.type_byte) (omega arith) (omega (arith, is.fits))
+    (omega (arith, is.size, is.fits))
 
 -- where a fault stands, no frame's text does
-pub no_frame-fault : (bytes : List ℕ) (fault : FrameError) → fault_at bytes ≡ Some fault
-    → BeginsNoFrame bytes
-no_frame-fault bytes fault stands f more is e =
-    let none : fault_at bytes ≡ None = ap fault_at e ∙ fault_at-text f more is in cc
+pub no_frame-fault : (limit : ℕ) (bytes : List ℕ) (fault : FrameError) → fault_at limit bytes ≡ Some fault
+    → BeginsNoFrame limit bytes
+no_frame-fault limit bytes fault stands f more is e =
+    let none : fault_at limit bytes ≡ None = ap (fault_at limit) e ∙ fault_at-text limit f more is in cc
 
 -- fewer bytes than a header begin no frame
-pub no_frame-short : (bytes : List ℕ) → length bytes < 5 → BeginsNoFrame bytes
-no_frame-short bytes short f more is e =
+pub no_frame-short : (limit : ℕ) (bytes : List ℕ) → length bytes < 5 → BeginsNoFrame limit bytes
+no_frame-short limit bytes short f more is e =
     omega (arith, ap length e, length-append (text f) more, length-text f)
 
 -- fewer bytes than the length field says begin no frame
-pub no_frame-part : (bytes : List ℕ) → length bytes < 1 + big_number 4 (drop 1 bytes)
-    → BeginsNoFrame bytes
-no_frame-part bytes part f more is e =
+pub no_frame-part : (limit : ℕ) (bytes : List ℕ) → length bytes < 1 + big_number 4 (drop 1 bytes)
+    → BeginsNoFrame limit bytes
+no_frame-part limit bytes part f more is e =
     let number : big_number 4 (drop 1 bytes) ≡ 4 + length f.body =
-    ap (λ xs. big_number 4 (drop 1 xs)) e ∙ number-text f more is in
+    ap (λ xs. big_number 4 (drop 1 xs)) e ∙ number-text limit f more is in
     omega (arith, part, number, ap length e, length-append (text f) more, length-text f)
 
 -- the frame at the front, with a body of this many bytes
@@ -201,12 +202,12 @@ front_text bytes size small fits number =
     ∙ sym (text_is f (drop (5 + size) bytes))
 
 -- what the first bytes of a frame's text are
-pub front_reads : (bytes more : List ℕ) (f : Frame) → IsFrame f → bytes ≡ text f ++ more
+pub front_reads : (limit : ℕ) (bytes more : List ℕ) (f : Frame) → IsFrame limit f → bytes ≡ text f ++ more
     → (get_or bytes 0 0 ≡ f.kind) × (big_number 4 (drop 1 bytes) ≡ 4 + length f.body)
     × (take (length f.body) (drop 5 bytes) ≡ f.body) × (5 + length f.body ≤ length bytes)
-front_reads bytes more f is e = (
+front_reads limit bytes more f is e = (
   ap (λ xs. get_or xs 0 0) e ∙ text_kind f more,
-  ap (λ xs. big_number 4 (drop 1 xs)) e ∙ number-text f more is,
+  ap (λ xs. big_number 4 (drop 1 xs)) e ∙ number-text limit f more is,
   ap (λ xs. take (length f.body) (drop 5 xs)) e ∙ text_body f more,
   omega (arith, ap length e, length-append (text f) more, length-text f),
 )

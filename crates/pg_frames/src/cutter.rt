@@ -1,12 +1,12 @@
 //! A stream of frames that comes in any pieces.
-ghost use Rattle.std.specs.Prelude.{◌≡◌, ◌≢◌, ◌+◌, ◌-◌, ◌<◌, ◌≤◌, ℕ, ◌++◌, [], length, take, drop, slice_index, Ok, Err, Some, None, MatchOption, IfOk, IfSome, OnOk, OnErr, IsOkUnless};
+ghost use Rattle.std.specs.Prelude.{◌≡◌, ◌≢◌, ◌+◌, ◌-◌, ◌<◌, ◌≤◌, ℕ, ◌++◌, [], length, take, drop, slice_index, Ok, Err, Some, None, IfOk, IfSome, OnOk, OnErr, IsOkUnless};
 ghost use Rattle.byteorder.specs.Endian.{big_number};
 ghost use Rattle.pg_frames.specs.FrameText.{text, IsFrame, BeginsNoFrame, IsJudged, HasFault};
-ghost use Rattle.pg_frames.specs.Ready.{IsReady};
+ghost use Rattle.pg_frames.specs.Pending.{nothing, with_piece};
 
 use crate::header::HEADER_LEN;
 use crate::scan::{fault_after, whole_len};
-use crate::{Body, Frame, FrameError};
+use crate::{Body, Frame, FrameError, MAX_MESSAGE, MessageLimit};
 use byteorder::{BigEndian, ByteOrder};
 use bytes::BytesMut;
 use std::alloc::{AllocError, Global};
@@ -18,10 +18,12 @@ const KEPT: usize = 16_384;
 // How many bytes of memory it keeps at most for the next frame's body.
 const KEPT_BODY: usize = 1_024;
 
-/// What was fed of a stream and isn't handed out yet. In contracts it is these bytes.
+/// What was fed of a stream and isn't handed out yet. In contracts it is a `Pending`: the limit of
+/// a message, and these bytes.
 #[derive(Drop)]
 pub struct Cutter {
     alloc: Global,
+    limit: MessageLimit,
     bytes: BytesMut,
     // How many of the bytes are whole frames, so that no byte is judged twice.
     ready: usize,
@@ -30,23 +32,31 @@ pub struct Cutter {
 }
 
 impl Model for Cutter {
-    ghost use Rattle.std.specs.Prelude.{ℕ, List};
+    ghost use Rattle.pg_frames.specs.Pending.{Pending};
     ghost use Rattle.pg_frames.specs.Ready.{IsReady};
 
-    ghost Value = { List ℕ };
+    ghost Value = { Pending };
 
-    ghost view = { λ c. c.bytes.items };
+    ghost view = { λ c. record { limit = c.limit; bytes = c.bytes.items } };
 
-    ghost invariant = { λ c. IsReady c.bytes.items c.ready };
+    ghost invariant = { λ c. IsReady c.limit c.bytes.items c.ready };
 }
 
 impl Cutter {
-    /// A cutter of a stream that is at its start. It allocates nothing.
+    /// A cutter of a stream that is at its start. Its limit is `MAX_MESSAGE`. It allocates nothing.
     pub fn new(alloc: Global) -> Cutter
-        ensures { result ≡ [] }
+        ensures { result ≡ nothing MAX_MESSAGE }
+    {
+        Cutter::with_limit(alloc, MessageLimit::DEFAULT)
+    }
+
+    /// The same with another limit.
+    pub fn with_limit(alloc: Global, limit: MessageLimit) -> Cutter
+        ensures { result ≡ nothing limit }
     {
         Cutter {
             alloc,
+            limit,
             bytes: BytesMut::new(alloc),
             ready: 0,
             spare: Vec::new(alloc),
@@ -57,14 +67,15 @@ impl Cutter {
     /// a fault was returned, it is returned from then on, and nothing more is taken.
     pub fn feed(&mut self, piece: &[u8]) -> Result<(), FrameError>
         // The fault is the one at the front of the rest of what was fed, unless memory runs out.
-        ensures judged { IsJudged (self.old ++ piece.now) result }
-        ensures ok { OnOk result (self.new ≡ self.old ++ piece.now) }
+        ensures judged { IsJudged self.old.limit (self.old.bytes ++ piece.now) result }
+        ensures ok { OnOk result (self.new ≡ with_piece self.old piece.now) }
         ensures memory { result ≡ Err FrameError.Memory → self.new ≡ self.old }
         // A first fault is taken with its piece, and stays.
-        ensures first { HasFault self.old None → result ≢ Err FrameError.Memory
-            → self.new ≡ self.old ++ piece.now }
-        ensures ever { (fault : FrameError) → HasFault self.old (Some fault)
+        ensures first { HasFault self.old.limit self.old.bytes None → result ≢ Err FrameError.Memory
+            → self.new ≡ with_piece self.old piece.now }
+        ensures ever { (fault : FrameError) → HasFault self.old.limit self.old.bytes (Some fault)
             → (result ≡ Err fault) × (self.new ≡ self.old) }
+        ensures limit { self.new.limit ≡ self.old.limit }
     {
         if let Some(fault) = self.fault() {
             return Err(fault);
@@ -81,21 +92,21 @@ impl Cutter {
     /// The fault at the front of the rest of what was fed.
     #[inline]
     pub fn fault(&self) -> Option<FrameError>
-        ensures stands { HasFault self.now result }
-        ensures bytes { (i : ℕ) → slice_index self.now i < 256 }
+        ensures stands { HasFault self.now.limit self.now.bytes result }
+        ensures bytes { (i : ℕ) → slice_index self.now.bytes i < 256 }
     {
-        fault_after(self.bytes.as_slice(), self.ready)
+        fault_after(self.limit, self.bytes.as_slice(), self.ready)
     }
 
     /// Takes the next piece of a stream without a fault so far. It isn't judged yet.
     pub fn append(&mut self, piece: &[u8]) -> Result<(), AllocError>
-        requires sound { HasFault self.old None }
-        ensures ok { OnOk result (self.new ≡ self.old ++ piece.now) }
+        requires sound { HasFault self.old.limit self.old.bytes None }
+        ensures ok { OnOk result (self.new ≡ with_piece self.old piece.now) }
         ensures memory { OnErr result (self.new ≡ self.old) }
     {
         self.bytes.extend_from_slice(piece)?;
         let (_, rest) = self.bytes.as_slice().split_at(self.ready);
-        self.ready += whole_len(rest);
+        self.ready += whole_len(self.limit, rest);
         Ok(())
     }
 
@@ -103,8 +114,11 @@ impl Cutter {
     /// out, at most 16,384 bytes of memory are kept.
     pub fn next(&mut self) -> Result<Option<Frame>, FrameError>
         ensures frame { IfOk result (λ found. IfSome found
-            (λ frame. IsFrame frame × (self.old ≡ text frame ++ self.new))) }
-        ensures none { result ≡ Ok None → BeginsNoFrame self.old × (self.new ≡ self.old) }
+            (λ frame. IsFrame self.old.limit frame
+            × (self.old.bytes ≡ text frame ++ self.new.bytes))) }
+        ensures limit { self.new.limit ≡ self.old.limit }
+        ensures none { result ≡ Ok None → BeginsNoFrame self.old.limit self.old.bytes
+            × (self.new ≡ self.old) }
         ensures memory { OnErr result (self.new ≡ self.old) }
         ensures only_memory { IsOkUnless result FrameError.Memory }
     {
@@ -132,14 +146,14 @@ impl Cutter {
 
     /// The bytes that were fed and aren't handed out.
     pub fn pending(&self) -> &[u8]
-        ensures { result.now ≡ self.now }
+        ensures { result.now ≡ self.now.bytes }
     {
         self.bytes.as_slice()
     }
 
     /// How many bytes it has memory for, those that aren't handed out among them.
     pub fn capacity(&self) -> usize
-        ensures { length self.now ≤ result }
+        ensures { length self.now.bytes ≤ result }
     {
         self.bytes.capacity()
     }

@@ -10,8 +10,8 @@ pub enum FrameError {
     /// A length field below 4: it counts itself.
     #[error("a length field below 4")]
     BadLength = 10,
-    /// A length field above 1,048,576.
-    #[error("a length field above 1048576")]
+    /// A length field above the limit.
+    #[error("a length field above the limit")]
     TooLong = 11,
     /// A type byte that is no ASCII letter or digit. It is judged before the length.
     #[error("a type byte that is no letter or digit")]

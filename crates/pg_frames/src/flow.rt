@@ -10,15 +10,16 @@ ghost use Rattle.pg_frames.specs.Passage.{start, fed, forgotten, after, answer_o
 use crate::buffer::{Buffer, CAPACITY};
 use crate::header::{FIELD_LEN, HEADER_LEN, Header, header_at};
 use crate::scan::fault_in;
-use crate::{FrameError, Piece};
+use crate::{FrameError, MAX_MESSAGE, MessageLimit, Piece};
 use std::alloc::Global;
 use std::marker::Model;
 
 /// What was fed of a stream and isn't handed out yet, and what was handed out and isn't forgotten
-/// yet. In contracts it is a `Passage`: these bytes, and how many more belong to the body whose
-/// head was handed out.
+/// yet. In contracts it is a `Passage`: the limit of a message, these bytes, and how many more
+/// belong to the body whose head was handed out.
 #[derive(Drop)]
 pub struct Flow {
+    limit: MessageLimit,
     buffer: Buffer,
     left: Option<usize>,
 }
@@ -31,6 +32,7 @@ impl Model for Flow {
     ghost use Rattle.pg_frames.specs.Buffer.{kept, unread};
 
     ghost view = { λ flow. record {
+      limit = flow.limit;
       passed = kept flow.buffer;
       left = flow.left;
       bytes = unread flow.buffer;
@@ -39,15 +41,27 @@ impl Model for Flow {
 
 impl Flow {
     /// A flow of a stream that is at its start. It has room for 16,384 bytes, and takes no more
-    /// memory from then on.
+    /// memory from then on. Its limit is `MAX_MESSAGE`.
     pub fn new(alloc: Global) -> Result<Flow, FrameError>
-        ensures ok { IfOk result (λ flow. flow ≡ start) }
+        ensures ok { IfOk result (λ flow. flow ≡ start MAX_MESSAGE) }
+        ensures only_memory { IsOkUnless result FrameError.Memory }
+    {
+        Flow::with_limit(alloc, MessageLimit::DEFAULT)
+    }
+
+    /// The same with another limit. It needs no more memory for longer messages.
+    pub fn with_limit(alloc: Global, limit: MessageLimit) -> Result<Flow, FrameError>
+        ensures ok { IfOk result (λ flow. flow ≡ start limit) }
         ensures only_memory { IsOkUnless result FrameError.Memory }
     {
         let Ok(buffer) = Buffer::new(alloc) else {
             return Err(FrameError::Memory);
         };
-        Ok(Flow { buffer, left: None })
+        Ok(Flow {
+            limit,
+            buffer,
+            left: None,
+        })
     }
 
     /// How many bytes may be fed now.
@@ -55,8 +69,8 @@ impl Flow {
         ensures room { result + (length self.now.passed + length self.now.bytes) ≡ 16384 }
         // Where all was handed out and there is no fault, at most four bytes are kept beside those
         // that aren't forgotten.
-        ensures drained { HasNoNext self.now.left self.now.bytes
-            → HasFault (after self.now) None → 16380 ≤ result + length self.now.passed }
+        ensures drained { HasNoNext self.now.limit self.now.left self.now.bytes
+            → HasFault self.now.limit (after self.now) None → 16380 ≤ result + length self.now.passed }
     {
         room_beside(self.buffer.kept(), self.buffer.as_slice())
     }
@@ -67,11 +81,11 @@ impl Flow {
     pub fn feed(&mut self, piece: &[u8]) -> Result<(), FrameError>
         requires { length self.old.passed + (length self.old.bytes + length piece.now) ≤ 16384 }
         // The fault is the one at the front of the rest of what was fed.
-        ensures judged { (fault : _) × HasFault (after (fed self.old piece.now)) fault
+        ensures judged { (fault : _) × HasFault self.old.limit (after (fed self.old piece.now)) fault
             × (result ≡ answer_of fault) }
         // A first fault is taken with its piece, and stays.
-        ensures taken { HasFault (after self.old) None → self.new ≡ fed self.old piece.now }
-        ensures ever { (fault : FrameError) → HasFault (after self.old) (Some fault)
+        ensures taken { HasFault self.old.limit (after self.old) None → self.new ≡ fed self.old piece.now }
+        ensures ever { (fault : FrameError) → HasFault self.old.limit (after self.old) (Some fault)
             → self.new ≡ self.old }
     {
         if let Some(fault) = self.fault() {
@@ -88,7 +102,7 @@ impl Flow {
     /// isn't judged yet.
     pub fn append(&mut self, piece: &[u8])
         requires room { length self.old.passed + (length self.old.bytes + length piece.now) ≤ 16384 }
-        requires sound { HasFault (after self.old) None }
+        requires sound { HasFault self.old.limit (after self.old) None }
         ensures { self.new ≡ fed self.old piece.now }
     {
         self.buffer.append(piece);
@@ -96,11 +110,11 @@ impl Flow {
 
     /// The fault at the front of the rest of what was fed.
     pub fn fault(&self) -> Option<FrameError>
-        ensures { HasFault (after self.now) result }
+        ensures { HasFault self.now.limit (after self.now) result }
     {
         let bytes = self.buffer.as_slice();
         let body = self.left.unwrap_or(0).min(bytes.len());
-        fault_in(bytes.split_at(body).1)
+        fault_in(self.limit, bytes.split_at(body).1)
     }
 
     /// Hands out the next piece, if one is there. A body is handed out as far as it was fed.
@@ -108,7 +122,7 @@ impl Flow {
         ensures* after_borrow { sem 𝓛 (Rests the_row self.entry (Hands self.old result)) }
     {
         let Some(left) = self.left else {
-            let header = head_in(self.buffer.as_slice())?;
+            let header = head_in(self.limit, self.buffer.as_slice())?;
             self.buffer.advance(HEADER_LEN);
             self.left = Some(header.length - FIELD_LEN);
             return Some(Piece::Head {
@@ -131,14 +145,14 @@ impl Flow {
 
     /// The head of the next frame, if no part of it was handed out and all of it is there.
     pub fn whole_frame(&self) -> Option<Header>
-        ensures none { result ≡ None → self.now.left ≡ None → BeginsNoFrame self.now.bytes }
+        ensures none { result ≡ None → self.now.left ≡ None → BeginsNoFrame self.now.limit self.now.bytes }
         ensures some { IfSome result (λ head. (self.now.left ≡ None)
-            × BeginsWith self.now.bytes head × (1 + head.length ≤ length self.now.bytes)) }
+            × BeginsWith self.now.limit self.now.bytes head × (1 + head.length ≤ length self.now.bytes)) }
     {
         if self.left.is_some() {
             return None;
         }
-        whole_in(self.buffer.as_slice())
+        whole_in(self.limit, self.buffer.as_slice())
     }
 
     /// Hands out the whole frame with this head at once.
@@ -149,8 +163,16 @@ impl Flow {
             ≡ self.old.passed ++ take (1 + head.length) self.old.bytes }
         ensures left { self.new.left ≡ None }
         ensures bytes { self.new.bytes ≡ drop (1 + head.length) self.old.bytes }
+        ensures limit { self.new.limit ≡ self.old.limit }
     {
         self.buffer.advance(1 + head.length);
+    }
+
+    /// The limit of a message.
+    pub fn limit(&self) -> MessageLimit
+        ensures { result ≡ self.now.limit }
+    {
+        self.limit
     }
 
     /// The bytes that were fed and aren't handed out.
@@ -170,7 +192,7 @@ impl Flow {
     /// Whether it is as a new one: between two frames, with nothing fed that isn't handed out and
     /// nothing handed out that isn't forgotten.
     pub fn is_at_start(&self) -> bool
-        ensures { IsTrue result ↔ (self.now ≡ start) }
+        ensures { IsTrue result ↔ (self.now ≡ start self.now.limit) }
     {
         self.left.is_none() && self.pending().is_empty() && self.passed().is_empty()
     }
@@ -194,22 +216,22 @@ fn room_beside(kept: &[u8], unread: &[u8]) -> usize
 }
 
 // The head at the front of the bytes, if its whole frame is there.
-fn whole_in(bytes: &[u8]) -> Option<Header>
-    ensures none { result ≡ None → BeginsNoFrame bytes.now }
+fn whole_in(limit: MessageLimit, bytes: &[u8]) -> Option<Header>
+    ensures none { result ≡ None → BeginsNoFrame limit bytes.now }
     ensures some { IfSome result
-        (λ head. BeginsWith bytes.now head × (1 + head.length ≤ length bytes.now)) }
+        (λ head. BeginsWith limit bytes.now head × (1 + head.length ≤ length bytes.now)) }
 {
-    match head_in(bytes) {
+    match head_in(limit, bytes) {
         Some(head) if head.length < bytes.len() => Some(head),
         _ => None,
     }
 }
 
 // The head at the front of the bytes.
-fn head_in(bytes: &[u8]) -> Option<Header>
-    ensures { MatchOption result (BeginsNoHead bytes.now) (BeginsWith bytes.now) }
+fn head_in(limit: MessageLimit, bytes: &[u8]) -> Option<Header>
+    ensures { MatchOption result (BeginsNoHead limit bytes.now) (BeginsWith limit bytes.now) }
 {
-    match header_at(bytes) {
+    match header_at(limit, bytes) {
         Ok(found) => found,
         Err(_) => None,
     }

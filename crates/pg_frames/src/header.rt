@@ -3,7 +3,7 @@ ghost use Rattle.std.specs.Prelude.{◌≡◌, ◌<◌, IfErr, IfOk, IfNone, IfS
 ghost use Rattle.pg_frames.specs.FrameText.{fault_at};
 ghost use Rattle.pg_frames.specs.Header.{IsHeader};
 
-use crate::FrameError;
+use crate::{FrameError, MessageLimit};
 use byteorder::{BigEndian, ByteOrder};
 
 /// How many bytes the length field takes. It counts them.
@@ -11,9 +11,6 @@ pub const FIELD_LEN: usize = 4;
 
 /// How many bytes the type and the length field take.
 pub const HEADER_LEN: usize = 1 + FIELD_LEN;
-
-/// The greatest length field (own).
-pub const MAX_LENGTH: usize = 1 << 20;
 
 /// The type byte and the length field of a frame of the format.
 #[derive(Clone, Copy, Debug)]
@@ -26,11 +23,11 @@ pub struct Header {
 
 /// The header at the front of the bytes, none where too few have come, or the fault there.
 #[tactic(auto, unfolding(crate::specs::FrameText::fault_at))]
-pub fn header_at(bytes: &[u8]) -> Result<Option<Header>, FrameError>
-    ensures fault { IfErr result (λ fault. fault_at bytes.now ≡ Some fault) }
-    ensures no_fault { OnOk result (fault_at bytes.now ≡ None) }
+pub fn header_at(limit: MessageLimit, bytes: &[u8]) -> Result<Option<Header>, FrameError>
+    ensures fault { IfErr result (λ fault. fault_at limit bytes.now ≡ Some fault) }
+    ensures no_fault { OnOk result (fault_at limit bytes.now ≡ None) }
     ensures short { IfOk result (λ found. IfNone found (length bytes.now < 5)) }
-    ensures header { IfOk result (λ found. IfSome found (IsHeader bytes.now)) }
+    ensures header { IfOk result (λ found. IfSome found (IsHeader limit bytes.now)) }
 {
     let Some((kind, after)) = bytes.split_first() else {
         return Ok(None);
@@ -45,7 +42,7 @@ pub fn header_at(bytes: &[u8]) -> Result<Option<Header>, FrameError>
     if length < FIELD_LEN {
         return Err(FrameError::BadLength);
     }
-    if length > MAX_LENGTH {
+    if length > limit.get() as usize {
         return Err(FrameError::TooLong);
     }
     Ok(Some(Header {

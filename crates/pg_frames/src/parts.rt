@@ -7,7 +7,7 @@ ghost use Rattle.pg_frames.specs.FrameText.{fault_at, Cuts};
 ghost use Rattle.pg_frames.specs.Passage.{HasNoNext};
 ghost use Rattle.pg_frames.specs.Parts.{HandsOut, SoFar, Drained, owned_of};
 
-use crate::{Body, Flow, FrameError, Piece};
+use crate::{Body, Flow, FrameError, MAX_MESSAGE, MessageLimit, Piece};
 use std::alloc::{AllocError, Global};
 
 /// A piece that was handed out, as data.
@@ -36,17 +36,34 @@ pub struct Parts {
     pub fault: Option<FrameError>,
 }
 
-/// Passes a stream, which comes in these pieces, through a flow, and returns what is handed out.
+/// Passes a stream, which comes in these pieces, through a flow, and returns what is handed out. The
+/// limit is `MAX_MESSAGE`.
 pub fn cut_in_parts(alloc: Global, stream: &[&[u8]]) -> Result<Parts, AllocError>
     ensures parts { IfOk result (λ parts. (frames : List Frame) × (rest : List ℕ)
-        × Cuts (flat_map (λ piece. piece.now) stream.now) frames rest
-        × HandsOut frames rest parts.pieces.items × (parts.fault ≡ fault_at rest)) }
+        × Cuts MAX_MESSAGE (flat_map (λ piece. piece.now) stream.now) frames rest
+        × HandsOut MAX_MESSAGE frames rest parts.pieces.items × (parts.fault ≡ fault_at MAX_MESSAGE rest)) }
     // It doesn't matter how the stream was cut into pieces.
     ensures only { IfOk result (λ parts. (frames : List Frame) (rest : List ℕ)
-        → Cuts (flat_map (λ piece. piece.now) stream.now) frames rest
-        → HandsOut frames rest parts.pieces.items × (fault_at rest ≡ parts.fault)) }
+        → Cuts MAX_MESSAGE (flat_map (λ piece. piece.now) stream.now) frames rest
+        → HandsOut MAX_MESSAGE frames rest parts.pieces.items × (fault_at MAX_MESSAGE rest ≡ parts.fault)) }
 {
-    let Ok(mut flow) = Flow::new(alloc) else {
+    cut_in_parts_within(alloc, MessageLimit::DEFAULT, stream)
+}
+
+/// The same with another limit.
+pub fn cut_in_parts_within(
+    alloc: Global,
+    limit: MessageLimit,
+    stream: &[&[u8]],
+) -> Result<Parts, AllocError>
+    ensures parts { IfOk result (λ parts. (frames : List Frame) × (rest : List ℕ)
+        × Cuts limit (flat_map (λ piece. piece.now) stream.now) frames rest
+        × HandsOut limit frames rest parts.pieces.items × (parts.fault ≡ fault_at limit rest)) }
+    ensures only { IfOk result (λ parts. (frames : List Frame) (rest : List ℕ)
+        → Cuts limit (flat_map (λ piece. piece.now) stream.now) frames rest
+        → HandsOut limit frames rest parts.pieces.items × (fault_at limit rest ≡ parts.fault)) }
+{
+    let Ok(mut flow) = Flow::with_limit(alloc, limit) else {
         return Err(AllocError);
     };
     let mut pieces = Vec::new(alloc);
@@ -69,11 +86,11 @@ fn take_piece(
     pieces: &mut Vec<OwnedPiece>,
     piece: &[u8],
 ) -> Result<Option<FrameError>, AllocError>
-    requires { (stream : List ℕ) × Drained stream pieces.old.items flow.old None }
-    ensures { IfOk result (λ fault. (stream : List ℕ)
-        → Drained stream pieces.old.items flow.old None
+    requires { (limit : ℕ) × (stream : List ℕ) × Drained limit stream pieces.old.items flow.old None }
+    ensures { IfOk result (λ fault. (limit : ℕ) (stream : List ℕ)
+        → Drained limit stream pieces.old.items flow.old None
         → (taken : List ℕ) × (left : List ℕ) × (piece.now ≡ taken ++ left)
-        × Drained (stream ++ taken) pieces.new.items flow.new fault
+        × Drained limit (stream ++ taken) pieces.new.items flow.new fault
         × (fault ≡ None → left ≡ [])) }
 {
     let mut rest = piece;
@@ -96,9 +113,9 @@ fn take_some(
     piece: &[u8],
 ) -> Result<Option<FrameError>, AllocError>
     requires { length flow.old.passed + (length flow.old.bytes + length piece.now) ≤ 16384 }
-    ensures { IfOk result (λ fault. (stream : List ℕ)
-        → Drained stream pieces.old.items flow.old None
-        → Drained (stream ++ piece.now) pieces.new.items flow.new fault) }
+    ensures { IfOk result (λ fault. (limit : ℕ) (stream : List ℕ)
+        → Drained limit stream pieces.old.items flow.old None
+        → Drained limit (stream ++ piece.now) pieces.new.items flow.new fault) }
 {
     let answer = flow.feed(piece);
     hand_out(alloc, flow, pieces)?;
@@ -108,8 +125,10 @@ fn take_some(
 
 // Takes what can be handed out.
 fn hand_out(alloc: Global, flow: &mut Flow, pieces: &mut Vec<OwnedPiece>) -> Result<(), AllocError>
-    ensures { OnOk result ((stream : List ℕ) → SoFar stream pieces.old.items flow.old
-        → SoFar stream pieces.new.items flow.new × HasNoNext flow.new.left flow.new.bytes) }
+    ensures { OnOk result ((limit : ℕ) (stream : List ℕ)
+        → SoFar limit stream pieces.old.items flow.old
+        → SoFar limit stream pieces.new.items flow.new
+        × HasNoNext limit flow.new.left flow.new.bytes) }
 {
     loop {
         let Some(piece) = flow.next() else {

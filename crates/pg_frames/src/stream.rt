@@ -4,7 +4,7 @@ ghost use Rattle.std.specs.List.{flat_map};
 ghost use Rattle.pg_frames.specs.declared.frame.Frame.{Frame};
 ghost use Rattle.pg_frames.specs.FrameText.{text, fault_at, IsFrame, Cuts, HasFault};
 
-use crate::{Cutter, Frame, FrameError};
+use crate::{Cutter, Frame, FrameError, MAX_MESSAGE, MessageLimit};
 use std::alloc::{AllocError, Global};
 
 /// The frames of a stream, and the fault in what follows them.
@@ -16,17 +16,33 @@ pub struct Cutting {
     pub fault: Option<FrameError>,
 }
 
-/// Cuts a stream, which comes in these pieces, into frames.
+/// Cuts a stream, which comes in these pieces, into frames. The limit is `MAX_MESSAGE`.
 pub fn cut(alloc: Global, pieces: &[&[u8]]) -> Result<Cutting, AllocError>
     ensures cut { IfOk result (λ c. (rest : List ℕ)
-        × Cuts (flat_map (λ piece. piece.now) pieces.now) c.frames.items rest
-        × (c.fault ≡ fault_at rest)) }
+        × Cuts MAX_MESSAGE (flat_map (λ piece. piece.now) pieces.now) c.frames.items rest
+        × (c.fault ≡ fault_at MAX_MESSAGE rest)) }
     // The stream has no other frames and no other fault, however it was cut into pieces.
     ensures only { IfOk result (λ c. (frames : List Frame) (rest : List ℕ)
-        → Cuts (flat_map (λ piece. piece.now) pieces.now) frames rest
-        → (frames ≡ c.frames.items) × (fault_at rest ≡ c.fault)) }
+        → Cuts MAX_MESSAGE (flat_map (λ piece. piece.now) pieces.now) frames rest
+        → (frames ≡ c.frames.items) × (fault_at MAX_MESSAGE rest ≡ c.fault)) }
 {
-    let mut cutter = Cutter::new(alloc);
+    cut_within(alloc, MessageLimit::DEFAULT, pieces)
+}
+
+/// The same with another limit.
+pub fn cut_within(
+    alloc: Global,
+    limit: MessageLimit,
+    pieces: &[&[u8]],
+) -> Result<Cutting, AllocError>
+    ensures cut { IfOk result (λ c. (rest : List ℕ)
+        × Cuts limit (flat_map (λ piece. piece.now) pieces.now) c.frames.items rest
+        × (c.fault ≡ fault_at limit rest)) }
+    ensures only { IfOk result (λ c. (frames : List Frame) (rest : List ℕ)
+        → Cuts limit (flat_map (λ piece. piece.now) pieces.now) frames rest
+        → (frames ≡ c.frames.items) × (fault_at limit rest ≡ c.fault)) }
+{
+    let mut cutter = Cutter::with_limit(alloc, limit);
     let mut frames = Vec::new(alloc);
     for piece in pieces {
         let fault = take_piece(&mut cutter, &mut frames, piece)?;
@@ -46,10 +62,12 @@ fn take_piece(
     frames: &mut Vec<Frame>,
     piece: &[u8],
 ) -> Result<Option<FrameError>, AllocError>
-    ensures { IfOk result (λ fault. HasFault cutter.old None
-        → (more : List Frame) × Cuts (cutter.old ++ piece.now) more cutter.new
+    ensures taken { IfOk result (λ fault. HasFault cutter.old.limit cutter.old.bytes None
+        → (more : List Frame)
+        × Cuts cutter.old.limit (cutter.old.bytes ++ piece.now) more cutter.new.bytes
         × (frames.new.items ≡ frames.old.items ++ more)
-        × (fault ≡ fault_at cutter.new)) }
+        × (fault ≡ fault_at cutter.old.limit cutter.new.bytes)) }
+    ensures limit { cutter.new.limit ≡ cutter.old.limit }
 {
     let answer = cutter.feed(piece);
     hand_out(cutter, frames)?;
@@ -62,8 +80,10 @@ fn take_piece(
 
 // Takes the frames that are ready.
 fn hand_out(cutter: &mut Cutter, frames: &mut Vec<Frame>) -> Result<(), AllocError>
-    ensures { OnOk result ((more : List Frame) × Cuts cutter.old more cutter.new
+    ensures handed { OnOk result ((more : List Frame)
+        × Cuts cutter.old.limit cutter.old.bytes more cutter.new.bytes
         × (frames.new.items ≡ frames.old.items ++ more)) }
+    ensures limit { cutter.new.limit ≡ cutter.old.limit }
 {
     'ready: loop {
         match cutter.next() {

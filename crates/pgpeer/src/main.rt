@@ -4,7 +4,7 @@
 use answer::{Disk, Fault, write_fault};
 use running::execute;
 use std::alloc::{AllocError, Global};
-use std::io::{Eprint, ErrorKind, Write};
+use std::io::{Eprint, ErrorKind, Read, Write};
 use std::net::{Net, TcpListener, TcpStream};
 use std::process::ExitCode;
 use std::sync::Wait;
@@ -21,8 +21,10 @@ fn main(rt: HostRuntime) -> ExitCode {
         return failed(&rt, &Fault::Memory);
     };
     let opener = Disk::new(&rt);
-    let (mut out, mut err) = (rt.stdout(), rt.stderr());
-    ExitCode::from(run(&rt, alloc, &arguments, &opener, &mut out, &mut err))
+    let (mut input, mut out, mut err) = (rt.stdin(), rt.stdout(), rt.stderr());
+    ExitCode::from(run(
+        &rt, alloc, &arguments, &opener, &mut input, &mut out, &mut err,
+    ))
 }
 
 // Does what the arguments ask for. Returns the status that the program ends with.
@@ -36,10 +38,19 @@ fn run<
         + Send
         + Sync
         + 'static,
+    I: Read,
     O: Write,
     E: Write,
->(host: &H, alloc: Global, arguments: &[&str], opener: &Disk<'_>, out: &mut O, err: &mut E) -> u8 {
-    execute(host, alloc, arguments, opener, out, err)
+>(
+    host: &H,
+    alloc: Global,
+    arguments: &[&str],
+    opener: &Disk<'_>,
+    input: &mut I,
+    out: &mut O,
+    err: &mut E,
+) -> u8 {
+    execute(host, alloc, arguments, opener, input, out, err)
 }
 
 // The arguments, without the program's name.

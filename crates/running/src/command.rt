@@ -1,4 +1,6 @@
 //! What arguments ask for.
+ghost use Rattle.std.specs.Prelude.{◌≡◌, OnOk, OnErr};
+
 use crate::serving::serve;
 use crate::standing_in::stand_in;
 use answer::{Fault, Opener, answer, group_of, seed_of, usage_fault, write_fault};
@@ -6,67 +8,80 @@ use command_line::{Running, ServeRequest};
 use group_server::{Host, ServeError, Unbound};
 use std::alloc::Global;
 use std::io;
-use std::io::Write;
+use std::io::{Read, Write};
 
-// The status of a command that can't run.
+// The status of a command that has done what it was asked for, and of one that can't run.
+const DONE: u8 = 0;
+
 const FAILED: u8 = 1;
 
 /// Does what these arguments ask for: answers them, or runs a group of nodes or a stand-in server.
+/// `input` is read only by a group that drains when it ends.
 /// Returns the status that the program ends with.
-pub fn execute<H: Host, O: Opener, W: Write, E: Write>(
+pub fn execute<H: Host, O: Opener, I: Read, W: Write, E: Write>(
     host: &H,
     alloc: Global,
     arguments: &[&str],
     opener: &O,
+    input: &mut I,
     out: &mut W,
     err: &mut E,
 ) -> u8 {
     match Running::read(alloc, arguments) {
-        Ok(Some(running)) => run(host, alloc, opener, running, out, err),
+        Ok(Some(running)) => run(host, alloc, opener, running, input, out, err),
         Ok(None) => answer(host, alloc, arguments, opener, out, err),
         Err(wrong) => write_fault(alloc, err, &usage_fault(alloc, arguments, wrong)),
     }
 }
 
-/// Runs a group of nodes or a stand-in server, until the process is stopped. Once it listens it
-/// says so on `out`. It ends only where it can't run: then it says why on `err`, and returns the
-/// status that the program ends with.
-pub fn run<H: Host, O: Opener, W: Write, E: Write>(
+/// Runs a group of nodes or a stand-in server, until the process is stopped or the group has
+/// drained. Once it listens it says so on `out`. Where it can't run it says why on `err`. Returns
+/// the status that the program ends with.
+pub fn run<H: Host, O: Opener, I: Read, W: Write, E: Write>(
     host: &H,
     alloc: Global,
     opener: &O,
     running: Running<'_>,
+    input: &mut I,
     out: &mut W,
     err: &mut E,
 ) -> u8 {
     let ended = match running {
-        Running::Serve(request) => match serve_files(host, alloc, opener, &request, out, err) {
+        Running::Serve(request) => match serve_files(host, alloc, opener, &request, input, out) {
             Ok(ended) => ended,
             Err(fault) => return write_fault(alloc, err, &fault),
         },
         Running::Stub(request) => stand_in(host, alloc, request, out),
     };
-    if let Err(error) = ended {
-        let _ = write_error(err, &error);
+    if let Err(error) = &ended {
+        let _ = write_error(err, error);
     }
-    FAILED
+    status_of(&ended)
+}
+
+// The status of a command that ended so.
+fn status_of(ended: &Result<(), ServeError>) -> u8
+    ensures done { OnOk ended.now (result ≡ 0) }
+    ensures failed { OnErr ended.now (result ≡ 1) }
+{
+    match ended {
+        Ok(()) => DONE,
+        Err(_) => FAILED,
+    }
 }
 
 // Serves the group that the settings files make. Fails if a file can't be used.
-fn serve_files<H: Host, O: Opener, W: Write, E: Write>(
+fn serve_files<H: Host, O: Opener, I: Read, W: Write>(
     host: &H,
     alloc: Global,
     opener: &O,
     request: &ServeRequest<'_>,
+    input: &mut I,
     out: &mut W,
-    err: &mut E,
 ) -> Result<Result<(), ServeError>, Fault> {
     let group = group_of(alloc, opener, &request.files)?;
     let seed = seed_of(alloc, opener, request.seed)?;
-    if request.boot == 0 {
-        let _ = writeln!(err, "boot 0: give another --boot at each start");
-    }
-    Ok(serve(host, alloc, group, request, seed, out))
+    Ok(serve(host, alloc, group, request, seed, input, out))
 }
 
 // Says why a command can't run.
@@ -81,8 +96,6 @@ fn write_error<E: Write>(err: &mut E, error: &ServeError) -> io::Result<()> {
             writeln!(err, "cannot listen {port}")?;
             writeln!(err, "{address}:{port}: {error}")
         }
-        ServeError::Memory => writeln!(err, "out of memory"),
-        ServeError::Thread => writeln!(err, "cannot start a thread"),
-        ServeError::Output => writeln!(err, "cannot write to standard output"),
+        _ => writeln!(err, "{}", error.text()),
     }
 }

@@ -1,19 +1,20 @@
-//! `serve`: a group of nodes serves clients, until the process is stopped.
+//! `serve`: a group of nodes serves clients, until the process is stopped or the group has drained.
 use crate::standing_in::stand_in_for_servers;
-use command_line::{ServeRequest, version};
-use group_server::{Host, ServeError, ServeOptions, serve_group};
+use command_line::{LogLevel, ServeRequest, version};
+use group_server::{Host, Level, MessageLimit, ServeError, ServeOptions, serve_group};
 use ini_config::Group;
 use std::alloc::Global;
-use std::io::Write;
+use std::io::{Read, Write};
 
 /// Serves the nodes of a group, with stand-in servers where the request asks for them, and secrets
-/// from this seed. It returns only where it can't serve.
-pub(crate) fn serve<H: Host, W: Write>(
+/// from this seed. It returns where it can't serve, or has drained.
+pub(crate) fn serve<H: Host, I: Read, W: Write>(
     host: &H,
     alloc: Global,
     group: Group,
     request: &ServeRequest<'_>,
     seed: [u8; 32],
+    input: &mut I,
     out: &mut W,
 ) -> Result<(), ServeError> {
     if request.stand_in {
@@ -26,8 +27,29 @@ pub(crate) fn serve<H: Host, W: Write>(
         seed,
         boot: request.boot,
         reports: &request.reports,
+        until_eof: request.until_eof,
+        log: level_of(request.log),
+        metrics: request.metrics,
+        max_message: limit_of(request.max_message),
     };
-    serve_group(host, alloc, group, &options, out)
+    serve_group(host, alloc, group, &options, input, out)
+}
+
+// The limit of a message that an argument names. It is in range.
+fn limit_of(bytes: u32) -> MessageLimit {
+    match MessageLimit::new(bytes) {
+        Some(limit) => limit,
+        None => MessageLimit::DEFAULT,
+    }
+}
+
+// The level that an argument names.
+fn level_of(level: LogLevel) -> Level {
+    match level {
+        LogLevel::Warn => Level::Warn,
+        LogLevel::Notice => Level::Notice,
+        LogLevel::Info => Level::Info,
+    }
 }
 
 // The number in a text that names the program and its version.

@@ -5,7 +5,8 @@ use crate::messages::TERMINATE;
 use crate::sessions::{COMES, NODE};
 use crate::story::calling;
 use crate::talk::Turn;
-use node_threads::{Calling, Open, serve_connection};
+use node_threads::{Calling, Context, Open, serve_connection};
+use pg_frames::MessageLimit;
 use pg_ids::Boot;
 use startup::Reports;
 use std::alloc::Global;
@@ -63,7 +64,17 @@ fn assert_come<R: Wait + Abort>(
         let Ok(mut client) = Line::new(stage, Side::Client, turns) else {
             panic!(rt; "out of memory");
         };
-        serve_connection(rt, alloc, calling, &dials, &Open, reports, &mut client);
+        let context = Context { rt, gate: &Open };
+        let limit = MessageLimit::DEFAULT;
+        serve_connection(
+            context,
+            alloc,
+            calling,
+            &dials,
+            reports,
+            &limit,
+            &mut client,
+        );
         stage.assert_sound(rt);
         assert!(rt; client.is_done(), "{turns:?}");
     }

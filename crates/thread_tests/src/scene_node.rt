@@ -10,7 +10,7 @@ use node_core::NodeCore;
 use node_threads::{
     Admission, Context, Counting, Gate, Link, Service, SingleUse, serve_cancel, serve_client,
 };
-use pg_frames::Cutter;
+use pg_frames::{Cutter, MessageLimit};
 use pg_ids::{AnyKey, Boot, DatabaseNo, Kind, PeerNo, Secret};
 use startup::Reports;
 use std::alloc::Global;
@@ -106,6 +106,7 @@ impl Node {
             shared: &self.lock,
             settings: &self.settings,
             reports: &Reports::new(alloc),
+            limit: &MessageLimit::DEFAULT,
             admission: &admission,
             opener: &visit.dialer(),
             gate,

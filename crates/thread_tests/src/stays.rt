@@ -5,7 +5,7 @@ ghost use Rattle.node_threads.specs.Progress.{asking};
 
 use client_state::{Act, Client, DatabaseNo, Request};
 use node_threads::{Link, Stayed, stay};
-use pg_frames::{Body, Cutter, Flow, Frame};
+use pg_frames::{Body, Cutter, Flow, Frame, MessageLimit};
 use std::alloc::{AllocError, Global};
 use std::io;
 use std::io::{ErrorKind, Read, Write};
@@ -35,7 +35,7 @@ pub(crate) fn reads<'a>(pieces: &'a [&'a [u8]]) -> Script<'a> {
     Script {
         pieces,
         breaks: false,
-        room: 2_000_000,
+        room: 5_000_000,
     }
 }
 
@@ -132,11 +132,15 @@ struct Expected<'a> {
     left: &'a [u8],
 }
 
-// A client that asks for the begin of a transaction, and its request.
-pub(crate) fn begin(rt: &(impl Abort + AllocGlobal)) -> Result<(Client, Request), AllocError>
-    ensures { IfOk result (λ made. made.0 ≡ asking made.0.database) }
+// A client with this limit that asks for the begin of a transaction, and its request.
+pub(crate) fn begin(
+    rt: &(impl Abort + AllocGlobal),
+    limit: MessageLimit,
+) -> Result<(Client, Request), AllocError>
+    ensures session { IfOk result (λ made. made.0 ≡ asking made.0.limit made.0.database) }
+    ensures limit { IfOk result (λ made. made.0.limit ≡ limit) }
 {
-    let mut client = Client::new(rt.alloc(), DatabaseNo(3));
+    let mut client = Client::with_limit(rt.alloc(), limit, DatabaseNo(3));
     let body = Body::from_slice(rt.alloc(), b"begin\0")?;
     match client.on_client(&Frame { kind: b'Q', body }) {
         Act::Need(request) => Ok((client, request)),
@@ -156,12 +160,23 @@ fn assert_stay<R: Abort + AllocGlobal + Wait>(
     on_link: Script<'_>,
     expected: &Expected<'_>,
 ) -> Result<(), Fail> {
-    let (mut session, request) = begin(rt)?;
+    assert_stay_within(rt, MessageLimit::DEFAULT, on_client, on_link, expected)
+}
+
+// The same with another limit of a message.
+fn assert_stay_within<R: Abort + AllocGlobal + Wait>(
+    rt: &R,
+    limit: MessageLimit,
+    on_client: Script<'_>,
+    on_link: Script<'_>,
+    expected: &Expected<'_>,
+) -> Result<(), Fail> {
+    let (mut session, request) = begin(rt, limit)?;
     let mut client = Wire::new(rt.alloc(), on_client)?;
-    let mut cutter = Cutter::new(rt.alloc());
+    let mut cutter = Cutter::with_limit(rt.alloc(), limit);
     let mut link = Link {
         stream: Wire::new(rt.alloc(), on_link)?,
-        flow: Flow::new(rt.alloc())?,
+        flow: Flow::with_limit(rt.alloc(), limit)?,
     };
     let stayed = stay(
         rt,
@@ -363,9 +378,9 @@ fn transactions(rt: HostRuntime) -> Result<(), Fail> {
     Ok(())
 }
 
-// The greatest DataRow and the end of its reply, with a byte of its own at each place.
-fn greatest_reply(alloc: Global, size: usize) -> Result<Vec<u8>, AllocError> {
-    let mut text = Vec::from_slice(alloc, b"D\0\x10\0\0")?;
+// A DataRow with this head and the end of its reply, with a byte of its own at each place.
+fn reply_of(alloc: Global, head: &[u8], size: usize) -> Result<Vec<u8>, AllocError> {
+    let mut text = Vec::from_slice(alloc, head)?;
     text.resize(size, 0)?;
     let mut next = 0u8;
     for byte in text.as_mut_slice().iter_mut().skip(5) {
@@ -396,9 +411,68 @@ fn assert_passed<R: Abort + AllocGlobal + Wait>(
 
 #[test]
 fn greatest_frame(rt: HostRuntime) -> Result<(), Fail> {
-    let text = greatest_reply(rt.alloc(), 1_048_577)?;
+    let text = reply_of(rt.alloc(), b"D\0\x10\0\0", 1_048_577)?;
     for size in [1_000, 4_096, 16_384, 2_000_000] {
         assert_passed(&rt, text.as_slice(), size)?;
     }
     Ok(())
+}
+
+// A limit of 2,097,152 bytes.
+fn two_mebibytes() -> Result<MessageLimit, Fail> {
+    match MessageLimit::new(2_097_152) {
+        Some(limit) => Ok(limit),
+        None => Err(Fail::from("no limit")),
+    }
+}
+
+// A row of that length passes, and one a byte longer ends the session.
+#[test]
+fn longer_rows(rt: HostRuntime) -> Result<(), Fail> {
+    let limit = two_mebibytes()?;
+    let greatest = reply_of(rt.alloc(), b"D\0\x20\0\0", 2_097_153)?;
+    let passed = comes_of(Release, BEGIN, greatest.as_slice());
+    let pieces = [greatest.as_slice()];
+    assert_stay_within(&rt, limit, reads(&[]), reads(&pieces), &passed)?;
+    let longer = reply_of(rt.alloc(), b"D\0\x20\0\x01", 2_097_154)?;
+    let lost = comes_of(End(LOST), BEGIN, b"");
+    let pieces = [longer.as_slice()];
+    assert_stay_within(&rt, limit, reads(&[]), reads(&pieces), &lost)?;
+    // The limit where none is given.
+    assert_stay(&rt, reads(&[]), reads(&[greatest.as_slice()]), &lost)
+}
+
+// A Query with this head: letters, and the zero byte that ends them.
+fn query_of(alloc: Global, head: &[u8], size: usize) -> Result<Vec<u8>, AllocError> {
+    let mut text = Vec::from_slice(alloc, head)?;
+    text.resize(size.saturating_sub(1), b'x')?;
+    text.push(0)?;
+    Ok(text)
+}
+
+// A request of that length is sent whole, and one a byte longer ends the session.
+#[test]
+fn longer_requests(rt: HostRuntime) -> Result<(), Fail> {
+    let limit = two_mebibytes()?;
+    let greatest = query_of(rt.alloc(), b"Q\0\x20\0\0", 2_097_153)?;
+    let mut sent = Vec::from_slice(rt.alloc(), BEGIN)?;
+    sent.extend_from_slice(greatest.as_slice())?;
+    let taken = comes_of(Release, sent.as_slice(), BOTH);
+    let on_client = [greatest.as_slice()];
+    assert_stay_within(
+        &rt,
+        limit,
+        reads(&on_client),
+        reads(&[BEGUN, COMMITTED]),
+        &taken,
+    )?;
+    let longer = query_of(rt.alloc(), b"Q\0\x20\0\x01", 2_097_154)?;
+    let refused = Expected {
+        ending: End(VIOLATION),
+        sent: BEGIN,
+        told: BEGUN,
+        left: longer.as_slice().split_at(512).0,
+    };
+    let on_client = [longer.as_slice()];
+    assert_stay_within(&rt, limit, reads(&on_client), reads(&[BEGUN]), &refused)
 }

@@ -3,8 +3,9 @@ use crate::line::{Dials, Line, Side, Stage};
 use crate::log::Event;
 use crate::talk::Turn;
 use ini_config::{Group, read_settings};
-use node_threads::{Calling, Gate, Open, Opener, Point, serve_connection};
+use node_threads::{Calling, Context, Gate, Open, Opener, Point, serve_connection};
 use peer_forward::{ReadCalls, WriteCalls};
+use pg_frames::MessageLimit;
 use pg_ids::Boot;
 use startup::Reports;
 use std::alloc::Global;
@@ -69,8 +70,9 @@ where
     G: Gate,
     C: WriteCalls + ReadCalls,
 {
-    let reports = Reports::new(alloc);
-    serve_connection(rt, alloc, calling, opener, gate, &reports, client);
+    let (context, reports) = (Context { rt, gate }, Reports::new(alloc));
+    let limit = MessageLimit::DEFAULT;
+    serve_connection(context, alloc, calling, opener, &reports, &limit, client);
 }
 
 // A client comes that takes these turns. Returns whether it took all.

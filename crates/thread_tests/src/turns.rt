@@ -6,7 +6,7 @@ use crate::stays::{BEGUN, ROW, Script, Wire, begin, ending_of, reads};
 use client_state::DatabaseNo;
 use lease::{Lease, LinkPlace, LinkRecord, Permit, PermitRecord};
 use node_threads::{Context, DeskCall, Link, ListDesk, Open, turn};
-use pg_frames::{Cutter, Flow};
+use pg_frames::{Cutter, Flow, MessageLimit};
 use pg_ids::{LinkNo, PeerNo};
 use std::process::Abort;
 use std::sync::Wait;
@@ -49,7 +49,7 @@ fn assert_turn<R: Abort + AllocGlobal + Wait>(
     ending: Ending<'_>,
     call: DeskCall,
 ) -> Result<(), Fail> {
-    let (mut session, request) = begin(rt)?;
+    let (mut session, request) = begin(rt, MessageLimit::DEFAULT)?;
     let mut client = Wire::new(rt.alloc(), reads(&[]))?;
     let mut cutter = Cutter::new(rt.alloc());
     let mut desk = ListDesk::new(rt.alloc(), 1)?;

@@ -10,6 +10,7 @@ use std::test::Fail;
 mod first_frames;
 mod groups;
 mod link_frames;
+mod other_limits;
 mod session_ends;
 mod transcripts;
 

@@ -9,6 +9,7 @@ use std::process::Abort;
 use std::test::Fail;
 
 mod flow;
+mod limits;
 mod transcripts;
 
 // Four frames of 5, 9, 17 and 9 bytes: a Sync, a Query, a CommandComplete and a Query.
@@ -263,7 +264,7 @@ fn written(rt: HostRuntime) -> Result<(), Fail> {
 fn refusals(rt: HostRuntime) -> Result<(), Fail> {
     let refusals = [
         (FrameError::BadLength, 10, "a length field below 4"),
-        (FrameError::TooLong, 11, "a length field above 1048576"),
+        (FrameError::TooLong, 11, "a length field above the limit"),
         (
             FrameError::BadType,
             12,

@@ -14,6 +14,7 @@ mod keys;
 mod limits;
 mod orders;
 mod packets;
+mod run_options;
 mod running;
 mod usage;
 mod worlds;

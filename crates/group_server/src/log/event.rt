@@ -1,5 +1,6 @@
 //! What lines of the log are about.
-ghost use Rattle.std.specs.Prelude.{◌<◌};
+ghost use Rattle.std.specs.Prelude.{◌≤◌, ◌<◌, ◌↔◌, IsTrue};
+ghost use Rattle.group_server.specs.Levels.{rank};
 
 use crate::limits::LINES_A_SECOND;
 
@@ -30,10 +31,20 @@ pub enum Event {
     CancelFailed,
     /// A client was refused.
     ClientRefused,
+    /// No boot number was given.
+    BootUnset,
+    /// A client's start-up packet has parameters without effect.
+    ParametersDropped,
+    /// A cancel request has ended.
+    CancelEnded,
+    /// The group drains.
+    Stopping,
+    /// The group serves no longer.
+    Stopped,
 }
 
 /// How many kinds of lines there are.
-pub const EVENTS: usize = 12;
+pub const EVENTS: usize = 17;
 
 /// The kinds of lines.
 pub const KINDS: [Event; EVENTS] = [
@@ -49,23 +60,43 @@ pub const KINDS: [Event; EVENTS] = [
     Event::CancelConnectFailed,
     Event::CancelFailed,
     Event::ClientRefused,
+    Event::BootUnset,
+    Event::ParametersDropped,
+    Event::CancelEnded,
+    Event::Stopping,
+    Event::Stopped,
 ];
 
-/// How much a line matters.
+/// How much a line matters, in descending order.
 #[derive(Clone, Copy, Debug, PartialEq, Eq)]
 pub enum Level {
-    /// It is as it should be.
-    Info,
     /// Somebody may have to look into it.
     Warn,
+    /// It happens seldom, and may explain something else.
+    Notice,
+    /// It happens often, and is as it should be.
+    Info,
 }
 
 impl Level {
     /// Its name in a line.
     pub fn name(self) -> &'static str {
         match self {
-            Level::Info => "info",
             Level::Warn => "warn",
+            Level::Notice => "notice",
+            Level::Info => "info",
+        }
+    }
+
+    /// Whether lines of this level are written where the least important that are written have the
+    /// level `least`.
+    pub fn is_written(self, least: Level) -> bool
+        ensures { IsTrue result ↔ (rank self ≤ rank least) }
+    {
+        match least {
+            Level::Warn => matches!(self, Level::Warn),
+            Level::Notice => !matches!(self, Level::Info),
+            Level::Info => true,
         }
     }
 }
@@ -73,7 +104,7 @@ impl Level {
 impl Event {
     /// Its place among the kinds.
     pub fn place(self) -> usize
-        ensures { result < 12 }
+        ensures { result < 17 }
     {
         match self {
             Event::Started => 0,
@@ -88,6 +119,11 @@ impl Event {
             Event::CancelConnectFailed => 9,
             Event::CancelFailed => 10,
             Event::ClientRefused => 11,
+            Event::BootUnset => 12,
+            Event::ParametersDropped => 13,
+            Event::CancelEnded => 14,
+            Event::Stopping => 15,
+            Event::Stopped => 16,
         }
     }
 
@@ -106,13 +142,24 @@ impl Event {
             Event::CancelConnectFailed => "cancel_connect_failed",
             Event::CancelFailed => "cancel_failed",
             Event::ClientRefused => "client_refused",
+            Event::BootUnset => "boot_unset",
+            Event::ParametersDropped => "parameters_dropped",
+            Event::CancelEnded => "cancel_ended",
+            Event::Stopping => "stopping",
+            Event::Stopped => "stopped",
         }
     }
 
     /// How much its lines matter.
     pub fn level(self) -> Level {
         match self {
-            Event::Started | Event::NodeListens | Event::LinkClosed => Level::Info,
+            Event::Started
+            | Event::NodeListens
+            | Event::LinkClosed
+            | Event::ParametersDropped
+            | Event::Stopping
+            | Event::Stopped => Level::Notice,
+            Event::CancelEnded => Level::Info,
             _ => Level::Warn,
         }
     }
@@ -121,6 +168,7 @@ impl Event {
     pub fn limit(self) -> u32 {
         match self {
             Event::Started | Event::NodeListens => u32::MAX,
+            Event::ParametersDropped => 1,
             _ => LINES_A_SECOND,
         }
     }

@@ -43,14 +43,14 @@ pub fn line_of<R: Clock>(
     Ok(text)
 }
 
-/// The line that says how many lines of an event were left out.
+/// The line that says how many lines of an event were left out. It has their level.
 pub fn left_out_line<R: Clock>(
     rt: &R,
     alloc: Global,
     event: Event,
     count: u64,
 ) -> Result<String, AllocError> {
-    let mut text = start_of(rt, alloc, None, Level::Warn, "lines_left_out")?;
+    let mut text = start_of(rt, alloc, None, event.level(), "lines_left_out")?;
     let fields = [
         ("of", Value::Text(event.name())),
         ("count", Value::Number(count)),

@@ -2,9 +2,8 @@
 mod event;
 mod line;
 
-use crate::limits::LINES_KEPT;
-use event::{EVENTS, KINDS};
-pub use event::{Event, Level};
+use crate::limits::{LAST_LINES_MILLIS, LINES_KEPT};
+pub use event::{EVENTS, Event, KINDS, Level};
 use line::left_out_line;
 pub use line::{Field, Value, line_of, put_fields};
 use std::alloc::Global;
@@ -22,47 +21,62 @@ const SECOND: u64 = 1_000;
 #[derive(Drop)]
 pub struct Log {
     alloc: Global,
+    // The level of the least important lines that are written.
+    least: Level,
     queue: Mutex<Queue>,
     filled: Condvar,
+    emptied: Condvar,
 }
 
 // The lines that wait to be written, and the counts of each kind.
 #[derive(Drop)]
 struct Queue {
     lines: VecDeque<String>,
+    // Whether a line was taken that may not be written yet.
+    is_writing: bool,
     counts: [Counts; EVENTS],
 }
 
-// How many lines of a kind there were of late.
+// How many lines of a kind there were, in all and of late.
 #[derive(Clone, Copy)]
 struct Counts {
     // When the second began in which lines are counted, if there was a line.
     began: Option<Duration>,
     given: u32,
     left_out: u64,
+    total: u64,
 }
 
 impl Log {
-    /// No line was written.
-    pub fn new(alloc: Global) -> Log {
+    /// No line was written. The least important lines that are have the level `least`.
+    pub fn new(alloc: Global, least: Level) -> Log {
         let none = Counts {
             began: None,
             given: 0,
             left_out: 0,
+            total: 0,
         };
         Log {
             alloc,
+            least,
             queue: Mutex::new(Queue {
                 lines: VecDeque::new(alloc),
+                is_writing: false,
                 counts: [none; EVENTS],
             }),
             filled: Condvar::new(),
+            emptied: Condvar::new(),
         }
     }
 
-    /// Writes the line of an event at a node, or at none, with these fields. It is left out where
-    /// its kind is at its limit, where as many lines wait as may, or where there is no memory for
-    /// it.
+    /// Whether lines of this event are written.
+    pub fn has(&self, event: Event) -> bool {
+        event.level().is_written(self.least)
+    }
+
+    /// Writes the line of an event at a node, or at none, with these fields, if the log has lines
+    /// of its level. It is left out where its kind is at its limit, where as many lines wait as
+    /// may, or where there is no memory for it.
     pub fn write<R: Wait + Clock>(
         &self,
         rt: &R,
@@ -82,6 +96,9 @@ impl Log {
         names: &str,
         fields: &[Field<'_>],
     ) {
+        if !self.has(event) {
+            return;
+        }
         let Ok(now) = rt.monotonic() else {
             return;
         };
@@ -90,6 +107,16 @@ impl Log {
             self.queue.lock(rt).push(event, line.ok());
         }
         self.filled.notify_one();
+    }
+
+    /// How many events of each kind there were, also those whose lines were left out.
+    pub fn totals<R: Wait>(&self, rt: &R) -> [u64; EVENTS] {
+        let mut totals = [0; EVENTS];
+        let queue = self.queue.lock(rt);
+        for event in KINDS {
+            totals[event.place()] = queue.counts[event.place()].total;
+        }
+        totals
     }
 
     // Waits for a line, or, if some were left out, no longer than a second.
@@ -116,6 +143,7 @@ impl Log {
         };
         let mut queue = self.queue.lock(rt);
         if let Some(line) = queue.lines.pop_front() {
+            queue.is_writing = true;
             return Some(line);
         }
         let (event, count) = queue.take_left_out(now)?;
@@ -129,8 +157,20 @@ impl Log {
             self.wait(rt);
             if let Some(line) = self.next(rt) {
                 let _ = eprintln!(rt; "{line}");
+                self.queue.lock(rt).is_writing = false;
+                self.emptied.notify_all();
             }
         }
+    }
+
+    /// Waits until the lines that wait are written, but not long: where standard error can't be
+    /// written to, the process ends without them.
+    pub fn finish<R: Wait + Clock>(&self, rt: &R) {
+        let queue = self.queue.lock(rt);
+        let limit = Duration::from_millis(LAST_LINES_MILLIS);
+        let _ = self
+            .emptied
+            .wait_timeout_while(rt, queue, limit, |queue| queue.has_unwritten());
     }
 }
 
@@ -138,6 +178,7 @@ impl Queue {
     // Whether a line of this kind may be written now. Then it counts as written.
     fn may_write(&mut self, event: Event, now: Duration) -> bool {
         let counts = &mut self.counts[event.place()];
+        counts.total = counts.total.saturating_add(1);
         if counts.is_over(now) {
             counts.began = Some(now);
             counts.given = 0;
@@ -165,6 +206,11 @@ impl Queue {
             Some(line) => self.lines.len() < LINES_KEPT && self.lines.push_back(line).is_ok(),
             None => false,
         }
+    }
+
+    // Whether a line isn't written yet.
+    fn has_unwritten(&self) -> bool {
+        self.is_writing || !self.lines.is_empty()
     }
 
     // Whether lines were left out.

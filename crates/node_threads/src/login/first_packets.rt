@@ -46,9 +46,10 @@ pub fn open<R: Wait, C: WriteCalls + ReadCalls>(
     client: &mut C,
     cutter: &mut Cutter,
 ) -> Opened
-    requires { cutter.old ≡ [] }
-    ensures { SomeCalls C.wrote C.gave client.old client.new
-        (λ calls. Opens calls result cutter.new) }
+    requires { cutter.old.bytes ≡ [] }
+    ensures opens { SomeCalls C.wrote C.gave client.old client.new
+        (λ calls. Opens calls result cutter.new.bytes) }
+    ensures limit { cutter.new.limit ≡ cutter.old.limit }
 {
     let mut opening = Opening::new(alloc);
     let mut text = BytesMut::new(alloc);
@@ -95,10 +96,11 @@ fn begin<C: WriteCalls + ReadCalls>(
     database: String,
     kind: Kind,
 ) -> Opened
-    requires { cutter.old ≡ [] }
+    requires { cutter.old.bytes ≡ [] }
     ensures begins { SomeCalls C.wrote C.gave client.old client.new
-        (λ calls. Begins rest.now result calls cutter.new) }
+        (λ calls. Begins rest.now result calls cutter.new.bytes) }
     ensures same { IsSession result (string_bytes database) kind }
+    ensures limit { cutter.new.limit ≡ cutter.old.limit }
 {
     if lacks_memory(&cutter.feed(rest)) {
         refuse_first(alloc, client, StartupError::Memory);

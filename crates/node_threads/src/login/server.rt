@@ -1,7 +1,6 @@
 //! A login at a server.
 ghost use Rattle.std.specs.Prelude.{◌≡◌, ◌+◌, ◌<◌, ◌≤◌, [], ◌∷◌, ◌++◌, ℕ, List, None, Some, true, false, length, IfSome, IfOk};
 ghost use Rattle.peer_forward.specs.Calls.{Call, Makes};
-ghost use Rattle.pg_frames.specs.FrameText.{HasFault};
 ghost use Rattle.pg_frames.specs.Passage.{Passage, start, fed, after, HasNoNext};
 ghost use Rattle.startup.specs.StartupMessage.{HasNoZero};
 ghost use Rattle.link_state.specs.Login.{HasRead};
@@ -15,7 +14,7 @@ use crate::login::place::{LoginPlace, Mark, Taken};
 use crate::session::link::read_up_to;
 use link_state::{LinkAct, LinkLogin, LoginHead, ServerKey};
 use peer_forward::{ReadCalls, WriteCalls, write_whole};
-use pg_frames::Flow;
+use pg_frames::{Flow, MessageLimit};
 use std::alloc::Global;
 use std::sync::Wait;
 
@@ -46,6 +45,7 @@ pub enum LinkError {
 pub fn log_in<R: Wait, L: WriteCalls + ReadCalls + Drop>(
     rt: &R,
     alloc: Global,
+    limit: MessageLimit,
     stream: L,
     user: &str,
     database: &str,
@@ -53,15 +53,15 @@ pub fn log_in<R: Wait, L: WriteCalls + ReadCalls + Drop>(
     requires user { HasNoZero user.now }
     requires database { HasNoZero database.now }
     requires short { length user.now + length database.now ≤ 8000 }
-    ensures drained { IfOk result (λ logged. logged.link.flow ≡ start) }
+    ensures drained { IfOk result (λ logged. logged.link.flow ≡ start limit) }
     ensures logs_in { IfOk result (λ logged.
         SomeCalls L.wrote L.gave stream logged.link.stream
-        (LogsIn user.now database.now logged.key)) }
+        (LogsIn limit user.now database.now logged.key)) }
 {
     let Ok(mut login) = LinkLogin::new(alloc, user, database) else {
         return Err(LinkError::Memory);
     };
-    let Ok(flow) = Flow::new(alloc) else {
+    let Ok(flow) = Flow::with_limit(alloc, limit) else {
         return Err(LinkError::Memory);
     };
     let mut link = Link { stream, flow };
@@ -82,10 +82,10 @@ fn read_login<R: Wait, L: WriteCalls + ReadCalls>(
     link: &mut Link<L>,
 ) -> Option<ServerKey>
     requires none { HasRead login.old [] }
-    requires fresh { link.old.flow ≡ start }
-    ensures drained { IfSome result (λ key. link.new.flow ≡ start) }
+    requires fresh { link.old.flow ≡ start link.old.flow.limit }
+    ensures drained { IfSome result (λ key. link.new.flow ≡ start link.old.flow.limit) }
     ensures reads { IfSome result (λ key.
-        SomeCalls L.wrote L.gave link.old.stream link.new.stream (ReadsLogin key)) }
+        SomeCalls L.wrote L.gave link.old.stream link.new.stream (ReadsLogin link.old.flow.limit key)) }
 {
     let mut place = LoginPlace::Between;
     for _ in rt.forever() {
@@ -103,15 +103,17 @@ fn read_login<R: Wait, L: WriteCalls + ReadCalls>(
 
 // The key, if nothing stands behind the messages that were taken.
 fn key_at_end(flow: &Flow, key: ServerKey) -> Option<ServerKey>
-    ensures { IfSome result (λ found. (found ≡ key) × (flow.now ≡ start)) }
+    ensures { IfSome result (λ found. (found ≡ key) × (flow.now ≡ start flow.now.limit)) }
 {
     if flow.is_at_start() { Some(key) } else { None }
 }
 
 // Takes what is there of the server's messages.
 fn take_pieces(login: &mut LinkLogin, flow: &mut Flow, place: LoginPlace) -> Taken
-    ensures takes { (stream : List ℕ) → HasCome stream place login.old flow.old
-        → Takes stream result login.new flow.new }
+    ensures takes { (limit : ℕ) (stream : List ℕ)
+        → HasCome limit stream place login.old flow.old
+        → Takes limit stream result login.new flow.new }
+    ensures limit { flow.new.limit ≡ flow.old.limit }
     ensures dry { IsDry result flow.new }
 {
     let mut place = place;
@@ -132,6 +134,7 @@ fn take_pieces(login: &mut LinkLogin, flow: &mut Flow, place: LoginPlace) -> Tak
 fn take_piece(login: &mut LinkLogin, flow: &mut Flow, place: LoginPlace, mark: Mark) -> Taken
     ensures takes { TakesPiece place login.old mark flow.old result login.new flow.new }
     ensures left { flow.new.left ≡ flow.old.left }
+    ensures limit { flow.new.limit ≡ flow.old.limit }
     ensures bytes { flow.new.bytes ≡ flow.old.bytes }
 {
     match mark {
@@ -146,6 +149,7 @@ fn take_head(login: &mut LinkLogin, flow: &mut Flow, kind: u8, length: usize) ->
     ensures takes { (place : _) → TakesPiece place login.old (Head kind length) flow.old result
         login.new flow.new }
     ensures left { flow.new.left ≡ flow.old.left }
+    ensures limit { flow.new.limit ≡ flow.old.limit }
     ensures bytes { flow.new.bytes ≡ flow.old.bytes }
 {
     forget_all(flow);
@@ -160,6 +164,7 @@ fn take_head(login: &mut LinkLogin, flow: &mut Flow, kind: u8, length: usize) ->
 fn take_part(login: &mut LinkLogin, flow: &mut Flow, place: LoginPlace) -> Taken
     ensures takes { TakesPiece place login.old Part flow.old result login.new flow.new }
     ensures left { flow.new.left ≡ flow.old.left }
+    ensures limit { flow.new.limit ≡ flow.old.limit }
     ensures bytes { flow.new.bytes ≡ flow.old.bytes }
 {
     match place {
@@ -175,6 +180,7 @@ fn take_part(login: &mut LinkLogin, flow: &mut Flow, place: LoginPlace) -> Taken
 fn take_wanted(login: &mut LinkLogin, flow: &mut Flow, wanted: usize) -> Taken
     ensures takes { TakesPiece (Reading wanted) login.old Part flow.old result login.new flow.new }
     ensures left { flow.new.left ≡ flow.old.left }
+    ensures limit { flow.new.limit ≡ flow.old.limit }
     ensures bytes { flow.new.bytes ≡ flow.old.bytes }
 {
     let passed = flow.passed();
@@ -209,7 +215,7 @@ fn forget_all(flow: &mut Flow)
 
 // Reads more of a link, and returns whether more came. It reads nothing behind a fault.
 fn read_more<L: WriteCalls + ReadCalls>(link: &mut Link<L>) -> bool
-    requires dry { HasNoNext link.old.flow.left link.old.flow.bytes }
+    requires dry { HasNoNext link.old.flow.limit link.old.flow.left link.old.flow.bytes }
     requires few { length link.old.flow.passed ≤ 8 }
     ensures { result ≡ true → SomeCalls L.wrote L.gave link.old.stream link.new.stream
         (λ reads. (bytes : List ℕ) × Read bytes reads × (link.new.flow ≡ fed link.old.flow bytes)) }

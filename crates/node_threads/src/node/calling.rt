@@ -1,7 +1,8 @@
 //! A node that serves clients, and who calls it.
-ghost use Rattle.std.specs.Prelude.{◌≡◌, ℕ, ◌<◌, ◌≤◌, length, slice_get, Some, IfOk};
+ghost use Rattle.std.specs.Prelude.{◌≡◌, ℕ, ◌<◌, ◌≤◌, length, slice_get, Some, IfOk, IfSome, IfNone};
 ghost use Rattle.std.specs.Option.{ForSome};
 ghost use Rattle.std.specs.Arc.{arc_value};
+ghost use Rattle.locked_node.specs.Lock.{Splits};
 ghost use Rattle.node_core.specs.View.{IsFresh};
 ghost use Rattle.node_threads.specs.Balance.{Balanced};
 ghost use Rattle.node_threads.specs.Restarting.{boot_after, RestartsAt};
@@ -131,7 +132,12 @@ impl<L: Drop> Calling<L> {
 
     /// Another caller of the same node, for 2^64 calls. There is none where memory is refused, or
     /// if this one has no more calls than that left.
-    pub fn split(&mut self) -> Option<Calling<L>> {
+    pub fn split(&mut self) -> Option<Calling<L>>
+        ensures same { arc_value self.new.node ≡ arc_value self.old.node }
+        ensures none { IfNone result (self.new.caller ≡ self.old.caller) }
+        ensures some { IfSome result (λ part. (arc_value part.node ≡ arc_value self.old.node)
+            × Splits self.old.caller self.new.caller part.caller) }
+    {
         let Ok(node) = Arc::try_clone(&self.node) else {
             return None;
         };
@@ -140,12 +146,16 @@ impl<L: Drop> Calling<L> {
     }
 
     /// The calls that were made here.
-    pub fn caller(&self) -> &Caller<Link<L>> {
+    pub fn caller(&self) -> &Caller<Link<L>>
+        ensures { result.now ≡ self.now.caller }
+    {
         &self.caller
     }
 
     /// The node.
-    pub fn node(&self) -> &Node<L> {
+    pub fn node(&self) -> &Node<L>
+        ensures { result.now ≡ arc_value self.now.node }
+    {
         &self.node
     }
 

@@ -2,12 +2,14 @@
 
 mod admission;
 mod calling;
+mod census;
 mod front;
 mod restarts;
 mod secrets;
 
 pub use admission::{Admission, Entrance};
 pub use calling::{Calling, Node};
+pub use census::{ClientCensus, LinkCensus, PoolCensus};
 pub use front::Front;
 pub use restarts::restart;
 pub use secrets::Secrets;

@@ -1,5 +1,5 @@
 //! A client's session, from its login to its end.
-ghost use Rattle.std.specs.Prelude.{◌≡◌, ◌<◌, [], None, length};
+ghost use Rattle.std.specs.Prelude.{◌≡◌, ◌<◌, [], None, length, IsTrue};
 ghost use Rattle.startup.specs.declared.error_code.ErrorCode.TheVariants.{OutOfMemory};
 ghost use Rattle.client_state.specs.Acts.{start};
 ghost use Rattle.pg_frames.specs.Passage.{start as passage_start};
@@ -24,7 +24,7 @@ use lease::{Lease, Pass};
 use locked_node::{Caller, Shared};
 use node_core::LeaveReply;
 use peer_forward::{ReadCalls, WriteCalls, write_whole};
-use pg_frames::Cutter;
+use pg_frames::{Cutter, Flow, MessageLimit};
 use pg_ids::{DatabaseNo, Kind, Secret};
 use startup::{ErrorCode, Reports, Severity, write_login};
 use std::alloc::Global;
@@ -49,13 +49,14 @@ where
     C: WriteCalls + ReadCalls,
     requires own { caller.old.lock ≡ service.shared.now }
     requires database { database < length caller.old.start.view.pools }
+    requires cutter { cutter.old.limit ≡ service.limit.now }
     // Each pass, permit and lease that was made was spent.
     ensures balanced { Balanced caller.old caller.new }
     // The client was served from its login to its end, and told why it ended; or it was refused.
     ensures served { SomeCalls C.wrote C.gave client.old client.new (λ calls. ServesClient
-        ⟦<O::Stream as WriteCalls>⟧.wrote ⟦<O::Stream as ReadCalls>⟧.gave
-        service.entry.reports.now database secret kind cutter.old calls cutter.new caller.old
-        caller.new) }
+        service.entry.limit.now ⟦<O::Stream as WriteCalls>⟧.wrote ⟦<O::Stream as ReadCalls>⟧.gave
+        service.entry.reports.now database secret kind cutter.old.bytes calls cutter.new.bytes
+        caller.old caller.new) }
 {
     let shared = service.shared;
     let Ok(pass) = shared.join(service.rt, caller, database, secret, kind) else {
@@ -84,11 +85,12 @@ where
     G: Gate,
     C: WriteCalls + ReadCalls,
     requires own { caller.old.lock ≡ service.shared.now }
+    requires cutter { cutter.old.limit ≡ service.limit.now }
     ensures balanced { Balanced caller.old caller.new }
     ensures stays { SomeCalls C.wrote C.gave client.old client.new (λ calls. Stays
-        ⟦<O::Stream as WriteCalls>⟧.wrote ⟦<O::Stream as ReadCalls>⟧.gave
-        service.entry.reports.now pass.now database result cutter.old calls cutter.new caller.old
-        caller.new) }
+        service.entry.limit.now ⟦<O::Stream as WriteCalls>⟧.wrote ⟦<O::Stream as ReadCalls>⟧.gave
+        service.entry.reports.now pass.now database result cutter.old.bytes calls cutter.new.bytes
+        caller.old caller.new) }
 {
     let alloc = service.alloc;
     let Ok(entrance) = Entrance::new(service.rt, alloc, service.admission, pass.key().slot()) else {
@@ -97,7 +99,7 @@ where
     if let Some(end) = greet(alloc, service.reports, client, pass) {
         return end;
     }
-    let mut session = Client::new(alloc, database);
+    let mut session = Client::with_limit(alloc, *service.limit, database);
     for _ in service.rt.forever() {
         let ended = serve_request(
             service,
@@ -154,12 +156,16 @@ where
     G: Gate,
     C: WriteCalls + ReadCalls,
     requires own { caller.old.lock ≡ service.shared.now }
-    requires session { session.old ≡ start session.old.database }
+    requires session { session.old ≡ start session.old.limit session.old.database }
+    requires cutter { cutter.old.limit ≡ session.old.limit }
     ensures balanced { Balanced caller.old caller.new }
-    ensures session { result ≡ None → session.new ≡ start session.old.database }
+    ensures session { result ≡ None
+        → session.new ≡ start session.old.limit session.old.database }
+    ensures limit { cutter.new.limit ≡ cutter.old.limit }
     ensures serves { SomeCalls C.wrote C.gave client.old client.new (λ calls. Serves
-        ⟦<O::Stream as WriteCalls>⟧.wrote ⟦<O::Stream as ReadCalls>⟧.gave
-        pass.now session.old.database result cutter.old calls cutter.new caller.old caller.new) }
+        session.old.limit ⟦<O::Stream as WriteCalls>⟧.wrote ⟦<O::Stream as ReadCalls>⟧.gave
+        pass.now session.old.database result cutter.old.bytes calls cutter.new.bytes caller.old
+        caller.new) }
 {
     let request = match next_request(service.rt, session, client, cutter) {
         Ok(request) => request,
@@ -190,12 +196,16 @@ where
     G: Gate,
     C: WriteCalls + ReadCalls,
     requires own { caller.old.lock ≡ service.shared.now }
-    requires session { session.old ≡ asking session.old.database }
+    requires session { session.old ≡ asking session.old.limit session.old.database }
+    requires cutter { cutter.old.limit ≡ session.old.limit }
     ensures moves { Moves (hand_of acquired) caller.old nothing caller.new }
-    ensures session { result ≡ None → session.new ≡ start session.old.database }
+    ensures session { result ≡ None
+        → session.new ≡ start session.old.limit session.old.database }
+    ensures limit { cutter.new.limit ≡ cutter.old.limit }
     ensures comes { SomeCalls C.wrote C.gave client.old client.new (λ calls. ComesOf
-        ⟦<O::Stream as WriteCalls>⟧.wrote ⟦<O::Stream as ReadCalls>⟧.gave
-        acquired request result cutter.old calls cutter.new caller.old caller.new) }
+        session.old.limit ⟦<O::Stream as WriteCalls>⟧.wrote ⟦<O::Stream as ReadCalls>⟧.gave
+        acquired request result cutter.old.bytes calls cutter.new.bytes caller.old
+        caller.new) }
 {
     match acquired {
         Acquired::Lease(lease) => ride(service, caller, client, cutter, session, lease, request),
@@ -225,17 +235,20 @@ where
     G: Gate,
     C: WriteCalls + ReadCalls,
     requires own { caller.old.lock ≡ service.shared.now }
-    requires session { session.old ≡ asking session.old.database }
+    requires session { session.old ≡ asking session.old.limit session.old.database }
+    requires cutter { cutter.old.limit ≡ session.old.limit }
     ensures moves { Moves a_lease caller.old nothing caller.new }
-    ensures session { result ≡ None → session.new ≡ start session.old.database }
+    ensures session { result ≡ None
+        → session.new ≡ start session.old.limit session.old.database }
+    ensures limit { cutter.new.limit ≡ cutter.old.limit }
     ensures comes { SomeCalls C.wrote C.gave client.old client.new (λ calls. ComesOf
-        ⟦<O::Stream as WriteCalls>⟧.wrote ⟦<O::Stream as ReadCalls>⟧.gave
-        (AcquiredOf.Lease lease) request result cutter.old calls cutter.new
+        session.old.limit ⟦<O::Stream as WriteCalls>⟧.wrote ⟦<O::Stream as ReadCalls>⟧.gave
+        (AcquiredOf.Lease lease) request result cutter.old.bytes calls cutter.new.bytes
         caller.old caller.new) }
 {
     service.gate.pass(service.rt, Point::Acquired);
     // A link is given back as it was at its start. No clause of the lock says so.
-    if !lease.stream().flow.is_at_start() {
+    if !is_at_start(session.limit(), &lease.stream().flow) {
         service.gate.pass(service.rt, Point::Ready);
         let _reply = service.shared.close(service.rt, caller, lease);
         return Some(lost(session));
@@ -248,6 +261,13 @@ where
         Stayed::Release | Stayed::Close => None,
         Stayed::End(end) => Some(end),
     }
+}
+
+// Whether a link's flow is as a new one of this limit.
+fn is_at_start(limit: MessageLimit, flow: &Flow) -> bool
+    ensures { IsTrue result → flow.now ≡ passage_start limit }
+{
+    flow.is_at_start() && flow.limit() == limit
 }
 
 // Takes a turn at a desk that is the node behind its lock.
@@ -266,15 +286,18 @@ where
     G: Gate,
     C: WriteCalls + ReadCalls,
     requires own { caller.old.lock ≡ service.shared.now }
-    requires session { session.old ≡ asking session.old.database }
-    requires at_start { lease.stream.flow ≡ passage_start }
+    requires session { session.old ≡ asking session.old.limit session.old.database }
+    requires cutter { cutter.old.limit ≡ session.old.limit }
+    requires at_start { lease.stream.flow ≡ passage_start session.old.limit }
     ensures stay { (link : _) × SomeCalls
         ⟦<O::Stream as WriteCalls>⟧.wrote ⟦<O::Stream as ReadCalls>⟧.gave
         lease.stream.stream link
         (λ on_link. SomeCalls C.wrote C.gave client.old client.new
-        (λ on_client. Stay request [] cutter.old on_link on_client result cutter.new)) }
+        (λ on_client. Stay session.old.limit request [] cutter.old.bytes on_link on_client result
+        cutter.new.bytes)) }
     ensures told { Tells (handed_in result lease.details) caller.old caller.new }
     ensures session { GoesOnWithout result session.old session.new }
+    ensures limit { cutter.new.limit ≡ cutter.old.limit }
 {
     let shared = service.shared;
     let mut desk = LockDesk { shared, caller };

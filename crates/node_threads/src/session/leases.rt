@@ -140,7 +140,7 @@ fn open<R: Wait, O: Opener, G: Gate>(
     requires own { caller.old.lock ≡ service.shared.now }
     ensures moves { Moves a_permit caller.old (hand_of result) caller.new }
     ensures logged_in { OfLease (λ lease. (key : List ℕ) × IsLoggedIn
-        ⟦<O::Stream as WriteCalls>⟧.wrote ⟦<O::Stream as ReadCalls>⟧.gave
+        service.entry.limit.now ⟦<O::Stream as WriteCalls>⟧.wrote ⟦<O::Stream as ReadCalls>⟧.gave
         (O.connects service.entry.opener.now) service.entry.settings.now.databases
         lease.details.at.database key lease.stream.stream
         × CallerStep caller.old (step.Up permit key (up.Up lease.details)) caller.new) result }
@@ -221,7 +221,7 @@ fn connect<R: Wait, O: Opener, G: Gate>(
     database: DatabaseNo,
 ) -> Result<LoggedIn<O::Stream>, LinkError>
     ensures logged_in { IfOk result (λ logged. IsLoggedIn
-        ⟦<O::Stream as WriteCalls>⟧.wrote ⟦<O::Stream as ReadCalls>⟧.gave
+        service.entry.limit.now ⟦<O::Stream as WriteCalls>⟧.wrote ⟦<O::Stream as ReadCalls>⟧.gave
         (O.connects service.entry.opener.now) service.entry.settings.now.databases
         database logged.key logged.link.stream) }
 {
@@ -235,7 +235,14 @@ fn connect<R: Wait, O: Opener, G: Gate>(
         return Err(LinkError::Lost);
     }
     match service.opener.server(service.rt, database) {
-        Ok(stream) => log_in(service.rt, service.alloc, stream, entry.user, entry.dbname),
+        Ok(stream) => log_in(
+            service.rt,
+            service.alloc,
+            *service.limit,
+            stream,
+            entry.user,
+            entry.dbname,
+        ),
         Err(error) => Err(cause_of(&error)),
     }
 }

@@ -24,8 +24,8 @@ pub struct Link<L> {
 pub(crate) fn read_up_to<const MOST: usize, L: WriteCalls + ReadCalls>(link: &mut Link<L>) -> bool
     requires some { 0 < MOST }
     requires many { MOST ≤ 16384 }
-    requires dry { HasNoNext link.old.flow.left link.old.flow.bytes }
-    requires sound { HasFault (after link.old.flow) None }
+    requires dry { HasNoNext link.old.flow.limit link.old.flow.left link.old.flow.bytes }
+    requires sound { HasFault link.old.flow.limit (after link.old.flow) None }
     requires few { length link.old.flow.passed ≤ 8 }
     ensures more { result ≡ true → (call : Call)
         × Makes L.wrote L.gave link.old.stream (call ∷ []) link.new.stream

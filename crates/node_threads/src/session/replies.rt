@@ -35,20 +35,20 @@ pub fn pass_reply<R: Wait, C: WriteCalls + ReadCalls, L: WriteCalls + ReadCalls>
     client: &mut C,
     link: &mut Link<L>,
 ) -> Option<Stayed>
-    requires session { session.old ≡ asking session.old.database }
+    requires session { session.old ≡ asking session.old.limit session.old.database }
     requires between { link.old.flow.left ≡ None }
     requires written { link.old.flow.passed ≡ [] }
     ensures goes_on { result ≡ None → SomeCalls L.wrote L.gave link.old.stream link.new.stream
         (λ reads. SomeCalls C.wrote C.gave client.old client.new
-        (λ tells. GoesOn link.old.flow.bytes [] reads tells)) }
-    ensures open { result ≡ None → session.new ≡ in_transaction session.old.database }
-    ensures drained { result ≡ None → link.new.flow ≡ start }
+        (λ tells. GoesOn link.old.flow.limit link.old.flow.bytes [] reads tells)) }
+    ensures open { result ≡ None → session.new ≡ in_transaction session.old.limit session.old.database }
+    ensures drained { result ≡ None → link.new.flow ≡ start link.old.flow.limit }
     ensures ends { IfSome result (λ stayed.
         SomeCalls L.wrote L.gave link.old.stream link.new.stream
         (λ reads. SomeCalls C.wrote C.gave client.old client.new
-        (λ tells. EndsHere link.old.flow.bytes [] reads tells stayed))) }
+        (λ tells. EndsHere link.old.flow.limit link.old.flow.bytes [] reads tells stayed))) }
     ensures leaves { IfSome result
-        (λ stayed. LeavesBehind stayed session.old session.new link.new.flow) }
+        (λ stayed. LeavesBehind link.old.flow.limit stayed session.old session.new link.new.flow) }
 {
     let mut place = Place::Between;
     for _ in rt.forever() {
@@ -68,9 +68,10 @@ pub fn pass_reply<R: Wait, C: WriteCalls + ReadCalls, L: WriteCalls + ReadCalls>
 
 // Hands out what is there of a reply.
 fn hand_out(session: &mut Client, flow: &mut Flow, place: Place) -> Handed
-    requires { session.old ≡ asking session.old.database }
-    ensures handed { (stream written : List ℕ) → HandedOut stream written place flow.old
-        → HandsOut stream written result flow.new }
+    requires { session.old ≡ asking session.old.limit session.old.database }
+    ensures handed { (limit : ℕ) (stream written : List ℕ)
+        → HandedOut limit stream written place flow.old
+        → HandsOut limit stream written result flow.new }
     ensures dry { IsDry result flow.new }
     ensures session { KeepsSession result session.old session.new }
 {
@@ -90,8 +91,9 @@ fn hand_out(session: &mut Client, flow: &mut Flow, place: Place) -> Handed
 
 // Hands out the whole frames at the front that are passed on, where no frame was begun.
 fn pass_frames(flow: &mut Flow)
-    ensures handed { (stream written : List ℕ) (place : PlaceOf)
-        → HandedOut stream written place flow.old → HandedOut stream written place flow.new }
+    ensures handed { (limit : ℕ) (stream written : List ℕ) (place : PlaceOf)
+        → HandedOut limit stream written place flow.old
+        → HandedOut limit stream written place flow.new }
     ensures fewer { length flow.new.bytes ≤ length flow.old.bytes }
     ensures left { flow.new.left ≡ flow.old.left }
 {
@@ -102,7 +104,7 @@ fn pass_frames(flow: &mut Flow)
 
 // The head of the whole frame at the front, if it is passed on.
 fn next_passed(flow: &Flow) -> Option<Header>
-    ensures { IfSome result (λ head. (flow.now.left ≡ None) × BeginsWith flow.now.bytes head
+    ensures { IfSome result (λ head. (flow.now.left ≡ None) × BeginsWith flow.now.limit flow.now.bytes head
         × (1 + head.length ≤ length flow.now.bytes)
         × (link_message head.kind head.length ≡ PassOn)) }
 {
@@ -182,24 +184,26 @@ fn read_on<C: WriteCalls + ReadCalls, L: WriteCalls + ReadCalls>(
     link: &mut Link<L>,
     place: Place,
 ) -> Option<Stayed>
-    requires session { session.old ≡ asking session.old.database }
-    requires dry { HasNoNext link.old.flow.left link.old.flow.bytes }
-    requires handed { (stream : List ℕ) × (written : List ℕ)
-        × HandedOut stream written place link.old.flow }
+    requires session { session.old ≡ asking session.old.limit session.old.database }
+    requires dry { HasNoNext link.old.flow.limit link.old.flow.left link.old.flow.bytes }
+    requires handed { (limit : ℕ) × (stream : List ℕ) × (written : List ℕ)
+        × HandedOut limit stream written place link.old.flow }
     ensures more { result ≡ None → (call : Call)
         × Makes L.wrote L.gave link.old.stream (call ∷ []) link.new.stream
         × SomeCalls C.wrote C.gave client.old client.new
         (λ tells. (bytes : List ℕ) × Read bytes (call ∷ []) × (text : List ℕ) × Wrote text tells
-        × ((stream written : List ℕ) → HandedOut stream written place link.old.flow
-        → HandedOut (stream ++ bytes) (written ++ text) place link.new.flow)) }
+        × ((limit : ℕ) (stream written : List ℕ)
+        → HandedOut limit stream written place link.old.flow
+        → HandedOut limit (stream ++ bytes) (written ++ text) place link.new.flow)) }
     ensures session { result ≡ None → session.new ≡ session.old }
     ensures ends { IfSome result (λ stayed.
         SomeCalls L.wrote L.gave link.old.stream link.new.stream
         (λ reads. SomeCalls C.wrote C.gave client.old client.new
-        (λ tells. (stream written : List ℕ) → HandedOut stream written place link.old.flow
-        → EndsHere stream written reads tells stayed))) }
+        (λ tells. (limit : ℕ) (stream written : List ℕ)
+        → HandedOut limit stream written place link.old.flow
+        → EndsHere limit stream written reads tells stayed))) }
     ensures leaves { IfSome result
-        (λ stayed. LeavesBehind stayed session.old session.new link.new.flow) }
+        (λ stayed. LeavesBehind link.old.flow.limit stayed session.old session.new link.new.flow) }
 {
     if !pass_on(client, &mut link.flow, place.withheld()) {
         return Some(Stayed::End(Reply::nothing()));
@@ -230,8 +234,8 @@ pub fn lost(session: &mut Client) -> Reply
 // Reads more of a link, and returns whether more came. Most replies are short, so the beginning of
 // one is read by less: what a read may fill is zeroed first.
 fn read_more<L: WriteCalls + ReadCalls>(link: &mut Link<L>) -> bool
-    requires dry { HasNoNext link.old.flow.left link.old.flow.bytes }
-    requires sound { HasFault (after link.old.flow) None }
+    requires dry { HasNoNext link.old.flow.limit link.old.flow.left link.old.flow.bytes }
+    requires sound { HasFault link.old.flow.limit (after link.old.flow) None }
     requires few { length link.old.flow.passed ≤ 6 }
     ensures more { result ≡ true → (call : Call)
         × Makes L.wrote L.gave link.old.stream (call ∷ []) link.new.stream
@@ -254,21 +258,21 @@ fn finish<C: WriteCalls + ReadCalls>(
     flow: &mut Flow,
     status: u8,
 ) -> Option<Stayed>
-    requires session { session.old ≡ asking session.old.database }
-    requires handed { (stream : List ℕ) × (written : List ℕ)
-        × HandedLast stream written (ready_text status) flow.old }
+    requires session { session.old ≡ asking session.old.limit session.old.database }
+    requires handed { (limit : ℕ) × (stream : List ℕ) × (written : List ℕ)
+        × HandedLast limit stream written (ready_text status) flow.old }
     ensures goes_on { result ≡ None → SomeCalls C.wrote C.gave client.old client.new
-        (λ tells. (stream written : List ℕ)
-        → HandedLast stream written (ready_text status) flow.old
-        → GoesOn stream written [] tells) }
-    ensures open { result ≡ None → session.new ≡ in_transaction session.old.database }
-    ensures drained { result ≡ None → flow.new ≡ start }
+        (λ tells. (limit : ℕ) (stream written : List ℕ)
+        → HandedLast limit stream written (ready_text status) flow.old
+        → GoesOn limit stream written [] tells) }
+    ensures open { result ≡ None → session.new ≡ in_transaction session.old.limit session.old.database }
+    ensures drained { result ≡ None → flow.new ≡ start flow.old.limit }
     ensures ends { IfSome result (λ stayed. SomeCalls C.wrote C.gave client.old client.new
-        (λ tells. (stream written : List ℕ)
-        → HandedLast stream written (ready_text status) flow.old
-        → EndsHere stream written [] tells stayed)) }
+        (λ tells. (limit : ℕ) (stream written : List ℕ)
+        → HandedLast limit stream written (ready_text status) flow.old
+        → EndsHere limit stream written [] tells stayed)) }
     ensures leaves { IfSome result
-        (λ stayed. LeavesBehind stayed session.old session.new flow.new) }
+        (λ stayed. LeavesBehind flow.old.limit stayed session.old session.new flow.new) }
 {
     match session.on_ready(status) {
         Act::Release(_) => Some(finish_idle(client, flow)),

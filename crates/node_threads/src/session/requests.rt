@@ -2,6 +2,7 @@
 ghost use Rattle.std.specs.Prelude.{◌≡◌, ◌<◌, ◌≤◌, ◌++◌, ◌∷◌, [], ℕ, List, None, Some, IfSome, OnOk};
 ghost use Rattle.peer_forward.specs.Calls.{Call, Makes};
 ghost use Rattle.pg_frames.specs.FrameText.{BeginsNoFrame};
+ghost use Rattle.pg_frames.specs.Pending.{with_piece};
 ghost use Rattle.startup.specs.declared.error_code.ErrorCode.TheVariants.{ProtocolViolation};
 ghost use Rattle.node_threads.specs.StreamCalls.{SomeCalls, Read};
 ghost use Rattle.node_threads.specs.Asking.{IsError};
@@ -38,10 +39,13 @@ pub fn next_request<R: Wait, C: WriteCalls + ReadCalls>(
     client: &mut C,
     cutter: &mut Cutter,
 ) -> Result<Request, Reply>
-    requires { session.old ≡ gathering session.old.leased session.old.database [] }
+    requires session { session.old
+        ≡ gathering session.old.limit session.old.leased session.old.database [] }
+    requires limit { cutter.old.limit ≡ session.old.limit }
     ensures asks { SomeCalls C.wrote C.gave client.old client.new
-        (λ calls. AsksNext cutter.old calls result cutter.new) }
-    ensures session { OnOk result (session.new ≡ asking session.old.database) }
+        (λ calls. AsksNext session.old.limit cutter.old.bytes calls result cutter.new.bytes) }
+    ensures session { OnOk result (session.new ≡ asking session.old.limit session.old.database) }
+    ensures limit { cutter.new.limit ≡ cutter.old.limit }
 {
     let mut has_read = false;
     for _ in rt.forever() {
@@ -66,12 +70,13 @@ fn read_more<C: WriteCalls + ReadCalls>(
     cutter: &mut Cutter,
     has_read: bool,
 ) -> Option<Reply>
-    requires none { BeginsNoFrame cutter.old }
+    requires none { BeginsNoFrame cutter.old.limit cutter.old.bytes }
     ensures more { result ≡ None → SomeCalls C.wrote C.gave client.old client.new
-        (λ calls. (bytes : List ℕ) × Read bytes calls × (cutter.new ≡ cutter.old ++ bytes)) }
+        (λ calls. (bytes : List ℕ) × Read bytes calls × (cutter.new ≡ with_piece cutter.old bytes)) }
     ensures session { result ≡ None → session.new ≡ session.old }
     ensures ends { IfSome result (λ reply. SomeCalls C.wrote C.gave client.old client.new
-        (λ calls. Quits cutter.old calls reply cutter.new)) }
+        (λ calls. Quits cutter.old.limit cutter.old.bytes calls reply cutter.new.bytes)) }
+    ensures limit { cutter.new.limit ≡ cutter.old.limit }
 {
     if has_read {
         read_on::<MAX_READ, C>(session, client, cutter)
@@ -82,9 +87,12 @@ fn read_more<C: WriteCalls + ReadCalls>(
 
 // Cuts a request from what was read of the client.
 fn cut_request(session: &mut Client, cutter: &mut Cutter) -> Found
-    requires { session.old
-        ≡ gathering session.old.leased session.old.database session.old.gathered }
-    ensures { Finds session.old cutter.old result session.new cutter.new }
+    requires session { session.old ≡ gathering session.old.limit session.old.leased
+        session.old.database session.old.gathered }
+    requires limit { cutter.old.limit ≡ session.old.limit }
+    ensures finds { Finds session.old.limit session.old cutter.old.bytes result session.new
+        cutter.new.bytes }
+    ensures limit { cutter.new.limit ≡ cutter.old.limit }
 {
     loop {
         let Ok(found) = cutter.next() else {
@@ -114,12 +122,13 @@ fn read_on<const MOST: usize, C: WriteCalls + ReadCalls>(
 ) -> Option<Reply>
     requires some { 0 < MOST }
     requires many { MOST ≤ 16384 }
-    requires none { BeginsNoFrame cutter.old }
+    requires none { BeginsNoFrame cutter.old.limit cutter.old.bytes }
     ensures more { result ≡ None → SomeCalls C.wrote C.gave client.old client.new
-        (λ calls. (bytes : List ℕ) × Read bytes calls × (cutter.new ≡ cutter.old ++ bytes)) }
+        (λ calls. (bytes : List ℕ) × Read bytes calls × (cutter.new ≡ with_piece cutter.old bytes)) }
     ensures session { result ≡ None → session.new ≡ session.old }
     ensures ends { IfSome result (λ reply. SomeCalls C.wrote C.gave client.old client.new
-        (λ calls. Quits cutter.old calls reply cutter.new)) }
+        (λ calls. Quits cutter.old.limit cutter.old.bytes calls reply cutter.new.bytes)) }
+    ensures limit { cutter.new.limit ≡ cutter.old.limit }
 {
     if let Some(error) = cutter.fault() {
         return Some(refusal(session, error));

@@ -25,15 +25,18 @@ pub fn stay<R: Wait, C: WriteCalls + ReadCalls, L: WriteCalls + ReadCalls>(
     request: Request,
 ) -> Stayed
     // The session waits for the reply to the request, and its link is between two frames.
-    requires session { session.old ≡ asking session.old.database }
+    requires session { session.old ≡ asking session.old.limit session.old.database }
+    requires cutter { cutter.old.limit ≡ session.old.limit }
+    requires link { link.old.flow.limit ≡ session.old.limit }
     requires between { link.old.flow.left ≡ None }
     requires written { link.old.flow.passed ≡ [] }
     ensures stay { SomeCalls L.wrote L.gave link.old.stream link.new.stream
         (λ on_link. SomeCalls C.wrote C.gave client.old client.new
-        (λ on_client. Stay request link.old.flow.bytes cutter.old on_link on_client result
-        cutter.new)) }
+        (λ on_client. Stay session.old.limit request link.old.flow.bytes cutter.old.bytes on_link
+        on_client result cutter.new.bytes)) }
     // Where the session goes on it has no lease, and a link that is given back is as at its start.
-    ensures leaves { LeavesBehind result session.old session.new link.new.flow }
+    ensures leaves { LeavesBehind session.old.limit result session.old session.new link.new.flow }
+    ensures limit { cutter.new.limit ≡ cutter.old.limit }
 {
     let mut request = request;
     for _ in rt.forever() {

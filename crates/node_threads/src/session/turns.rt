@@ -33,16 +33,19 @@ where
     C: WriteCalls + ReadCalls,
     L: WriteCalls + ReadCalls,
     requires ready { D.ready desk.old }
-    requires session { session.old ≡ asking session.old.database }
+    requires session { session.old ≡ asking session.old.limit session.old.database }
+    requires cutter { cutter.old.limit ≡ session.old.limit }
+    requires link { lease.stream.flow.limit ≡ session.old.limit }
     requires between { lease.stream.flow.left ≡ None }
     requires written { lease.stream.flow.passed ≡ [] }
     // The desk gets the link as the stay left it: with nothing of a reply where it is given back.
     ensures stay { (link : _) × SomeCalls L.wrote L.gave lease.stream.stream link.stream
         (λ on_link. SomeCalls C.wrote C.gave client.old client.new
-        (λ on_client. Stay request lease.stream.flow.bytes cutter.old on_link on_client result
-        cutter.new))
-        × (result ≡ Release → link.flow ≡ start) × D.took desk.old link desk.new }
+        (λ on_client. Stay session.old.limit request lease.stream.flow.bytes cutter.old.bytes on_link
+        on_client result cutter.new.bytes))
+        × (result ≡ Release → link.flow ≡ start session.old.limit) × D.took desk.old link desk.new }
     ensures session { GoesOnWithout result session.old session.new }
+    ensures limit { cutter.new.limit ≡ cutter.old.limit }
     // One call, with the session's own lease.
     ensures told { D.told desk.old (handed_in result lease.details) desk.new }
 {

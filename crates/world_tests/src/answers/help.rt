@@ -25,7 +25,8 @@ Exit status:
   1  a file can't be read, an address can't be listened at, the packet is no cancel request, memory
      ran out, or writing failed
   2  the arguments, a settings file, a script or the group are refused
-'serve' and 'stub' run until they are stopped, and end by themselves only with status 1 or 2.
+'serve' and 'stub' run until they are stopped, and end by themselves only with status 1 or 2; with
+'--until-eof' 'serve' ends with status 0 after the end of standard input.
 
 Examples:
   pgpeer key 0008000000000007
@@ -135,7 +136,9 @@ const SERVE: &str = "\
 Serve clients and cancel requests as a group of poolers, until stopped
 
 Usage: pgpeer serve --front <PORT> (--seed <HEX64> | --seed-file <FILE>)
-                    [--boot <N>] [--stand-in] [--report <NAME=VALUE>]... <FILE>...
+                    [--boot <N>] [--stand-in] [--report <NAME=VALUE>]...
+                    [--max-message <BYTES>] [--metrics <PORT>] [--log <LEVEL>] [--until-eof]
+                    <FILE>...
 
 Arguments:
   <FILE>...  Settings files, one for each pooler of this process
@@ -154,6 +157,16 @@ Options:
                              name as a server's address, for trials without PostgreSQL
       --report <NAME=VALUE>  Report this parameter to clients at each login, as PostgreSQL does
                              of its own: give it once for each parameter
+      --max-message <BYTES>  The longest message that is passed on, in either direction, as its
+                             length field says, and the longest group of messages of an extended
+                             query: 8192 to 1073741823, and 1048576 where it isn't given
+      --metrics <PORT>       Serve figures for Prometheus over HTTP at this port of 127.0.0.1,
+                             1 to 65535
+      --log <LEVEL>          Which lines of the log are written: 'warn' for those that somebody
+                             may have to look into, 'notice' for these and what the group does,
+                             'info' for these and each cancel. It is 'notice' where it isn't given
+      --until-eof            Stop gracefully at the end of standard input: no new connections,
+                             sessions end between transactions, then the program ends
   -h, --help                 Print help
 
 One file is a pooler of a group whose others run elsewhere. Several files are several poolers of a

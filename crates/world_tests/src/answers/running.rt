@@ -4,15 +4,16 @@ use std::alloc::Global;
 use std::process::Abort;
 use std::test::Fail;
 
-const SERVE: &str = "serve --front <PORT> --seed <HEX64> [--boot <N>] [--stand-in] <FILE>...";
+pub(super) const SERVE: &str =
+    "serve --front <PORT> --seed <HEX64> [--boot <N>] [--stand-in] <FILE>...";
 
 const STUB: &str = "stub [--byte] <PORT>";
 
 // Stands for the word `SEED` in a line of arguments.
-const SEED: &str = "000102030405060708090a0b0c0d0e0f101112131415161718191A1B1C1D1E1F";
+pub(super) const SEED: &str = "000102030405060708090a0b0c0d0e0f101112131415161718191A1B1C1D1E1F";
 
 // The words of a line of arguments.
-fn words_of<'a>(alloc: Global, line: &'a str) -> Result<Vec<&'a str>, Fail> {
+pub(super) fn words_of<'a>(alloc: Global, line: &'a str) -> Result<Vec<&'a str>, Fail> {
     let mut words = Vec::new(alloc);
     for word in line.split(' ') {
         words.push(if word == "SEED" { SEED } else { word })?;
@@ -295,7 +296,7 @@ fn others(rt: HostRuntime) -> Result<(), Fail> {
 
 // These arguments are refused: this fault, and the usage of the command.
 #[track_caller]
-fn expect_wrong<'a>(
+pub(super) fn expect_wrong<'a>(
     rt: &(impl Abort + Alloc<A = Global>),
     words: &'a [&'a str],
     fault: &str,
@@ -314,7 +315,7 @@ fn expect_wrong<'a>(
     Ok(())
 }
 
-const PORTS: [&str; 8] = [
+pub(super) const PORTS: [&str; 8] = [
     "0",
     "01",
     "65536",
@@ -545,9 +546,7 @@ fn unexpected(rt: HostRuntime) -> Result<(), Fail> {
     let fault = "unexpected value 'x' for '--byte' found; no more were expected";
     expect_wrong(&rt, &["stub", "--byte=x", "1"], fault, STUB)?;
     let fault =
-        "unexpected argument '--me' found\n\n  tip: to pass '--me' as a value, use '-- --me'";
-    let words = [
-        "serve", "--front", "1", "--seed", SEED, "a.ini", "--me", "1",
-    ];
+        "unexpected argument '--all' found\n\n  tip: to pass '--all' as a value, use '-- --all'";
+    let words = ["serve", "--front", "1", "--seed", SEED, "a.ini", "--all"];
     expect_wrong(&rt, &words, fault, SERVE)
 }

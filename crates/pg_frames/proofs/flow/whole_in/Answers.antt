@@ -4,9 +4,9 @@ use Rattle.pg_frames.proofs.flow.whole_in.Goals as goal
 
 pub returns-in_default-clause-none : goal.returns-in_default-clause-none
 returns-in_default-clause-none c is =
-    no_frame-begun c.args.bytes.now c.in-Some.head c.in-Some.ensures
+    no_frame-begun _ c.args.bytes.now c.in-Some.head c.in-Some.ensures
     (omega (arith, c.if-head-bytes.false))
 
 pub returns-in_default-2-clause-none : goal.returns-in_default-2-clause-none
 returns-in_default-2-clause-none c is =
-    no_frame-no_head c.args.bytes.now c.in_default.ensures
+    no_frame-no_head _ c.args.bytes.now c.in_default.ensures

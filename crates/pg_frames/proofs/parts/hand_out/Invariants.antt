@@ -4,8 +4,8 @@ use Rattle.pg_frames.proofs.parts.hand_out.Given as goal
 
 -- what was taken so far was handed out
 abbrev pub invariant-loop-piece : goal.invariant-loop-piece
-invariant-loop-piece l = (stream : List ℕ) → SoFar stream l.fn.pieces.items l.fn.flow
-    → SoFar stream l.pieces.items l.flow
+invariant-loop-piece l = (limit : ℕ) (stream : List ℕ)
+    → SoFar limit stream l.fn.pieces.items l.fn.flow → SoFar limit stream l.pieces.items l.flow
 
 abbrev in_frame : Option ℕ → ℕ
 in_frame None = 0

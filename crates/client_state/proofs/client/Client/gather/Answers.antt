@@ -11,6 +11,7 @@ invariant_of-self c =
       c.requires,
       ap length c.in-Ok.ensures.ok,
       ap (λ (s : Session). length s.gathered) c.self.view_is,
+      ap (λ (s : Session). s.limit) c.self.view_is,
       length-append c.self.inside.gathered.items (text c.args.frame.now),
       length-text c.args.frame.now,
     )

@@ -5,16 +5,19 @@ use Rattle.node_threads.proofs.LoginLemmas.{part_passed}
 use Rattle.node_threads.proofs.login.server.take_part.Goals as goal
 
 pub returns-in-Reading-clause-takes : goal.returns-in-Reading-clause-takes
-returns-in-Reading-clause-takes c stream before come hands =
-    c.take_wanted.ensures.takes stream before
-    (subst (λ (p : LoginPlace). HasCome stream p c.args.login.now before) c.in-Reading.is come)
+returns-in-Reading-clause-takes c limit stream before come hands =
+    c.take_wanted.ensures.takes limit stream before
+    (subst
+    (λ (p : LoginPlace). HasCome limit stream p c.args.login.now before) c.in-Reading.is come)
     hands
 
 pub returns-in_default : goal.returns-in_default
 returns-in_default c = record {
-  takes = λ stream before come hands. part_passed stream c.args.place c.args.login.now before
+  takes = λ limit stream before come hands. part_passed limit stream c.args.place c.args.login.now
+      before
       c.args.flow.now c.forget_all.new.flow c.in_default.not-Reading c.forget_all.ensures come
       hands;
   left = ap (λ p. p.left) c.forget_all.ensures;
+  limit = ap (λ p. p.limit) c.forget_all.ensures;
   bytes = ap (λ p. p.bytes) c.forget_all.ensures;
 }

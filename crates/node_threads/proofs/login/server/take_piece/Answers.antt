@@ -5,17 +5,17 @@ use Rattle.node_threads.proofs.LoginLemmas.{tail_taken}
 use Rattle.node_threads.proofs.login.server.take_piece.Goals as goal
 
 pub returns-in-Head-clause-takes : goal.returns-in-Head-clause-takes
-returns-in-Head-clause-takes c stream before come hands =
-    c.take_head.ensures.takes c.args.place stream before come
+returns-in-Head-clause-takes c limit stream before come hands =
+    c.take_head.ensures.takes c.args.place limit stream before come
     (subst (λ (m : Mark). Handed before m c.args.flow.now) c.in-Head.is hands)
 
 pub returns-in-Part-clause-takes : goal.returns-in-Part-clause-takes
-returns-in-Part-clause-takes c stream before come hands =
-    c.take_part.ensures.takes stream before come
+returns-in-Part-clause-takes c limit stream before come hands =
+    c.take_part.ensures.takes limit stream before come
     (subst (λ (m : Mark). Handed before m c.args.flow.now) c.in-Part.is hands)
 
 pub returns-in-Tail-clause-takes : goal.returns-in-Tail-clause-takes
-returns-in-Tail-clause-takes c stream before come hands =
-    tail_taken stream c.args.place c.args.login.now before c.args.flow.now c.after_tail.result
+returns-in-Tail-clause-takes c limit stream before come hands =
+    tail_taken limit stream c.args.place c.args.login.now before c.args.flow.now c.after_tail.result
     c.after_tail.ensures come
     (subst (λ (m : Mark). Handed before m c.args.flow.now) c.in-Tail.is hands)

@@ -7,11 +7,12 @@ use Rattle.node_threads.proofs.LoginLemmas.{handed_piece}
 use Rattle.node_threads.proofs.login.server.take_pieces.Goals as goal
 
 pub returns-in-Done-clause-takes : goal.returns-in-Done-clause-takes
-returns-in-Done-clause-takes c stream come =
+returns-in-Done-clause-takes c limit stream come =
     let new = c.next.follows.lender-at-none in
     let hands =
     subst (λ (found : Option Piece). Hands c.loop-piece.flow found new) c.in-Some.is
     c.next.follows.holds-at-none in
-    c.in-Done.ensures.takes stream c.loop-piece.flow (c.loop-piece.invariant stream come)
+    c.in-Done.ensures.takes limit stream c.loop-piece.flow (c.loop-piece.invariant.0 limit stream
+    come)
     (subst (λ (m : Mark). Handed c.loop-piece.flow m new) (sym c.of-mark.ensures)
     (handed_piece c.loop-piece.flow new c.in-Some.piece hands))

@@ -1,11 +1,12 @@
-use Rattle.std.proofs.Common.{ℕ, List, Option, None, Some, ◌+◌, ◌*◌, length}
+use Rattle.std.proofs.Common.{◌≡◌, ℕ, List, Option, None, Some, ◌+◌, ◌*◌, length}
 use Rattle.node_threads.specs.LoggingIn.{HasCome}
 use Rattle.node_threads.proofs.login.server.take_pieces.Given as goal
 
 -- what came up to the start came up to here
 abbrev pub invariant-loop-piece : goal.invariant-loop-piece
-invariant-loop-piece l = (stream : List ℕ) → HasCome stream l.fn.place l.fn.login l.fn.flow
-    → HasCome stream l.place l.login l.flow
+invariant-loop-piece l = ((limit : ℕ) (stream : List ℕ)
+    → HasCome limit stream l.fn.place l.fn.login l.fn.flow
+    → HasCome limit stream l.place l.login l.flow) × (l.flow.limit ≡ l.fn.flow.limit)
 
 abbrev in_frame : Option ℕ → ℕ
 in_frame None = 0

@@ -10,25 +10,30 @@ returns-then-not-is_at_start-clause-moves g c =
 
 pub returns-then-not-is_at_start-clause-comes : goal.returns-then-not-is_at_start-clause-comes
 returns-then-not-is_at_start-clause-comes g c =
-    spoilt _ _ _ _ _ c.args.lease c.args.request c.lost.result c.args.cutter.now _ _ _
+    spoilt _ _ _ _ _ _ c.args.lease c.args.request c.lost.result c.args.cutter.now.bytes _ _ _
     c.close-reply.ensures.counted c.lost.ensures
 
 pub returns-in-Release : goal.returns-in-Release
 returns-in-Release g c = record {
-  moves = handed_in_moves c.take_turn-stayed.result c.args.lease.details _ _ c.take_turn-stayed.ensures.told;
-  session = λ none. goes_on_as_at_start c.take_turn-stayed.result c.args.session.now _
-      c.args.session.now.database c.in-Release.is c.take_turn-stayed.ensures.session c.requires.session;
-  comes = rides_on _ _ _ _ _ _ c.args.lease _ c.args.request c.args.cutter.now _
+  moves = handed_in_moves c.take_turn-stayed.result c.args.lease.details _ _
+      c.take_turn-stayed.ensures.told;
+  session = λ none. goes_on_as_at_start _ c.take_turn-stayed.result c.args.session.now _
+      c.args.session.now.database c.in-Release.is c.take_turn-stayed.ensures.session
+      c.requires.session;
+  limit = c.take_turn-stayed.ensures.limit;
+  comes = rides_on _ _ _ _ _ _ _ c.args.lease _ c.args.request c.args.cutter.now.bytes _
       c.take_turn-stayed.result _ _ c.take_turn-stayed.ensures.stay c.take_turn-stayed.ensures.told
       c.in-Release.is;
 }
 
 pub returns-in-End-clause-moves : goal.returns-in-End-clause-moves
 returns-in-End-clause-moves g c =
-    handed_in_moves c.take_turn-stayed.result c.args.lease.details _ _ c.take_turn-stayed.ensures.told
+    handed_in_moves c.take_turn-stayed.result c.args.lease.details _ _
+    c.take_turn-stayed.ensures.told
 
 pub returns-in-End-clause-comes : goal.returns-in-End-clause-comes
 returns-in-End-clause-comes g c =
-    rides _ _ _ _ _ _ c.args.lease _ c.args.request c.args.cutter.now _ c.take_turn-stayed.result _
+    rides _ _ _ _ _ _ _ c.args.lease _ c.args.request c.args.cutter.now.bytes _
+    c.take_turn-stayed.result _
     _ _ c.take_turn-stayed.ensures.stay c.take_turn-stayed.ensures.told
     (sym (ap end_of c.in-End.is))

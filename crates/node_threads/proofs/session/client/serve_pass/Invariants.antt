@@ -7,11 +7,12 @@ use Rattle.node_threads.proofs.session.client.serve_pass.Given as goal
 
 -- so far requests were served, and between two of them nothing but the pass is held
 abbrev pub invariant-loop : goal.invariant-loop
-invariant-loop g l = Balanced l.fn.caller l.caller × (l.session ≡ start l.fn.database)
-    × Serving (λ old bytes result new.
+invariant-loop g l = Balanced l.fn.caller l.caller
+    × (l.session ≡ start l.fn.service.limit.now l.fn.database)
+    × Serving l.fn.service.limit.now (λ old bytes result new.
     WriteAppends (g.O.Stream.Write.contents old) (g.O.Stream.Write.contents new) result bytes)
     (λ old buffer result new.
     ReadConsumes (g.O.Stream.Read.remaining old) (g.O.Stream.Read.remaining new) result buffer)
     g.C.WriteCalls.wrote g.C.ReadCalls.gave l.fn.service.reports.now l.fn.pass l.fn.database
-    l.fn.cutter l.fn.client
-    l.client l.cutter l.fn.caller l.caller
+    l.fn.cutter.bytes l.fn.client l.client l.cutter.bytes l.fn.caller l.caller
+    × (l.cutter.limit ≡ l.fn.service.limit.now)

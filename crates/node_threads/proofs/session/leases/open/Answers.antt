@@ -10,7 +10,7 @@ returns-in-Ok-clause-logged_in g c =
     of_lease _ _ _ _
     (λ lease at link key. (
       c.in-Ok.opened.key,
-      same_link _ _ _ _ c.in-Ok.opened.key lease.details.at c.details.result.at lease.stream
+      same_link _ _ _ _ _ c.in-Ok.opened.key lease.details.at c.details.result.at lease.stream
           c.in-Ok.opened.link (at ∙ sym is_permit) link c.in-Ok.ensures.logged_in,
       key,
     ))

@@ -9,7 +9,8 @@ returns-in-Release-clause-ends g c =
     let told = c.finish_idle.ensures.told in (
       told.0,
       told.1,
-      λ stream written last. idle_ends stream written c.args.status c.args.flow.now told.0 _ idle
+      λ limit stream written last. idle_ends limit stream written c.args.status c.args.flow.now
+          told.0 _ idle
           told.2 last,
     )
 
@@ -34,6 +35,7 @@ returns-in-Close-clause-ends g c =
     let told = c.refuse.ensures in (
       told.0,
       told.1,
-      λ stream written last. unclear_ends stream written c.args.status c.args.flow.now _ _ told.0
+      λ limit stream written last. unclear_ends limit stream written c.args.status c.args.flow.now
+          _ _ told.0
           is.0 is.1 told.2 last,
     )

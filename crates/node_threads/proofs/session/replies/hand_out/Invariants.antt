@@ -4,8 +4,9 @@ use Rattle.node_threads.proofs.session.replies.hand_out.Given as goal
 
 -- what was handed out so far, and the session as it was
 abbrev pub invariant-loop-piece : goal.invariant-loop-piece
-invariant-loop-piece l = ((stream written : List ℕ)
-    → HandedOut stream written l.fn.place l.fn.flow → HandedOut stream written l.place l.flow)
+invariant-loop-piece l = ((limit : ℕ) (stream written : List ℕ)
+    → HandedOut limit stream written l.fn.place l.fn.flow
+    → HandedOut limit stream written l.place l.flow)
     × (l.session ≡ l.fn.session)
 
 abbrev in_frame : Option ℕ → ℕ

@@ -5,8 +5,8 @@ use Rattle.node_threads.proofs.session.replies.pass_frames.Given as goal
 
 -- whole frames were handed out so far
 abbrev pub invariant-loop-head : goal.invariant-loop-head
-invariant-loop-head l = ((stream written : List ℕ) (place : Place)
-    → HandedOut stream written place l.fn.flow → HandedOut stream written place l.flow)
+invariant-loop-head l = ((limit : ℕ) (stream written : List ℕ) (place : Place)
+    → HandedOut limit stream written place l.fn.flow → HandedOut limit stream written place l.flow)
     × (length l.flow.bytes ≤ length l.fn.flow.bytes) × (l.flow.left ≡ l.fn.flow.left)
 
 -- each frame takes bytes

@@ -13,7 +13,8 @@ returns-then-not-pass_on-clause-ends g c =
       (
         told.0,
         told.1,
-        λ stream written out. untold_ends stream written c.args.place c.args.link.now.flow _ told.0 _
+        λ limit stream written out. untold_ends limit stream written c.args.place
+            c.args.link.now.flow _ told.0 _
             c.withheld.ensures c.requires.dry told.2 (ap End c.nothing.ensures) out,
       ),
     )
@@ -21,14 +22,16 @@ returns-then-not-pass_on-clause-ends g c =
 pub returns-then-is_some-clause-ends : goal.returns-then-is_some-clause-ends
 returns-then-is_some-clause-ends g c =
     let told = c.if-not-pass_on.ensures.told refl in
-    let has = subst (λ (p : Passage). HasFault (after p) c.fault.result) c.pass_on.ensures.flow
+    let has = subst (λ (p : Passage). HasFault p.limit (after p) c.fault.result)
+    c.pass_on.ensures.flow
     c.fault.ensures in (
       [],
       refl,
       (
         told.0,
         told.1,
-        λ stream written out. faulty_ends stream written c.args.place c.args.link.now.flow
+        λ limit stream written out. faulty_ends limit stream written c.args.place
+            c.args.link.now.flow
             c.fault.result _ told.0 _ _ c.withheld.ensures
             (sym c.is_some.ensures ∙ c.if-is_some.true) c.requires.dry has told.2 c.lost.ensures
             refl out,
@@ -49,7 +52,8 @@ returns-then-read_more-clause-more g c _ =
           read.3,
           _,
           told.2,
-          λ stream written out. more_read stream written c.args.place c.args.link.now.flow _ _
+          λ limit stream written out. more_read limit stream written c.args.place
+              c.args.link.now.flow _ _
               read.2 c.withheld.ensures
               (read.4 ∙ ap (λ p. fed p read.2) c.pass_on.ensures.flow) out,
         ),
@@ -65,7 +69,8 @@ returns-in-Inside-clause-ends g c =
       (
         told.0,
         told.1,
-        λ stream written out. cut_ends stream written c.args.place c.args.link.now.flow _ read.0
+        λ limit stream written out. cut_ends limit stream written c.args.place c.args.link.now.flow
+            _ read.0
             told.0 _ c.in-Inside.is c.withheld.ensures c.requires.dry told.2 read.2
             (ap End c.nothing-in-Inside.ensures) out,
       ),
@@ -75,14 +80,15 @@ pub returns-in_default-clause-ends : goal.returns-in_default-clause-ends
 returns-in_default-clause-ends g c =
     let told = c.if-not-pass_on.ensures.told refl in
     let read = c.if-read_more.ensures.none refl in
-    let has = subst (λ (p : Passage). HasFault (after p) c.fault.result) c.pass_on.ensures.flow
+    let has = subst (λ (p : Passage). HasFault p.limit (after p) c.fault.result)
+    c.pass_on.ensures.flow
     c.fault.ensures in (
       _,
       read.1,
       (
         told.0,
         told.1,
-        λ stream written out. lost_ends stream written c.args.place c.args.link.now.flow
+        λ limit stream written out. lost_ends limit stream written c.args.place c.args.link.now.flow
             c.fault.result _ read.0 told.0 _ _ c.in_default.not-Inside c.withheld.ensures
             (sym c.is_some.ensures ∙ c.if-is_some.false) has c.requires.dry told.2 read.2
             c.lost-in_default.ensures refl out,

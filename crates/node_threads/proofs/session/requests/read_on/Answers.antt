@@ -8,7 +8,7 @@ pub returns-in-Some-clause-ends : goal.returns-in-Some-clause-ends
 returns-in-Some-clause-ends g c = (
   [],
   refl,
-  quits_faulty c.args.cutter.now c.in-Some.error _ c.requires.none c.in-Some.ensures.stands
+  quits_faulty _ c.args.cutter.now.bytes c.in-Some.error _ c.requires.none c.in-Some.ensures.stands
       c.refusal.ensures,
 )
 
@@ -19,7 +19,7 @@ returns-then-count-eq0-clause-ends g c =
       call.1,
       inr (inl (
         ReadToEnd-failed call.0 call.2,
-        fault_here c.args.cutter.now _ c.requires.none c.in_default.ensures.stands,
+        fault_here _ c.args.cutter.now.bytes _ c.requires.none c.in_default.ensures.stands,
         refl,
         c.nothing.ensures,
       )),

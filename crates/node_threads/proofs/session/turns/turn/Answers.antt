@@ -7,7 +7,7 @@ pub returns-in-Release-clause-stay : goal.returns-in-Release-clause-stay
 returns-in-Release-clause-stay g c = (
   c.stay-stayed.new.link,
   rw c.stream_mut.ensures.value at c.stay-stayed.ensures.stay,
-  λ released. (subst (λ (s : Stayed). LeavesBehind s c.args.session.now
+  λ released. (subst (λ (s : Stayed). LeavesBehind c.args.session.now.limit s c.args.session.now
       c.stay-stayed.new.session c.stay-stayed.new.link.flow) released
       c.stay-stayed.ensures.leaves).1,
   c.release.ensures.took,
@@ -17,7 +17,7 @@ pub returns-in-Close-clause-stay : goal.returns-in-Close-clause-stay
 returns-in-Close-clause-stay g c = (
   c.stay-stayed.new.link,
   rw c.stream_mut.ensures.value at c.stay-stayed.ensures.stay,
-  λ released. (subst (λ (s : Stayed). LeavesBehind s c.args.session.now
+  λ released. (subst (λ (s : Stayed). LeavesBehind c.args.session.now.limit s c.args.session.now
       c.stay-stayed.new.session c.stay-stayed.new.link.flow) released
       c.stay-stayed.ensures.leaves).1,
   c.close.ensures.took,

@@ -1,0 +1,24 @@
+//! How a group runs.
+ghost use Rattle.std.specs.Prelude.{◌<◌, ◌≤◌};
+ghost use Rattle.std.specs.Option.{ForSome};
+
+use crate::log_level::LogLevel;
+use startup::Reports;
+
+/// How a group runs.
+#[derive(Drop)]
+pub struct RunOptions {
+    /// What logins report beside the parameters that each of them reports.
+    pub reports: Reports,
+    /// The length in bytes of the longest message that is passed on.
+    pub max_message: u32,
+    /// The port at which figures are served, if there is one.
+    pub metrics: Option<u16>,
+    /// Which lines of the log are written.
+    pub log: LogLevel,
+    /// Whether the group stops at the end of standard input.
+    pub until_eof: bool,
+    ghost least_message: { 8192 ≤ max_message },
+    ghost most_message: { max_message ≤ 1073741823 },
+    ghost serves_figures: { ForSome metrics (λ port. 0 < port) },
+}

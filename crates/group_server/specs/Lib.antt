@@ -1,0 +1,3 @@
+pub mod Levels
+pub mod CancelEnds
+pub mod MetricsText

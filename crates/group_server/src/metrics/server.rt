@@ -1,0 +1,254 @@
+//! The port at which metrics are read, over HTTP. Few connections are served at a time, each for a
+//! short time, and what they read is made anew once a second at most: so whoever reads slowly, or
+//! without end, holds nothing that the group needs.
+use crate::limits::{METRICS_AGE_MILLIS, METRICS_MILLIS, METRICS_REQUEST_MILLIS};
+use crate::metrics::counters::Counters;
+use crate::metrics::page::page_of;
+use crate::metrics::request::{Answer, answer_to};
+use crate::metrics::state::NodeState;
+use crate::poll::wait_readable;
+use crate::{Deadline, Host, Log, Machine, Serving};
+use ini_config::Group;
+use std::alloc::{AllocError, Global};
+use std::io::{ErrorKind, Read, Write};
+use std::net::{Shutdown, TcpListener, TcpStream};
+use std::os::fd::AsRawFd;
+use std::sync::{Arc, Mutex};
+use std::time::Duration;
+use std::{io, thread};
+
+// How many milliseconds pass after a fault until the next connection is accepted.
+const REST: u64 = 10;
+
+// How long the head of a request may be, in bytes.
+const MOST_BYTES: usize = 8_192;
+
+/// What metrics are read from, and the listener at which they are read.
+#[derive(Drop)]
+pub struct Exporter<M: Machine> {
+    listener: TcpListener,
+    version: String,
+    group: Arc<Group, Global>,
+    nodes: Vec<Arc<Serving<M>, Global>>,
+    counters: Arc<Counters, Global>,
+    log: Arc<Log, Global>,
+    last: Mutex<Option<Page>>,
+}
+
+// The metrics that were read last, and when they were made.
+#[derive(Drop)]
+struct Page {
+    made: Duration,
+    text: Arc<Vec<u8>, Global>,
+}
+
+/// What is shared with those who count and tell.
+#[derive(Drop)]
+pub struct Sources {
+    /// The settings of the group.
+    pub group: Arc<Group, Global>,
+    /// What is counted.
+    pub counters: Arc<Counters, Global>,
+    /// The log.
+    pub log: Arc<Log, Global>,
+}
+
+impl<M: Machine> Exporter<M> {
+    /// A listener at which nobody waits yet.
+    pub fn new(
+        listener: TcpListener,
+        version: String,
+        nodes: Vec<Arc<Serving<M>, Global>>,
+        sources: Sources,
+    ) -> Exporter<M> {
+        let Sources {
+            group,
+            counters,
+            log,
+        } = sources;
+        Exporter {
+            listener,
+            version,
+            group,
+            nodes,
+            counters,
+            log,
+            last: Mutex::new(None),
+        }
+    }
+
+    // The metrics as they are now, or as they were a short while ago.
+    fn page(&self, machine: &M, alloc: Global) -> Result<Arc<Vec<u8>, Global>, AllocError> {
+        let now = machine.monotonic().map_err(|_| AllocError)?;
+        let mut last = self.last.lock(machine);
+        if let Some(page) = &*last {
+            if now.saturating_sub(page.made) < Duration::from_millis(METRICS_AGE_MILLIS) {
+                return Arc::try_clone(&page.text).map_err(|_| AllocError);
+            }
+        }
+        let text = Arc::new(alloc, self.make(machine, alloc)?)?;
+        let theirs = Arc::try_clone(&text).map_err(|_| AllocError)?;
+        *last = Some(Page { made: now, text });
+        Ok(theirs)
+    }
+
+    // The metrics as they are now.
+    fn make(&self, machine: &M, alloc: Global) -> Result<Vec<u8>, AllocError> {
+        let mut nodes = Vec::with_capacity(alloc, self.nodes.len())?;
+        for (place, node) in self.nodes.iter().enumerate() {
+            if let Some(state) = self.state(machine, alloc, place, node)? {
+                nodes.push(state)?;
+            }
+        }
+        page_of(
+            alloc,
+            self.version.as_str(),
+            &nodes,
+            &self.log.totals(machine),
+        )
+    }
+
+    // A node as it is now.
+    fn state(
+        &self,
+        machine: &M,
+        alloc: Global,
+        place: usize,
+        node: &Serving<M>,
+    ) -> Result<Option<NodeState>, AllocError> {
+        let Some(settings) = self.group.get(place) else {
+            return Ok(None);
+        };
+        let Some(counters) = self.counters.node(place) else {
+            return Ok(None);
+        };
+        let census = node.census(machine, alloc)?;
+        Ok(Some(NodeState::new(alloc, settings, &census, counters)?))
+    }
+
+    // Serves a connection, and closes it.
+    fn serve(&self, machine: &M, alloc: Global, socket: TcpStream) -> io::Result<()> {
+        let deadline = Deadline::after(machine, METRICS_MILLIS)?;
+        match read_request(machine, &socket)? {
+            Answer::Metrics => self.hand_out(machine, alloc, &socket, deadline, true),
+            Answer::HeadOfMetrics => self.hand_out(machine, alloc, &socket, deadline, false),
+            refusal => write_whole(machine, &socket, deadline, refusal_text(refusal)),
+        }
+    }
+
+    // Writes the metrics, or only what is said of them before.
+    fn hand_out(
+        &self,
+        machine: &M,
+        alloc: Global,
+        socket: &TcpStream,
+        deadline: Deadline,
+        with_text: bool,
+    ) -> io::Result<()> {
+        let Ok(text) = self.page(machine, alloc) else {
+            return write_whole(machine, socket, deadline, UNAVAILABLE);
+        };
+        let length = text.len();
+        let head = format!(in alloc;
+            "HTTP/1.1 200 OK\r\n\
+            Content-Type: text/plain; version=0.0.4; charset=utf-8\r\n\
+            Content-Length: {length}\r\nConnection: close\r\n\r\n"
+        )?;
+        write_whole(machine, socket, deadline, head.as_bytes())?;
+        if with_text {
+            write_whole(machine, socket, deadline, text.as_slice())?;
+        }
+        socket.shutdown(Shutdown::Write)
+    }
+}
+
+// What a request gets whose metrics can't be made.
+const UNAVAILABLE: &[u8] =
+    b"HTTP/1.1 503 Service Unavailable\r\nContent-Length: 0\r\nConnection: close\r\n\r\n";
+
+// What a request gets that is refused.
+fn refusal_text(answer: Answer) -> &'static [u8] {
+    match answer {
+        Answer::NotFound => {
+            b"HTTP/1.1 404 Not Found\r\nContent-Length: 0\r\nConnection: close\r\n\r\n"
+        }
+        Answer::NotAllowed => {
+            b"HTTP/1.1 405 Method Not Allowed\r\nAllow: GET, HEAD\r\nContent-Length: 0\r\nConnection: close\r\n\r\n"
+        }
+        Answer::TooLarge => {
+            b"HTTP/1.1 431 Request Header Fields Too Large\r\nContent-Length: 0\r\nConnection: close\r\n\r\n"
+        }
+        _ => b"HTTP/1.1 400 Bad Request\r\nContent-Length: 0\r\nConnection: close\r\n\r\n",
+    }
+}
+
+// Reads the head of a request, and returns what it gets. It fails if the head doesn't come in time.
+fn read_request<M: Machine>(machine: &M, socket: &TcpStream) -> io::Result<Answer> {
+    let deadline = Deadline::after(machine, METRICS_REQUEST_MILLIS)?;
+    let mut buffer = [0; MOST_BYTES];
+    let mut read = 0;
+    for _ in 0..=MOST_BYTES {
+        let Some(room) = buffer.get_mut(read..) else {
+            return Ok(Answer::TooLarge);
+        };
+        if room.is_empty() {
+            return Ok(Answer::TooLarge);
+        }
+        let count = read_some(machine, socket, deadline, room)?;
+        read = read.saturating_add(count);
+        let answer = answer_to(buffer.get(..read).unwrap_or(&[]));
+        if answer != Answer::More {
+            return Ok(answer);
+        }
+    }
+    Ok(Answer::TooLarge)
+}
+
+// Reads once, when something comes. It fails at the end of the input, and where the time is over.
+fn read_some<M: Machine>(
+    machine: &M,
+    socket: &TcpStream,
+    deadline: Deadline,
+    buffer: &mut [u8],
+) -> io::Result<usize> {
+    if !wait_readable(socket.as_raw_fd(), deadline.left(machine)?) {
+        return Err(io::Error::from(ErrorKind::TimedOut));
+    }
+    let mut socket = socket;
+    match socket.read(buffer)? {
+        0 => Err(io::Error::from(ErrorKind::UnexpectedEof)),
+        count => Ok(count),
+    }
+}
+
+// Writes all of this. It fails if the time is over.
+fn write_whole<M: Machine>(
+    machine: &M,
+    socket: &TcpStream,
+    deadline: Deadline,
+    bytes: &[u8],
+) -> io::Result<()> {
+    let mut rest = bytes;
+    for _ in 0..=bytes.len() {
+        if rest.is_empty() {
+            return Ok(());
+        }
+        socket.set_write_timeout(Some(deadline.left(machine)?))?;
+        let mut socket = socket;
+        let count = socket.write(rest)?;
+        rest = rest.get(count..).unwrap_or(&[]);
+    }
+    Err(io::Error::from(ErrorKind::WriteZero))
+}
+
+/// Serves the connections of a listener, one after the other. Nobody learns of those that fail.
+pub fn keep_exporting<H: Host>(host: &H, alloc: Global, exporter: &Exporter<H>) {
+    for socket in exporter.listener.incoming() {
+        match socket {
+            Ok(socket) => {
+                let _ = exporter.serve(host, alloc, socket);
+            }
+            Err(_) => thread::sleep(host, Duration::from_millis(REST)),
+        }
+    }
+}

@@ -1,0 +1,120 @@
+//! A node's side of connections to its server, without a session.
+use crate::group::ANY_PORT;
+use crate::host::TestHost;
+use crate::log_lines::{expect_line, expect_no_line};
+use crate::reported::reports_of;
+use crate::settings::group;
+use group_server::{CancelEnd, Connection, Dialer, Level, LinkStream, Log, Target};
+use node_threads::Opener;
+use pg_ids::DatabaseNo;
+use std::alloc::Global;
+use std::io::{Read, Write};
+use std::net::{TcpListener, TcpStream};
+use std::sync::Arc;
+use std::test::Fail;
+
+// Node 1, for the client of one connection, with its log.
+#[derive(Drop)]
+pub(crate) struct Caller<R: TestHost> {
+    dialer: Dialer<R>,
+    log: Arc<Log, Global>,
+    server: u16,
+    connection: Connection,
+    // The client's side of it.
+    client: TcpStream,
+}
+
+impl<R: TestHost> Caller<R> {
+    // The server of its database `shop` is at this port, and clients get this.
+    pub(crate) fn new(rt: &R, server: u16, told: &[(&str, &str)]) -> Result<Caller<R>, Fail> {
+        let group = Arc::new(rt.alloc(), group(rt.alloc(), &[1], server, &[&[]])?)?;
+        let log = Arc::new(rt.alloc(), Log::new(rt.alloc(), Level::Info))?;
+        let reports = Arc::new(rt.alloc(), reports_of(rt.alloc(), told)?)?;
+        let theirs = Arc::try_clone(&log)?;
+        let dialer = Dialer::new(*rt, rt.alloc(), group, 0, theirs, reports);
+        let listener = TcpListener::bind(rt, ANY_PORT)?;
+        let client = TcpStream::connect(rt, ("127.0.0.1", listener.local_addr()?.port()))?;
+        let (socket, _address) = listener.accept()?;
+        Ok(Caller {
+            dialer,
+            log,
+            server,
+            connection: Connection::new(socket),
+            client,
+        })
+    }
+
+    // A link to which a first message was written, and of which nothing was read.
+    pub(crate) fn open(&self, rt: &R) -> Result<LinkStream<R>, Fail> {
+        let opener = self.dialer.on_behalf(&self.connection);
+        let mut link = opener.server(rt, DatabaseNo(0))?;
+        link.write_all(b"\0\0\0\x08\0\x03\0\0")?;
+        Ok(link)
+    }
+
+    // The same, for a cancel request.
+    pub(crate) fn open_cancel(&self, rt: &R) -> Result<LinkStream<R>, Fail> {
+        let opener = self.dialer.on_behalf(&self.connection);
+        let mut link = opener.cancel(rt, DatabaseNo(0))?;
+        link.write_all(b"\0\0\0\x10\x04\xd2\x16\x2e\0\0\0\x01\0\0\0\x02")?;
+        Ok(link)
+    }
+
+    // A link that is the client's, once its login was read.
+    pub(crate) fn attached(&self, rt: &R) -> Result<LinkStream<R>, Fail> {
+        let mut link = self.open(rt)?;
+        let mut buffer = [0; 1_024];
+        let _count = link.read(&mut buffer)?;
+        self.dialer.on_behalf(&self.connection).attach(&mut link);
+        Ok(link)
+    }
+
+    // Whether the link may be used again.
+    pub(crate) fn is_quiet(&self, link: &LinkStream<R>) -> bool {
+        self.dialer.on_behalf(&self.connection).is_quiet(link)
+    }
+
+    // No link can be opened.
+    pub(crate) fn expect_unopened(&self, rt: &R) {
+        let opener = self.dialer.on_behalf(&self.connection);
+        assert!(rt; opener.server(rt, DatabaseNo(0)).is_err());
+    }
+
+    // The log has this line of an event of the server, and no other: behind the server's address it
+    // has these fields.
+    pub(crate) fn expect_line(&self, rt: &R, event: &str, fields: &str) -> Result<(), Fail> {
+        let server = self.server;
+        let line = format!(in rt.alloc();
+            "node=1 {event} database=shop server=127.0.0.1:{server} {fields}"
+        )?;
+        expect_line(rt, &self.log, line.as_str())?;
+        expect_no_line(rt, &self.log)
+    }
+
+    // Writes to the log that a cancel request has ended so that was sent there, in 3 milliseconds.
+    pub(crate) fn tell_cancel_end(&self, target: Option<Target>, end: CancelEnd) {
+        self.dialer.tell_cancel_end(target, end, 3);
+    }
+
+    // The log has this line, and no other.
+    pub(crate) fn expect_whole_line(&self, rt: &R, line: &str) -> Result<(), Fail> {
+        expect_line(rt, &self.log, line)?;
+        expect_no_line(rt, &self.log)
+    }
+
+    // The log has no line.
+    pub(crate) fn expect_no_line(&self, rt: &R) -> Result<(), Fail> {
+        expect_no_line(rt, &self.log)
+    }
+
+    // The log has a line of an event of the server, and an error.
+    pub(crate) fn expect_error(&self, rt: &R, event: &str) -> Result<(), Fail> {
+        let server = self.server;
+        let start = format!(in rt.alloc();
+            " node=1 {event} database=shop server=127.0.0.1:{server} error="
+        )?;
+        let line = self.log.next(rt).ok_or("no line")?;
+        assert!(rt; line.as_str().contains(start.as_str()));
+        Ok(())
+    }
+}

@@ -1,0 +1,173 @@
+//! A group whose input ends: it accepts no connection any more, and its sessions end between
+//! transactions.
+use crate::client::Client;
+use crate::console_client::Console;
+use crate::group::{ANY_PORT, await_listening, free_ports, options, start_server};
+use crate::host::TestHost;
+use crate::messages::{BEGIN, COMMIT, HI, IDLE, OPEN, joined};
+use crate::settings::group_before;
+use group_server::{Listening, ServeOptions};
+use ini_config::Group;
+use startup::Reports;
+use std::alloc::{AllocError, Global};
+use std::net::{TcpListener, TcpStream};
+use std::sync::Arc;
+use std::sync::atomic::{AtomicBool, Ordering};
+use std::test::Fail;
+use std::thread;
+use stub_server::Mode;
+
+// The error of a session that ends, with PostgreSQL's words.
+const SHUTDOWN: &[u8] = b"E\0\0\0\x4fSFATAL\0VFATAL\0C57P01\0\
+    Mterminating connection due to administrator command\0\0";
+
+const WAITING: &[&[&str]] = &[&["0", "shop", "link"], &["1", "shop", "waiting"]];
+
+// A node in a group of its own that drains when this test drops its input.
+#[derive(Drop)]
+struct Draining {
+    port: u16,
+    front: u16,
+    input: TcpStream,
+    // Whether the group serves no longer, and could serve until then.
+    is_over: Arc<AtomicBool, Global>,
+}
+
+impl Draining {
+    fn start<R: TestHost>(rt: &R) -> Result<Draining, Fail> {
+        let server = start_server(rt, TcpListener::bind(rt, ANY_PORT)?, Mode::Honest)?;
+        let ports = free_ports(rt, 2)?;
+        if ports.len() < 2 {
+            return Err(Fail::from("no ports"));
+        }
+        let (port, front) = (ports[0], ports[1]);
+        let group = group_before(rt.alloc(), &[port], &[server], &[&[]])?;
+        let listener = TcpListener::bind(rt, ANY_PORT)?;
+        let input = TcpStream::connect(rt, ("127.0.0.1", listener.local_addr()?.port()))?;
+        let (inside, _address) = listener.accept()?;
+        let is_over = start_group(rt, group, front, inside)?;
+        Ok(Draining {
+            port,
+            front,
+            input,
+            is_over,
+        })
+    }
+}
+
+// The group serves in a thread of its own, until this input ends. It listens when this returns.
+fn start_group<R: TestHost>(
+    rt: &R,
+    group: Group,
+    front: u16,
+    input: TcpStream,
+) -> Result<Arc<AtomicBool, Global>, Fail> {
+    let listens = Arc::new(rt.alloc(), AtomicBool::new(false))?;
+    let is_over = Arc::new(rt.alloc(), AtomicBool::new(false))?;
+    let (own, theirs, end) = (*rt, Arc::try_clone(&listens)?, Arc::try_clone(&is_over)?);
+    thread::spawn(rt, move || serve(&own, group, front, input, &theirs, &end)).map_err(
+        AllocError::from,
+    )?;
+    await_listening(rt, &listens)?;
+    Ok(is_over)
+}
+
+// Serves a group until this input ends. Tells when it listens, and when it is over.
+fn serve<R: TestHost>(
+    rt: &R,
+    group: Group,
+    front: u16,
+    mut input: TcpStream,
+    listens: &AtomicBool,
+    is_over: &AtomicBool,
+) {
+    let reports = Reports::new(rt.alloc());
+    let options = ServeOptions {
+        until_eof: true,
+        ..options(front, None, &reports)
+    };
+    if let Ok(listening) = Listening::bind(rt, rt.alloc(), group, &options) {
+        listens.store(true, Ordering::SeqCst);
+        let ended = listening.serve(rt, rt.alloc(), &mut input);
+        is_over.store(ended.is_ok(), Ordering::SeqCst);
+    }
+}
+
+// The connection ends behind these messages and the error.
+fn expect_shutdown<R: TestHost>(rt: &R, client: &mut Client, last: &[&[u8]]) -> Result<(), Fail> {
+    let last = joined(rt.alloc(), last)?;
+    let last = joined(rt.alloc(), &[last.as_slice(), SHUTDOWN])?;
+    client.expect_end(rt, last.as_slice())
+}
+
+// Nobody can connect to this port.
+fn expect_closed<R: TestHost>(rt: &R, port: u16) {
+    assert!(rt; TcpStream::connect(rt, ("127.0.0.1", port)).is_err());
+}
+
+// An idle session ends at once, one in a transaction behind that, and then the group is over.
+fn expect_drained<R: TestHost>(rt: &R, group: Draining) -> Result<(), Fail> {
+    let Draining {
+        port,
+        front,
+        input,
+        is_over,
+    } = group;
+    let (mut idle, _) = Client::log_in(rt, port)?;
+    idle.expect_answer(rt, "echo hi", &[HI, IDLE])?;
+    let (mut open, _) = Client::log_in(rt, front)?;
+    open.expect_answer(rt, "begin", &[BEGIN, OPEN])?;
+    drop(input);
+    expect_shutdown(rt, &mut idle, &[])?;
+    expect_closed(rt, port);
+    expect_closed(rt, front);
+    open.expect_answer(rt, "echo hi", &[HI, OPEN])?;
+    assert!(rt; !is_over.load(Ordering::SeqCst));
+    open.ask(rt, "commit")?;
+    expect_shutdown(rt, &mut open, &[COMMIT, IDLE])?;
+    drop(idle);
+    drop(open);
+    await_listening(rt, &is_over)
+}
+
+#[test]
+fn sessions_end_between_transactions(rt: HostRuntime) -> Result<(), Fail> {
+    let group = Draining::start(&rt)?;
+    expect_drained(&rt, group)
+}
+
+// A client that waits for the only link gets it for one transaction.
+fn expect_waiting<R: TestHost>(rt: &R, group: Draining) -> Result<(), Fail> {
+    let Draining { port, input, .. } = group;
+    let (mut keeper, _) = Client::log_in(rt, port)?;
+    keeper.expect_answer(rt, "begin", &[BEGIN, OPEN])?;
+    let (mut client, _) = Client::log_in(rt, port)?;
+    client.ask(rt, "echo hi")?;
+    Console::log_in(rt, port)?.expect_clients(rt, WAITING)?;
+    drop(input);
+    keeper.ask(rt, "commit")?;
+    expect_shutdown(rt, &mut keeper, &[COMMIT, IDLE])?;
+    expect_shutdown(rt, &mut client, &[HI, IDLE])
+}
+
+#[test]
+fn who_waits_is_served(rt: HostRuntime) -> Result<(), Fail> {
+    let group = Draining::start(&rt)?;
+    expect_waiting(&rt, group)
+}
+
+// A connection in its first packets is closed without a word.
+fn expect_unserved<R: TestHost>(rt: &R, group: Draining) -> Result<(), Fail> {
+    let mut stranger = Client::connect(rt, group.port)?;
+    stranger.send(b"\0\0\0")?;
+    let (mut idle, _) = Client::log_in(rt, group.port)?;
+    drop(group.input);
+    expect_shutdown(rt, &mut idle, &[])?;
+    stranger.expect_end(rt, b"")
+}
+
+#[test]
+fn who_says_nothing_is_closed(rt: HostRuntime) -> Result<(), Fail> {
+    let group = Draining::start(&rt)?;
+    expect_unserved(&rt, group)
+}

@@ -1,0 +1,147 @@
+//! What the log says of start-up parameters that have no effect, and of the ends of cancel requests.
+use crate::caller::Caller;
+use crate::group::ANY_PORT;
+use crate::host::TestHost;
+use crate::log_lines::{expect_line, expect_no_line};
+use group_server::{
+    CancelEnd, ClientStream, Connection, Deadline, Doorway, Entry, Level, Log, Room, Serves, Target,
+};
+use pg_ids::DatabaseNo;
+use std::io::{Read, Write};
+use std::net::{TcpListener, TcpStream};
+use std::test::Fail;
+
+// A StartupMessage with two parameters that have no effect, and a CancelRequest.
+const STARTUP: &[u8] = b"\0\0\0\x31\0\x03\0\0user\0ann\0search_path\0app\0options\0-c a=b\0\0";
+
+const CANCEL: &[u8] = b"\0\0\0\x10\x04\xd2\x16\x2e\0\0\0\x03\0\x0f\x42\x43";
+
+// AuthenticationOk, and an ErrorResponse.
+const AUTHENTICATED: &[u8] = b"R\0\0\0\x08\0\0\0\0";
+
+const REFUSED: &[u8] = b"E\0\0\0\x2cSFATAL\0VFATAL\0C53300\0Mtoo many clients\0\0";
+
+// The server of a database.
+const SERVER: Target = Target::Server(DatabaseNo(0));
+
+// A connection of a client that sent a packet, and the client's side.
+fn sent<R: TestHost>(rt: &R, packet: &[u8]) -> Result<(Connection, TcpStream), Fail> {
+    let listener = TcpListener::bind(rt, ANY_PORT)?;
+    let mut peer = TcpStream::connect(rt, ("127.0.0.1", listener.local_addr()?.port()))?;
+    peer.write_all(packet)?;
+    let (socket, _address) = listener.accept()?;
+    Ok((Connection::new(socket), peer))
+}
+
+// The client's packet is read by this many reads at node 4, and this is written to it. Returns how
+// its cancel request has ended, if it is one.
+fn serve<R: TestHost>(
+    rt: &R,
+    connection: &Connection,
+    log: &Log,
+    reads: usize,
+    answer: &[u8],
+) -> Result<Option<CancelEnd>, Fail> {
+    let room = Room {
+        connections: 1,
+        newcomers: 1,
+    };
+    let doorway = Doorway::new(rt.alloc(), room);
+    let newcomer = doorway
+        .arrive(rt, connection.descriptor())
+        .ok_or("no room")?;
+    let entry = Entry {
+        doorway: &doorway,
+        newcomer,
+        serves: Serves::All,
+        deadline: Deadline::after(rt, 10_000)?,
+        log,
+        node: 4,
+    };
+    let mut client = ClientStream::new(rt, rt.alloc(), connection, entry);
+    let mut buffer = [0; 64];
+    for _ in 0..reads {
+        let _count = client.read(&mut buffer)?;
+    }
+    if !answer.is_empty() {
+        client.write_all(answer)?;
+    }
+    match client.cancel_end() {
+        Some((end, _millis)) => Ok(Some(end)),
+        None => Ok(None),
+    }
+}
+
+#[test]
+fn dropped_parameters_are_in_the_log(rt: HostRuntime) -> Result<(), Fail> {
+    let (connection, peer) = sent(&rt, STARTUP)?;
+    let log = Log::new(rt.alloc(), Level::Notice);
+    serve(&rt, &connection, &log, 2, AUTHENTICATED)?;
+    let port = peer.local_addr()?.port();
+    let line = format!(in rt.alloc();
+        "node=4 notice parameters_dropped client=127.0.0.1:{port} parameters=search_path,options"
+    )?;
+    expect_line(&rt, &log, line.as_str())?;
+    expect_no_line(&rt, &log)
+}
+
+// A client that is refused gets nothing in any case.
+#[test]
+fn a_refused_client_drops_nothing(rt: HostRuntime) -> Result<(), Fail> {
+    let (connection, _peer) = sent(&rt, STARTUP)?;
+    let log = Log::new(rt.alloc(), Level::Notice);
+    serve(&rt, &connection, &log, 2, REFUSED)?;
+    let line = log.next(&rt).ok_or("no line")?;
+    assert!(&rt; line.as_str().contains(" client_refused "));
+    expect_no_line(&rt, &log)
+}
+
+// A request that is sent there, or nowhere, and whose sender gets these bytes, has ended so.
+fn expect_cancel_end<R: TestHost>(
+    rt: &R,
+    target: Option<Target>,
+    answer: &[u8],
+    expected: CancelEnd,
+) -> Result<(), Fail> {
+    let (connection, _peer) = sent(rt, CANCEL)?;
+    if let Some(target) = target {
+        connection.set_target(target);
+    }
+    let log = Log::new(rt.alloc(), Level::Info);
+    let end = serve(rt, &connection, &log, 3, answer)?;
+    assert_eq!(rt; end, Some(expected));
+    Ok(())
+}
+
+#[test]
+fn cancel_requests_end(rt: HostRuntime) -> Result<(), Fail> {
+    expect_cancel_end(&rt, None, b"", CancelEnd::NothingSent)?;
+    expect_cancel_end(&rt, Some(SERVER), b"", CancelEnd::Settled)?;
+    expect_cancel_end(&rt, Some(SERVER), b"E", CancelEnd::Failed)?;
+    let (session, _peer) = sent(&rt, STARTUP)?;
+    let log = Log::new(rt.alloc(), Level::Info);
+    assert_eq!(&rt; serve(&rt, &session, &log, 2, AUTHENTICATED)?, None);
+    Ok(())
+}
+
+// One for which no seat is free.
+#[test]
+fn a_cancel_request_is_given_up(rt: HostRuntime) -> Result<(), Fail> {
+    let (connection, _peer) = sent(&rt, CANCEL)?;
+    connection.give_up();
+    let log = Log::new(rt.alloc(), Level::Info);
+    let end = serve(&rt, &connection, &log, 3, b"")?;
+    assert_eq!(&rt; end, Some(CancelEnd::NotServed));
+    Ok(())
+}
+
+#[test]
+fn ends_are_in_the_log(rt: HostRuntime) -> Result<(), Fail> {
+    let caller = Caller::new(&rt, 5_432, &[])?;
+    caller.tell_cancel_end(Some(SERVER), CancelEnd::Settled);
+    let at_server = "node=1 info cancel_ended database=shop server=127.0.0.1:5432 \
+        result=settled millis=3";
+    caller.expect_whole_line(&rt, at_server)?;
+    caller.tell_cancel_end(None, CancelEnd::NothingSent);
+    caller.expect_whole_line(&rt, "node=1 info cancel_ended result=nothing_sent millis=3")
+}

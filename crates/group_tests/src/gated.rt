@@ -1,0 +1,146 @@
+//! A node whose sessions are held at a gate, before they give their links back.
+use crate::group::ANY_PORT;
+use crate::host::TestHost;
+use crate::settings::group;
+use group_server::{Connection, Dialer, Level, LinkStream, Log, Machine, MessageLimit};
+use ini_config::Group;
+use node_threads::{Calling, Context, Gate, Point, serve_connection};
+use pg_ids::Boot;
+use startup::Reports;
+use std::alloc::{AllocError, Global};
+use std::net::{TcpListener, TcpStream};
+use std::sync::{Arc, Condvar, Mutex, Wait};
+use std::test::Fail;
+use std::thread;
+
+// A gate that is closed before a link is given back, until it is opened for all.
+#[derive(Drop)]
+pub(crate) struct Barrier {
+    is_open: Mutex<bool>,
+    opened: Condvar,
+}
+
+impl Barrier {
+    const fn closed() -> Barrier {
+        Barrier {
+            is_open: Mutex::new(false),
+            opened: Condvar::new(),
+        }
+    }
+
+    pub(crate) fn open<R: Wait>(&self, rt: &R) {
+        *self.is_open.lock(rt) = true;
+        self.opened.notify_all();
+    }
+}
+
+impl Gate for Barrier {
+    fn pass<R: Wait>(&self, rt: &R, point: Point) {
+        if point == Point::Ready {
+            let is_open = self.is_open.lock(rt);
+            let _is_open = self.opened.wait_while(rt, is_open, |is_open| !*is_open);
+        }
+    }
+}
+
+// What the connections of a node share.
+#[derive(Drop)]
+struct Node<M: Machine> {
+    dialer: Dialer<M>,
+    gate: Arc<Barrier, Global>,
+}
+
+// Starts node 1, alone, before the server at this port. Returns its port and its gate.
+pub(crate) fn start_node<R: TestHost>(
+    rt: &R,
+    server: u16,
+) -> Result<(u16, Arc<Barrier, Global>), Fail> {
+    let listener = TcpListener::bind(rt, ANY_PORT)?;
+    let port = listener.local_addr()?.port();
+    let group = Arc::new(rt.alloc(), group(rt.alloc(), &[port], server, &[&[]])?)?;
+    let gate = Arc::new(rt.alloc(), Barrier::closed())?;
+    let node = gated(rt, &group, &gate)?;
+    start_accepting(rt, &group, node, listener)?;
+    Ok((port, gate))
+}
+
+fn gated<R: TestHost>(
+    rt: &R,
+    group: &Arc<Group, Global>,
+    gate: &Arc<Barrier, Global>,
+) -> Result<Arc<Node<R>, Global>, AllocError> {
+    let log = Arc::new(rt.alloc(), Log::new(rt.alloc(), Level::Info))?;
+    let reports = Arc::new(rt.alloc(), Reports::new(rt.alloc()))?;
+    let dialer = Dialer::new(*rt, rt.alloc(), Arc::try_clone(group)?, 0, log, reports);
+    let gate = Arc::try_clone(gate)?;
+    Ok(Arc::new(rt.alloc(), Node { dialer, gate })?)
+}
+
+// Accepts connections in a thread apart.
+fn start_accepting<R: TestHost>(
+    rt: &R,
+    group: &Arc<Group, Global>,
+    node: Arc<Node<R>, Global>,
+    listener: TcpListener,
+) -> Result<(), Fail> {
+    if group.is_empty() {
+        return Err(Fail::from("no node"));
+    }
+    let first = Calling::new(rt.alloc(), group, 0, [0; 32], Boot(0))?;
+    let own = *rt;
+    thread::spawn(rt, move || accept(&own, first, node, listener)).map_err(AllocError::from)?;
+    Ok(())
+}
+
+fn accept<R: TestHost>(
+    rt: &R,
+    mut first: Calling<LinkStream<R>>,
+    node: Arc<Node<R>, Global>,
+    listener: TcpListener,
+) {
+    for stream in listener.incoming() {
+        if let Ok(stream) = stream {
+            let _ = start_serving(rt, &mut first, &node, stream);
+        }
+    }
+}
+
+// Serves a connection in a thread of its own.
+fn start_serving<R: TestHost>(
+    rt: &R,
+    first: &mut Calling<LinkStream<R>>,
+    node: &Arc<Node<R>, Global>,
+    stream: TcpStream,
+) -> Result<(), AllocError> {
+    let Some(calling) = first.split() else {
+        return Err(AllocError);
+    };
+    let node = Arc::try_clone(node)?;
+    let own = *rt;
+    thread::spawn(rt, move || serve(&own, calling, node, stream))?;
+    Ok(())
+}
+
+fn serve<R: TestHost>(
+    rt: &R,
+    mut calling: Calling<LinkStream<R>>,
+    node: Arc<Node<R>, Global>,
+    socket: TcpStream,
+) {
+    let connection = Connection::new(socket);
+    let opener = node.dialer.on_behalf(&connection);
+    let mut client = connection.socket();
+    let context = Context {
+        rt,
+        gate: &*node.gate,
+    };
+    serve_connection(
+        context,
+        rt.alloc(),
+        &mut calling,
+        &opener,
+        node.dialer.reports(),
+        &MessageLimit::DEFAULT,
+        &mut client,
+    );
+}

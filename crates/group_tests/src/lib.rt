@@ -1,0 +1,69 @@
+//! Tests of whole groups over TCP on this machine: nodes, a stand-in server, clients and cancel
+//! requests, each connection in a thread of its own. And of what a group decides about a
+//! connection, without one.
+#![tactic(auto)]
+
+#[cfg(test)]
+mod caller;
+#[cfg(test)]
+mod cancels;
+#[cfg(test)]
+mod circle;
+#[cfg(test)]
+mod client;
+#[cfg(test)]
+mod client_lines;
+#[cfg(test)]
+mod commands;
+#[cfg(test)]
+mod condemned;
+#[cfg(test)]
+mod console_client;
+#[cfg(test)]
+mod databases;
+#[cfg(test)]
+mod descriptors;
+#[cfg(test)]
+mod drains;
+#[cfg(test)]
+mod dropped;
+#[cfg(test)]
+mod ends;
+#[cfg(test)]
+mod files;
+#[cfg(test)]
+mod first_packets;
+#[cfg(test)]
+mod front;
+#[cfg(test)]
+mod gated;
+#[cfg(test)]
+mod group;
+#[cfg(test)]
+mod guests;
+#[cfg(test)]
+mod host;
+#[cfg(test)]
+mod last_words;
+#[cfg(test)]
+mod levels;
+#[cfg(test)]
+mod link_lines;
+#[cfg(test)]
+mod log_lines;
+#[cfg(test)]
+mod login_answers;
+#[cfg(test)]
+mod long_keys;
+#[cfg(test)]
+mod messages;
+#[cfg(test)]
+mod metrics;
+#[cfg(test)]
+mod reported;
+#[cfg(test)]
+mod scripted;
+#[cfg(test)]
+mod settings;
+#[cfg(test)]
+mod waiting;

@@ -1,7 +1,0 @@
-use Rattle.std.proofs.Common.{subst, sym, List, ℕ}
-use Rattle.pg_frames.specs.Ready.{IsReady}
-use Rattle.pg_frames.proofs.CutLemmas.{IsReady-none}
-use Rattle.pg_frames.proofs.cutter.Cutter.new.Goals as goal
-
-pub invariant_of-result : goal.invariant_of-result
-invariant_of-result c = subst (λ (xs : List ℕ). IsReady xs 0) (sym c.new.ensures.items) IsReady-none
