@@ -450,29 +450,45 @@ fn query_of(alloc: Global, head: &[u8], size: usize) -> Result<Vec<u8>, AllocErr
     Ok(text)
 }
 
+// This request is sent behind the begin of a transaction.
+fn assert_sent<R: Abort + AllocGlobal + Wait>(
+    rt: &R,
+    limit: MessageLimit,
+    request: &[u8],
+) -> Result<(), Fail> {
+    let mut sent = Vec::from_slice(rt.alloc(), BEGIN)?;
+    sent.extend_from_slice(request)?;
+    let taken = comes_of(Release, sent.as_slice(), BOTH);
+    let mut pieces = Vec::new(rt.alloc());
+    pieces.push(request)?;
+    let on_client = reads(pieces.as_slice());
+    assert_stay_within(rt, limit, on_client, reads(&[BEGUN, COMMITTED]), &taken)
+}
+
+// This request ends the session. The rest of what was read with its front is left.
+fn assert_refused<R: Abort + AllocGlobal + Wait>(
+    rt: &R,
+    limit: MessageLimit,
+    request: &[u8],
+) -> Result<(), Fail> {
+    let refused = Expected {
+        ending: End(VIOLATION),
+        sent: BEGIN,
+        told: BEGUN,
+        left: request.get(..512).unwrap_or(&[]),
+    };
+    let mut pieces = Vec::new(rt.alloc());
+    pieces.push(request)?;
+    let on_client = reads(pieces.as_slice());
+    assert_stay_within(rt, limit, on_client, reads(&[BEGUN]), &refused)
+}
+
 // A request of that length is sent whole, and one a byte longer ends the session.
 #[test]
 fn longer_requests(rt: HostRuntime) -> Result<(), Fail> {
     let limit = two_mebibytes()?;
     let greatest = query_of(rt.alloc(), b"Q\0\x20\0\0", 2_097_153)?;
-    let mut sent = Vec::from_slice(rt.alloc(), BEGIN)?;
-    sent.extend_from_slice(greatest.as_slice())?;
-    let taken = comes_of(Release, sent.as_slice(), BOTH);
-    let on_client = [greatest.as_slice()];
-    assert_stay_within(
-        &rt,
-        limit,
-        reads(&on_client),
-        reads(&[BEGUN, COMMITTED]),
-        &taken,
-    )?;
+    assert_sent(&rt, limit, greatest.as_slice())?;
     let longer = query_of(rt.alloc(), b"Q\0\x20\0\x01", 2_097_154)?;
-    let refused = Expected {
-        ending: End(VIOLATION),
-        sent: BEGIN,
-        told: BEGUN,
-        left: longer.as_slice().split_at(512).0,
-    };
-    let on_client = [longer.as_slice()];
-    assert_stay_within(&rt, limit, reads(&on_client), reads(&[BEGUN]), &refused)
+    assert_refused(&rt, limit, longer.as_slice())
 }
