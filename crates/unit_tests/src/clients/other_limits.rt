@@ -25,6 +25,9 @@ fn frame_of(alloc: Global, kind: u8, filler: u8, size: usize) -> Result<Frame, A
 
 // How long the request is that a client asks with this frame, or none.
 fn asked(client: &mut Client, frame: Frame) -> usize {
+    if !client.may_read() {
+        return 0;
+    }
     match done_by(&client.on_client(&frame)) {
         Need(text) => text.len(),
         _ => 0,
