@@ -198,6 +198,25 @@ impl<M: Machine> Dialer<M> {
         Origin::new(self.alloc, &self.log, node, fields)
     }
 
+    // Writes to the log that a client's message on this database is longer than the limit.
+    fn write_too_long(&self, database: DatabaseNo, length: u32, limit: u32) {
+        let Ok(settings) = self.settings() else {
+            return;
+        };
+        let Some(entry) = settings.database(database) else {
+            return;
+        };
+        let fields = [
+            ("database", Value::Text(entry.name)),
+            ("bytes", Value::Number(u64::from(length))),
+            ("limit", Value::Number(u64::from(limit))),
+            ("from", Value::Text("client")),
+        ];
+        let node = settings.peer_id().get();
+        self.log
+            .write(&self.machine, Some(node), Event::MessageTooLong, &fields);
+    }
+
     // Writes to the log why what these fields name can't be connected to.
     fn write_error(
         &self,
@@ -300,5 +319,9 @@ impl<'a, M: Machine> Opener for ClientDialer<'a, M> {
 
     fn give_up_cancel(&self) {
         self.connection.give_up();
+    }
+
+    fn refuse_message(&self, database: DatabaseNo, length: u32, limit: u32) {
+        self.dialer.write_too_long(database, length, limit);
     }
 }

@@ -54,4 +54,8 @@ pub trait Opener {
     /// The cancel request of this connection gets no order. Its sender isn't to take it for one
     /// that was settled: the connection is reset.
     fn give_up_cancel(&self) {}
+
+    /// A session on this database ends, since a message of its client has this length field, which
+    /// is above the limit.
+    fn refuse_message(&self, _database: DatabaseNo, _length: u32, _limit: u32) {}
 }

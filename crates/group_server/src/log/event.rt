@@ -41,10 +41,12 @@ pub enum Event {
     Stopping,
     /// The group serves no longer.
     Stopped,
+    /// A client's message is longer than the limit.
+    MessageTooLong,
 }
 
 /// How many kinds of lines there are.
-pub const EVENTS: usize = 17;
+pub const EVENTS: usize = 18;
 
 /// The kinds of lines.
 pub const KINDS: [Event; EVENTS] = [
@@ -65,6 +67,7 @@ pub const KINDS: [Event; EVENTS] = [
     Event::CancelEnded,
     Event::Stopping,
     Event::Stopped,
+    Event::MessageTooLong,
 ];
 
 /// How much a line matters, in descending order.
@@ -104,7 +107,7 @@ impl Level {
 impl Event {
     /// Its place among the kinds.
     pub fn place(self) -> usize
-        ensures { result < 17 }
+        ensures { result < 18 }
     {
         match self {
             Event::Started => 0,
@@ -124,6 +127,7 @@ impl Event {
             Event::CancelEnded => 14,
             Event::Stopping => 15,
             Event::Stopped => 16,
+            Event::MessageTooLong => 17,
         }
     }
 
@@ -147,6 +151,7 @@ impl Event {
             Event::CancelEnded => "cancel_ended",
             Event::Stopping => "stopping",
             Event::Stopped => "stopped",
+            Event::MessageTooLong => "message_too_long",
         }
     }
 

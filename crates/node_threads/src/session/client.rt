@@ -24,7 +24,7 @@ use lease::{Lease, Pass};
 use locked_node::{Caller, Shared};
 use node_core::LeaveReply;
 use peer_forward::{ReadCalls, WriteCalls, write_whole};
-use pg_frames::{Cutter, Flow, MessageLimit};
+use pg_frames::{Cutter, Flow, FrameError, MessageLimit};
 use pg_ids::{DatabaseNo, Kind, Secret};
 use startup::{ErrorCode, Reports, Severity, write_login};
 use std::alloc::Global;
@@ -111,10 +111,29 @@ where
             &mut session,
         );
         if let Some(end) = ended {
+            tell_too_long(service.opener, database, *service.limit, cutter);
             return end;
         }
     }
     unreachable!()
+}
+
+// Tells the opener if a session ends since the client's next message is longer than the limit.
+fn tell_too_long<O: Opener>(
+    opener: &O,
+    database: DatabaseNo,
+    limit: MessageLimit,
+    cutter: &Cutter,
+) {
+    if cutter.fault() != Some(FrameError::TooLong) {
+        return;
+    }
+    if let [_, a, b, c, d, ..] = cutter.pending() {
+        let length = u32::from_be_bytes([*a, *b, *c, *d]);
+        if length > limit.get() {
+            opener.refuse_message(database, length, limit.get());
+        }
+    }
 }
 
 // Writes the messages of a login. Returns what is to be written to the client if this ends the
