@@ -101,7 +101,7 @@ def large_values(t):
 
 @scenario("large-refused", limit=60)
 def large_refused(t):
-    """Above the limit a query is refused with an error that the client reads, and the log names the size"""
+    """Above the limit a query and a row end the session with an error; the log names the query's size"""
     server = Postgres(t)
     pooler = Pooler(t, {"shop": server.port})
     client = pooler.client()
@@ -112,7 +112,8 @@ def large_refused(t):
     t.check("08006" in came, "a row of 2 MB without --max-message", came[:100], "08006")
     with open(f"{pooler.base}.err") as log:
         lines = [line for line in log if " message_too_long " in line]
-    t.check(len(lines) == 2, "lines of the log", f"{len(lines)}, first {lines[:1]}", "one for each")
+    named = len(lines) == 1 and all(word in lines[0] for word in (" database=shop ", " limit=1048576 "))
+    t.check(named, "the log about the query", f"{len(lines)} lines, first {lines[:1]}", "one with database and limit")
 
 
 @scenario("dump", limit=60)
