@@ -58,8 +58,8 @@ impl<M: Machine> Acceptor<M> {
 
     /// Accepts no connection any more: those that come from now on are refused. The group drains.
     pub fn close(&self) {
-        c::shutdown(self.listener.as_raw_fd(), c::SHUT_RD);
         self.crew.dismiss();
+        c::shutdown(self.listener.as_raw_fd(), c::SHUT_RD);
     }
 
     // Serves a connection to its end, or closes it. If no other thread can wait for connections
@@ -196,7 +196,7 @@ fn accept<M: Machine>(host: &M, alloc: Global, acceptor: &Acceptor<M>) {
                     return;
                 }
             }
-            Err(_) if acceptor.doorway.is_draining() => return,
+            Err(_) if acceptor.crew.is_dismissed() => return,
             Err(error) => {
                 acceptor.write_error(host, Event::AcceptFailed, &error);
                 acceptor.doorway.make_room(host, NEWCOMER_AGE_MILLIS);

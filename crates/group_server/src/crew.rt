@@ -64,12 +64,17 @@ impl Crew {
         self.tell();
     }
 
+    /// Whether nobody is to wait for a connection any more.
+    pub fn is_dismissed(&self) -> bool {
+        self.is_dismissed.load(Ordering::SeqCst)
+    }
+
     /// Waits until one more thread is to be started. Returns whether one is: none is once nobody is
     /// to wait for a connection any more.
     pub fn wait_until_few<R: Wait>(&self, rt: &R) -> bool {
         for _ in rt.forever() {
             let seen = self.changes();
-            if self.is_dismissed.load(Ordering::SeqCst) {
+            if self.is_dismissed() {
                 return false;
             }
             let waiting = self.waiting.load(Ordering::SeqCst);
@@ -121,7 +126,7 @@ impl Crew {
             if self.waiting.load(Ordering::SeqCst) > 0 {
                 return true;
             }
-            if self.is_dismissed.load(Ordering::SeqCst) {
+            if self.is_dismissed() {
                 return true;
             }
             if self.is_short.load(Ordering::SeqCst) {

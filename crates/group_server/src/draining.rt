@@ -33,11 +33,12 @@ pub fn drain<H: Host>(
 ) {
     let present = Value::Number(doorway.present(host) as u64);
     log.write(host, None, Event::Stopping, &[("connections", present)]);
-    if let Some(signal) = doorway.drain_signal() {
-        signal.send();
-    }
+    // First the listeners: a client whose session ends doesn't come back to this process.
     for acceptor in acceptors {
         acceptor.close();
+    }
+    if let Some(signal) = doorway.drain_signal() {
+        signal.send();
     }
     let Ok(deadline) = Deadline::after(host, DRAIN_MILLIS) else {
         return;
