@@ -1,4 +1,4 @@
-"""What `run` starts beside the unit: starts it, looks at it, kills it and stops it."""
+"""What `run` starts beside the unit: starts it, looks at it, kills it and drains it."""
 import os
 import resource
 import signal
@@ -40,6 +40,42 @@ def answers():
         return False
 
 
+def pooler():
+    """The process of pgpeer, which the unit's shell started."""
+    shell = shown("MainPID")
+    with open(f"/proc/{shell}/task/{shell}/children") as children:
+        return int(children.read())
+
+
+def is_anew(before):
+    """Whether the unit runs, with another shell than before."""
+    return shown("MainPID") not in ("0", str(before))
+
+
+def refused(client):
+    """The code of the error that the client gets."""
+    try:
+        client.read_reply()
+    except Refused as error:
+        return error.code
+    return None
+
+
+def drains():
+    """A stop ends sessions between transactions, and waits for the open one."""
+    idle, busy = Client(6432), Client(6432)
+    busy.query("begin")
+    stop = subprocess.Popen(["systemctl", "stop", "pgpeer"])
+    require(refused(idle) == "57P01", "systemctl stop: an idle session ends with 57P01")
+    require(busy.value("echo more") == "more", "an open transaction goes on")
+    require(stop.poll() is None, "systemctl waits for it")
+    busy.query("commit")
+    require(refused(busy) == "57P01", "its session ends behind it")
+    require(stop.wait(30) == 0, "systemctl stop pgpeer")
+    ended = [shown(name) for name in ("ActiveState", "Result", "ExecMainCode", "ExecMainStatus")]
+    require(ended == ["inactive", "success", "1", "0"], f"it has ended with status 0: {ended}")
+
+
 def of_process(process, file, name):
     with open(f"/proc/{process}/{file}") as lines:
         return next(line.removeprefix(name).split() for line in lines if line.startswith(name))
@@ -55,7 +91,7 @@ def seed_of(process):
 def main():
     require(systemctl("start", "pgpeer") == 0, "systemctl start pgpeer")
     require(wait_until(answers, 20) is not None, "it answers a query")
-    first = int(shown("MainPID"))
+    first = pooler()
     require(of_process(first, "status", "Uid:")[0] != "0", "its user isn't root")
     most = min(65536, resource.getrlimit(resource.RLIMIT_NOFILE)[1])
     require(
@@ -67,20 +103,19 @@ def main():
         set_ = "MALLOC_TRIM_THRESHOLD_=131072" in environment.read().split("\0")
     require(set_, "MALLOC_TRIM_THRESHOLD_ is set")
 
-    os.kill(first, signal.SIGKILL)
-    require(
-        wait_until(lambda: shown("MainPID") not in ("0", str(first)), 20) is not None,
-        "killed, it is started again",
-    )
-    require(wait_until(answers, 20) is not None, "it answers a query")
-    seeds = [seed_of(shown("MainPID"))]
+    for who, find in (("pgpeer", pooler), ("its shell", lambda: int(shown("MainPID")))):
+        shell, process = shown("MainPID"), find()
+        os.kill(process, signal.SIGKILL)
+        anew = wait_until(lambda: is_anew(shell), 20) is not None
+        require(anew, f"{who} killed, it is started again")
+        require(wait_until(answers, 20) is not None, "it answers a query")
+    seeds = [seed_of(pooler())]
     require(systemctl("restart", "pgpeer") == 0, "systemctl restart pgpeer")
     require(wait_until(answers, 20) is not None, "it answers a query")
-    seeds.append(seed_of(shown("MainPID")))
+    seeds.append(seed_of(pooler()))
     require(seeds[0] is None or seeds[0] != seeds[1], "its seed is another one")
 
-    require(systemctl("stop", "pgpeer") == 0, "systemctl stop pgpeer")
-    require((shown("ActiveState"), shown("Result")) == ("inactive", "success"), "it has ended well")
+    drains()
 
     with open(SETTINGS, "a") as settings:
         settings.write("no setting\n")

@@ -6,7 +6,7 @@ import subprocess
 
 from hard.others import Others
 from hard.trial import Pooler, Postgres, scenario
-from hard.wire import outcome
+from hard.wire import frame, outcome, wait_until
 
 LIMIT = 33554432
 SIZE = 20_000_000
@@ -99,21 +99,34 @@ def large_values(t):
     t.check(after < writes + 4, "memory after five reads of all", f"{writes:.0f} -> {after:.0f} MB", "4 MB more at most")
 
 
+def lines_of(pooler, event):
+    """The words of the log's lines of this event; a thread of its own writes the log."""
+    with open(f"{pooler.base}.err") as log:
+        return [line.split() for line in log if f" {event} " in line]
+
+
 @scenario("large-refused", limit=60)
 def large_refused(t):
-    """Above the limit a query and a row end the session with an error; the log names the query's size"""
+    """Above the limit a query, a group of messages and a row end the session, and the log has their sizes"""
     server = Postgres(t)
     pooler = Pooler(t, {"shop": server.port})
     client = pooler.client()
     came = outcome(lambda: client.value("select length('" + "x" * 2_000_000 + "')", 20.0))
     t.check("08P01" in came, "a query of 2 MB without --max-message", came[:100], "08P01")
+    group = pooler.client()
+    group.send(frame(b"P", b"\0" + b" " * 600_000 + b"\0\0\0") * 2)
+    came = outcome(lambda: group.read_reply(20.0))
+    t.check("08P01" in came, "two messages of 0.6 MB before their Sync", came[:100], "08P01")
     reader = pooler.client()
     came = outcome(lambda: reader.value("select repeat('x', 2000000)", 20.0))
     t.check("08006" in came, "a row of 2 MB without --max-message", came[:100], "08006")
-    with open(f"{pooler.base}.err") as log:
-        lines = [line for line in log if " message_too_long " in line]
-    named = len(lines) == 1 and all(word in lines[0] for word in (" database=shop ", " limit=1048576 "))
-    t.check(named, "the log about the query", f"{len(lines)} lines, first {lines[:1]}", "one with database and limit")
+    wait_until(lambda: len(lines_of(pooler, "message_too_long")) >= 3, 2)
+    lines = lines_of(pooler, "message_too_long")
+    # The query's length field, the two messages with their types, and the row's length field.
+    wanted = [("2000022", "client"), ("1200018", "client"), ("2000010", "server")]
+    fields = [f"database=shop bytes={size} limit=1048576 from={sender}" for size, sender in wanted]
+    found = [" ".join(line[-4:]) for line in lines]
+    t.check(found == fields, "the lines of the log", found, fields)
 
 
 @scenario("dump", limit=60)

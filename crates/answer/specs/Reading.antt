@@ -1,5 +1,6 @@
 -- How a file is read, call by call, and when it has no text (own). `Unreadable`: it can't be
--- opened, a read fails that isn't just interrupted, or what it holds isn't UTF-8.
+-- opened, a read fails that isn't just interrupted, or what it holds isn't UTF-8. `Fails`: one of
+-- the first two.
 use Rattle.std.specs.Prelude.{ℕ, zero, suc, ◌≡◌, ◌≢◌, ◌⊎◌, ◌<◌, List, [], ◌∷◌, ◌++◌, Result, Ok, Err, length, take, ⊤}
 use Rattle.std.specs.Str.{IsUtf8}
 use Rattle.std.specs.IoError.{error_kind}
@@ -67,3 +68,11 @@ abbrev pub Unreadable : {R : Type 0} → (Result R Error → Type 0)
 Unreadable opens gave =
     ((error : Error) × opens (Err error) × (error_kind error ≢ kind.OutOfMemory))
     ⊎ ((reader : _) × opens (Ok reader) × (FailsReading gave reader ⊎ HoldsNoText gave reader))
+
+-- A file can't be opened, where that isn't because memory ran out; or it was opened, and a read of it
+-- failed.
+abbrev pub Fails : {R : Type 0} → (Result R Error → Type 0)
+    → (R → List ℕ → Result ℕ Error → R → Type 0) → Type 0
+Fails opens gave =
+    ((error : Error) × opens (Err error) × (error_kind error ≢ kind.OutOfMemory))
+    ⊎ ((reader : _) × opens (Ok reader) × FailsReading gave reader)

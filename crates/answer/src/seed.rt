@@ -1,8 +1,10 @@
 //! The seed of `serve`, which may lie in a file.
-ghost use Rattle.std.specs.Prelude.{◌≡◌, IfErr, IfOk, IfSome, take};
+ghost use Rattle.std.specs.Prelude.{◌≡◌, IfErr, IfOk, IfSome, Some, take};
 ghost use Rattle.command_line.specs.Seeds.{counted_bytes};
 ghost use Rattle.answer.specs.Answer.{IsUsage};
-ghost use Rattle.answer.specs.Seeds.{HoldsSeed, IsNoSeed, IsSeedFault, IsSeedOf};
+ghost use Rattle.answer.specs.Reading.{Fails};
+ghost use Rattle.answer.specs.ReadingFaults.{CannotRead, HasNoText};
+ghost use Rattle.answer.specs.Seeds.{GaveFirst, GaveSeed, HoldsSeed, IsNoSeed, IsReadSeed, IsSeedFault, IsSeedOf, ReadsFirst};
 
 use crate::fault::Fault;
 use crate::file_text::{NoText, no_text, unread};
@@ -19,7 +21,10 @@ pub fn seed_of<O: Opener>(
     source: SeedSource<'_>,
 ) -> Result<[u8; 32], Fault>
     ensures seed { IfOk result (λ seed. IsSeedOf (O.text opener.now) source.entry seed) }
-    ensures refused { IfErr result (λ fault. IsSeedFault (O.text opener.now) source.entry fault) }
+    ensures read { IfOk result
+        (λ seed. IsReadSeed (O.opens opener.now) O.Reader.gave source.entry seed) }
+    ensures refused { IfErr result (λ fault. IsSeedFault (O.text opener.now)
+        (O.opens opener.now) O.Reader.gave source.entry fault) }
 {
     match source {
         SeedSource::Bytes(seed) => Ok(seed),
@@ -30,8 +35,10 @@ pub fn seed_of<O: Opener>(
 // The seed that the file holds.
 fn seed_in<O: Opener>(alloc: Global, opener: &O, file: &str) -> Result<[u8; 32], Fault>
     ensures seed { IfOk result (λ seed. HoldsSeed (O.text opener.now file.now) file.now seed) }
-    ensures refused { IfErr result
-        (λ fault. IsNoSeed (O.text opener.now file.now) file.now fault) }
+    ensures read { IfOk result
+        (λ seed. GaveSeed (O.opens opener.now) O.Reader.gave file.now (Some seed)) }
+    ensures refused { IfErr result (λ fault. IsNoSeed (O.text opener.now file.now)
+        (O.opens opener.now) O.Reader.gave file.now fault) }
 {
     match beginning(alloc, opener, file) {
         Ok(bytes) => match seed_held(&bytes) {
@@ -45,8 +52,12 @@ fn seed_in<O: Opener>(alloc: Global, opener: &O, file: &str) -> Result<[u8; 32],
 
 // The bytes of the file that count.
 fn beginning<O: Opener>(alloc: Global, opener: &O, file: &str) -> Result<Vec<u8>, NoText>
-    ensures { IfOk result (λ bytes. IfSome (O.text opener.now file.now)
+    ensures known { IfOk result (λ bytes. IfSome (O.text opener.now file.now)
         (λ text. bytes.items ≡ take (counted_bytes file.now) text)) }
+    ensures read { IfOk result (λ bytes. GaveFirst (O.opens opener.now file.now) O.Reader.gave
+        (counted_bytes file.now) bytes.items) }
+    ensures none { IfErr result
+        (λ why. HasNoText (Fails (O.opens opener.now file.now) O.Reader.gave) why) }
 {
     match opener.open(file) {
         Ok(mut reader) => first_bytes(alloc, &mut reader, counted_bytes(file)),
@@ -56,8 +67,10 @@ fn beginning<O: Opener>(alloc: Global, opener: &O, file: &str) -> Result<Vec<u8>
 
 // As many bytes, or all where there are fewer. A read that is interrupted is made again.
 fn first_bytes<I: Input>(alloc: Global, input: &mut I, count: usize) -> Result<Vec<u8>, NoText>
-    ensures { IfOk result (λ bytes. IfSome (I.left input.old)
+    ensures known { IfOk result (λ bytes. IfSome (I.left input.old)
         (λ known. bytes.items ≡ take count known)) }
+    ensures read { IfOk result (λ bytes. ReadsFirst I.gave input.old count bytes.items) }
+    ensures fault { IfErr result (λ why. CannotRead I.gave input.old why) }
 {
     let mut bytes = Vec::new(alloc);
     let mut byte = [0];

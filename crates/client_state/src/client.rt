@@ -1,19 +1,24 @@
 //! The machine of one client's session.
-ghost use Rattle.std.specs.Prelude.{◌≡◌, ◌⊎◌, ◌↔◌, ◌≤◌, ◌+◌, true, false, [], ◌++◌, length, IsTrue};
+ghost use Rattle.std.specs.Prelude.{◌≡◌, ◌⊎◌, ◌↔◌, ◌≤◌, ◌<◌, ◌+◌, true, false, [], ◌++◌, length, take, vec_len, IsTrue, IfOk, IfSome};
 ghost use Rattle.pg_frames.specs.FrameText.{text};
 ghost use Rattle.startup.specs.declared.error_code.ErrorCode.TheVariants.{ProtocolViolation, ConnectionFailure};
+ghost use Rattle.client_state.specs.LinkMessage.{status_of};
+ghost use Rattle.client_state.specs.declared.link_message.Status.TheVariants.{Idle, InTransaction, Unknown};
 ghost use Rattle.client_state.specs.Acts.{start, over, ends, fatal, ActsOn, ActsOnClient, EndsWith, head_act, after_head, act_on_head, session_at, IsHeadAct, ready_act, after_ready, IsReadyAct};
 
-use crate::client_message::ClientMessage;
+use crate::client_message::{ClientMessage, group_above};
 use crate::link_message::{LinkMessage, Status};
 use crate::{Act, DatabaseNo, HeadAct, Reply, Request};
 use pg_frames::{Frame, MAX_MESSAGE, MessageLimit, put_frame_within};
 use startup::{ErrorCode, Severity};
-use std::alloc::Global;
+use std::alloc::{AllocError, Global};
 use std::marker::Model;
 
-// How many bytes of memory a session keeps at most for its next request.
+// How many bytes of memory a session keeps at most for what it gathers.
 const KEPT: usize = 1_024;
+
+// How many bytes the memory has into which a session's streams are read.
+const ROOM: usize = 2_048;
 
 /// A client's session, from its login on. In contracts it is its limit, its database, whether it holds a
 /// lease, how many requests are outstanding, and the texts that it has gathered for its next
@@ -25,6 +30,10 @@ pub struct Client {
     database: DatabaseNo,
     stage: Stage,
     gathered: Vec<u8>,
+    // How many bytes a group of messages had that ended it.
+    refused: Option<usize>,
+    // Memory to be read into, if it is kept.
+    room: Vec<u8>,
 }
 
 // A request is outstanding only on a lease, and one at most, since the next is read after its
@@ -37,7 +46,7 @@ enum Stage {
 }
 
 impl Model for Client {
-    ghost use Rattle.std.specs.Prelude.{◌≤◌, length};
+    ghost use Rattle.std.specs.Prelude.{◌≤◌, ◌<◌, length, IfSome};
     ghost use Rattle.client_state.specs.Session.{Session};
 
     ghost Value = { Session };
@@ -52,7 +61,8 @@ impl Model for Client {
       gathered = c.gathered.items;
     } };
 
-    ghost invariant = { λ c. length c.gathered.items ≤ c.limit };
+    ghost invariant = { λ c. (length c.gathered.items ≤ c.limit)
+        × IfSome c.refused (λ bytes. c.limit < bytes) };
 }
 
 impl Client {
@@ -75,6 +85,8 @@ impl Client {
             database,
             stage: Stage::NoLease,
             gathered: Vec::new(alloc),
+            refused: None,
+            room: Vec::new(alloc),
         }
     }
 
@@ -126,10 +138,18 @@ impl Client {
     {
         match ClientMessage::of(self.limit, self.gathered.len(), frame) {
             ClientMessage::Terminate => self.end(Reply::nothing()),
-            ClientMessage::Refused(code) => self.end_with(code),
+            ClientMessage::Refused(code) => self.refuse(frame, code),
             ClientMessage::Gathered => self.gather(frame),
             ClientMessage::Request => self.request(frame),
         }
+    }
+
+    /// How many bytes the messages of an extended query had together that ended the session, since
+    /// they were more than its limit.
+    pub fn refused_group(&self) -> Option<usize>
+        ensures { IfSome result (λ bytes. self.now.limit < bytes) }
+    {
+        self.refused
     }
 
     /// What to do where the client's stream isn't cut into frames: it violates the protocol.
@@ -176,6 +196,29 @@ impl Client {
         }
     }
 
+    /// The same for a status that is known, with a request outstanding: the ReadyForQuery goes to
+    /// the client. It returns whether the lease is given back.
+    #[inline]
+    pub fn on_known_ready(&mut self, status: u8) -> bool
+        requires asking { self.old.outstanding ≡ 1 }
+        requires known { status_of status ≡ Unknown → ⊥ }
+        ensures idle { result ≡ true → status_of status ≡ Idle }
+        ensures in_transaction { result ≡ false → status_of status ≡ InTransaction }
+        ensures state { self.new ≡ after_ready self.old status }
+    {
+        match Status::of(status) {
+            Status::Idle => {
+                self.stage = Stage::NoLease;
+                true
+            }
+            Status::InTransaction => {
+                self.stage = Stage::Leased;
+                false
+            }
+            Status::Unknown => unreachable!(),
+        }
+    }
+
     /// What to do where the link's stream isn't cut into frames, ends or fails: the link is lost.
     pub fn on_link_fault(&mut self) -> Act
         requires { IsTrue self.old.leased }
@@ -194,11 +237,47 @@ impl Client {
         self.gathered.clear();
     }
 
+    /// Memory of 2,048 bytes, to be read into. It is made where none is kept.
+    pub fn take_room(&mut self) -> Result<Vec<u8>, AllocError>
+        ensures room { IfOk result (λ room. vec_len room ≡ 2048) }
+        ensures session { self.new ≡ self.old }
+    {
+        let room = std::mem::replace(&mut self.room, Vec::new(self.alloc));
+        if room.len() == ROOM {
+            Ok(room)
+        } else {
+            zeros(self.alloc, ROOM)
+        }
+    }
+
+    /// Keeps this memory, to be read into.
+    pub fn keep_room(&mut self, room: Vec<u8>)
+        ensures { self.new ≡ self.old }
+    {
+        self.room = room;
+    }
+
+    /// Hands out the request that is whole in the first bytes of this memory, of which nothing was
+    /// gathered. It counts as outstanding from then on.
+    pub fn ask(&mut self, memory: Vec<u8>, len: usize) -> Request
+        requires within { len ≤ vec_len memory }
+        requires free { self.old.outstanding ≡ 0 }
+        ensures request { result ≡ take len memory.items }
+        ensures session { self.new ≡ record self.old { leased = true; outstanding = 1 } }
+    {
+        self.stage = Stage::Asking;
+        Request::front(memory, len)
+    }
+
     /// Keeps the memory of a request that was handed out for the next one, unless it is large.
     pub fn recycle(&mut self, request: Request)
         ensures { self.new ≡ self.old }
     {
         let mut text = request.into_vec();
+        if text.len() == ROOM {
+            self.room = text;
+            return;
+        }
         if self.gathered.is_empty() && text.capacity() <= KEPT {
             text.clear();
             self.gathered = text;
@@ -232,6 +311,15 @@ impl Client {
         } else {
             Act::Need(Request::new(text))
         }
+    }
+
+    // Ends the session with this error for a message.
+    #[cold]
+    fn refuse(&mut self, frame: &Frame, code: ErrorCode) -> Act
+        ensures { ActsOn (ClientMessage.Refused code) self.old frame.now result self.new }
+    {
+        self.refused = group_above(self.limit, self.gathered.len(), frame);
+        self.end_with(code)
     }
 
     // Ends the session, and closes the link where one is held.
@@ -289,4 +377,11 @@ impl Client {
             Err(_) => Reply::nothing(),
         }
     }
+}
+
+// As many zero bytes.
+fn zeros(alloc: Global, count: usize) -> Result<Vec<u8>, AllocError>
+    ensures { IfOk result (λ bytes. vec_len bytes ≡ count) }
+{
+    Ok(vec![in alloc; 0; count]?)
 }

@@ -1,10 +1,11 @@
 //! What a client's message asks for.
-ghost use Rattle.std.specs.Prelude.{◌≡◌, ◌≤◌, ◌&&◌, length, nat_le, take};
+ghost use Rattle.std.specs.Prelude.{◌≡◌, ◌+◌, ◌<◌, ◌≤◌, ◌&&◌, IfSome, IsTrue, None, codes, length, nat_le, take};
 ghost use Rattle.std.specs.List.{count_by, list_all};
-ghost use Rattle.client_state.specs.Text.{is_one_string, is_zero};
+ghost use Rattle.client_state.specs.Text.{is_one_of, is_one_string, is_zero};
 ghost use Rattle.client_state.specs.ClientMessage.{by_kind, by_names, by_target};
+ghost use Rattle.client_state.specs.Query.{IsQuery};
 
-use pg_frames::{Frame, MessageLimit};
+use pg_frames::{Frame, MessageLimit, whole_head};
 use startup::ErrorCode;
 
 // How many bytes the length field takes. It counts them.
@@ -53,6 +54,48 @@ impl ClientMessage {
             b'H' | b'F' | b'd' | b'c' | b'f' => LEFT_OUT,
             _ => VIOLATION,
         }
+    }
+}
+
+/// How many bytes messages of an extended query have together with this one, after messages with
+/// `gathered` bytes, if they are more than the limit.
+pub fn group_above(limit: MessageLimit, gathered: usize, frame: &Frame) -> Option<usize>
+    requires { gathered ≤ limit }
+    ensures some { IfSome result (λ bytes. (limit < bytes)
+        × (bytes ≡ gathered + (5 + length frame.now.body))
+        × IsTrue (is_one_of (codes "PBDEC") frame.now.kind)) }
+    ensures none { result ≡ None → IsTrue (is_one_of (codes "PBDEC") frame.now.kind)
+        → gathered + (5 + length frame.now.body) ≤ limit }
+{
+    let limit = limit.get() as usize;
+    let bytes = gathered + (HEADER_LEN + frame.body.as_slice().len());
+    match frame.kind {
+        b'P' | b'B' | b'D' | b'E' | b'C' if bytes > limit => Some(bytes),
+        _ => None,
+    }
+}
+
+/// Whether these bytes are one whole Query, which is a request where nothing was gathered before.
+#[inline]
+pub fn is_query(limit: MessageLimit, bytes: &[u8]) -> bool
+    ensures { IsTrue result → IsQuery limit bytes.now }
+{
+    match bytes.first() {
+        Some(b'Q') => is_whole_query(limit, bytes),
+        _ => false,
+    }
+}
+
+// The same of bytes that begin as one.
+#[inline]
+fn is_whole_query(limit: MessageLimit, bytes: &[u8]) -> bool
+    ensures { IsTrue result → IsQuery limit bytes.now }
+{
+    match whole_head(limit, bytes) {
+        Some(head) if head.kind == b'Q' && head.length + 1 == bytes.len() => {
+            is_one_string(bytes.split_at(HEADER_LEN).1)
+        }
+        _ => false,
     }
 }
 

@@ -1,5 +1,5 @@
 //! What a client asks of a server.
-ghost use Rattle.std.specs.Prelude.{◌≡◌};
+ghost use Rattle.std.specs.Prelude.{◌≡◌, ◌≤◌, length, take, vec_len};
 
 use std::marker::Model;
 
@@ -7,15 +7,19 @@ use std::marker::Model;
 /// contracts it is its text.
 #[derive(Debug, Drop)]
 pub struct Request {
-    text: Vec<u8>,
+    // Its text, and maybe bytes behind it.
+    memory: Vec<u8>,
+    len: usize,
 }
 
 impl Model for Request {
-    ghost use Rattle.std.specs.Prelude.{ℕ, List};
+    ghost use Rattle.std.specs.Prelude.{ℕ, List, ◌≤◌, take, vec_len};
 
     ghost Value = { List ℕ };
 
-    ghost view = { λ r. r.text.items };
+    ghost view = { λ r. take r.len r.memory.items };
+
+    ghost invariant = { λ r. r.len ≤ vec_len r.memory };
 }
 
 impl Request {
@@ -23,21 +27,30 @@ impl Request {
     pub(crate) fn new(text: Vec<u8>) -> Request
         ensures { result ≡ text.items }
     {
-        Request { text }
+        let len = text.len();
+        Request { memory: text, len }
+    }
+
+    /// The request whose text the first bytes of this memory are.
+    pub(crate) fn front(memory: Vec<u8>, len: usize) -> Request
+        requires { len ≤ vec_len memory }
+        ensures { result ≡ take len memory.items }
+    {
+        Request { memory, len }
     }
 
     // The memory of its text.
     pub(crate) fn into_vec(self) -> Vec<u8>
-        ensures { result.items ≡ self }
+        ensures { take (length self) result.items ≡ self }
     {
-        let Request { text } = self;
-        text
+        let Request { memory, len: _ } = self;
+        memory
     }
 
     /// Its text, to be written to the link.
     pub fn as_slice(&self) -> &[u8]
         ensures { result.now ≡ self.now }
     {
-        self.text.as_slice()
+        self.memory.as_slice().split_at(self.len).0
     }
 }

@@ -7,7 +7,7 @@ use crate::metrics::{Meter, NodeCounters};
 use crate::origin::Origin;
 use crate::{CancelEnd, Connection, Deadline, LinkStream, Log, Machine, Target};
 use ini_config::{Database, Group, Peer, Settings};
-use node_threads::Opener;
+use node_threads::{Opener, Sender};
 use pg_ids::{DatabaseNo, PeerNo};
 use startup::Reports;
 use std::alloc::{AllocError, Global};
@@ -198,8 +198,9 @@ impl<M: Machine> Dialer<M> {
         Origin::new(self.alloc, &self.log, node, fields)
     }
 
-    // Writes to the log that a client's message on this database is longer than the limit.
-    fn write_too_long(&self, database: DatabaseNo, length: u32, limit: u32) {
+    // Writes to the log that a message on this database, or a client's messages of an extended query
+    // together, have more bytes than the limit.
+    fn write_too_long(&self, database: DatabaseNo, from: Sender, bytes: usize, limit: u32) {
         let Ok(settings) = self.settings() else {
             return;
         };
@@ -208,9 +209,9 @@ impl<M: Machine> Dialer<M> {
         };
         let fields = [
             ("database", Value::Text(entry.name)),
-            ("bytes", Value::Number(u64::from(length))),
+            ("bytes", Value::Number(bytes as u64)),
             ("limit", Value::Number(u64::from(limit))),
-            ("from", Value::Text("client")),
+            ("from", Value::Text(name_of(from))),
         ];
         let node = settings.peer_id().get();
         self.log
@@ -228,6 +229,14 @@ impl<M: Machine> Dialer<M> {
         if let Ok(origin) = self.origin(settings, fields) {
             origin.write_error(&self.machine, event, error);
         }
+    }
+}
+
+// The name of who sent a message.
+fn name_of(sender: Sender) -> &'static str {
+    match sender {
+        Sender::Client => "client",
+        Sender::Server => "server",
     }
 }
 
@@ -321,7 +330,7 @@ impl<'a, M: Machine> Opener for ClientDialer<'a, M> {
         self.connection.give_up();
     }
 
-    fn refuse_message(&self, database: DatabaseNo, length: u32, limit: u32) {
-        self.dialer.write_too_long(database, length, limit);
+    fn refuse_message(&self, database: DatabaseNo, from: Sender, bytes: usize, limit: u32) {
+        self.dialer.write_too_long(database, from, bytes, limit);
     }
 }

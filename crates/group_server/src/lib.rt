@@ -16,6 +16,7 @@ mod drain_signal;
 mod draining;
 mod dropped;
 mod ending;
+mod error_kind;
 mod first_packet;
 mod group;
 mod guests;

@@ -1,6 +1,7 @@
 //! The stream of a link, and of a connection for a cancel request.
 ghost use Rattle.std.specs.Io.{ReadsAtMost, WritesAtMost};
 
+use crate::error_kind::{with_error, with_kind};
 use crate::limits::{LOOK_MILLIS, WRITE_MILLIS};
 use crate::looks::Looks;
 use crate::poll::{is_ended, is_quiet, wait_both};
@@ -72,13 +73,14 @@ impl<M: Machine> LinkStream<M> {
 
     /// Whether nothing came on it, its other side hasn't ended it, all is written, and its server
     /// reports nothing else than clients get. Where it isn't, the log says so.
+    #[inline]
     pub fn is_quiet(&self) -> bool {
         let inside = &self.inside;
         let is_quiet = inside.unwritten.is_empty()
             && !inside.looks.differs()
             && is_quiet(self.descriptor());
         if !is_quiet {
-            inside.looks.close(&inside.machine);
+            inside.tell_close();
         }
         is_quiet
     }
@@ -102,6 +104,12 @@ impl<M: Machine> LinkStream<M> {
 }
 
 impl<M: Machine> Inside<M> {
+    // The link is closed before it is used again.
+    #[inline(never)]
+    fn tell_close(&self) {
+        self.looks.close(&self.machine);
+    }
+
     // Fails if the deadline is over.
     #[inline(never)]
     fn keep_deadline(&self) -> io::Result<()> {
@@ -160,6 +168,47 @@ impl<M: Machine> Inside<M> {
         }
     }
 
+    // Whether a read of the socket is all that a read takes, if something comes.
+    #[inline(always)]
+    fn is_plain(&self) -> bool {
+        self.deadline.is_none() && self.unwritten.is_empty() && self.looks.is_blind()
+    }
+
+    // Reads, and looks at what comes.
+    #[inline(never)]
+    fn read_and_look(&mut self, buffer: &mut [u8]) -> Result<usize, ErrorKind>
+        ensures bound { ReadsAtMost result buffer.new }
+    {
+        let read = self.read(buffer);
+        with_kind(self.look(buffer, read))
+    }
+
+    // Goes on after a read of the socket that failed.
+    #[inline(never)]
+    fn read_on(&mut self, error: io::Error, buffer: &mut [u8]) -> Result<usize, ErrorKind>
+        ensures bound { ReadsAtMost result buffer.new }
+    {
+        let read = self.read_again(error, buffer);
+        with_kind(self.look(buffer, read))
+    }
+
+    // Reads when something comes, after a read of the socket that failed.
+    fn read_again(&mut self, error: io::Error, buffer: &mut [u8]) -> io::Result<usize>
+        ensures bound { ReadsAtMost result buffer.new }
+    {
+        if !is_pause(&error) {
+            return Err(error);
+        }
+        self.look_at_client()?;
+        self.read(buffer)
+    }
+
+    // The other side has ended the connection.
+    #[inline(never)]
+    fn see_end(&mut self) {
+        self.looks.end(&self.machine);
+    }
+
     // Reads once, and waits no longer than a read may.
     fn read_once(&mut self, buffer: &mut [u8]) -> io::Result<usize>
         ensures bound { ReadsAtMost result buffer.new }
@@ -207,40 +256,74 @@ impl<M: Machine> Inside<M> {
         Ok(())
     }
 
-    // Writes, or keeps what the socket doesn't take soon.
-    fn write(&mut self, bytes: &[u8]) -> io::Result<usize>
+    // Goes on after a write to the socket that failed: what it doesn't take soon is kept.
+    #[inline(never)]
+    fn write_on(&mut self, error: io::Error, bytes: &[u8]) -> Result<usize, ErrorKind>
         ensures bound { WritesAtMost result bytes.now }
     {
-        if self.unwritten.is_empty() {
-            match self.socket.write(bytes) {
-                Ok(count) => return Ok(count),
-                Err(error) if is_pause(&error) => self.socket.set_nonblocking(true)?,
-                Err(error) => return Err(error),
+        match self.begin_to_keep(error) {
+            Ok(()) => self.keep(bytes),
+            Err(error) => {
+                self.looks.fail(&self.machine, &error);
+                Err(error.kind())
             }
         }
-        self.unwritten.extend_from_slice(bytes)?;
-        Ok(bytes.len())
+    }
+
+    // From now on the socket doesn't wait. It fails if this error isn't that it waited too long.
+    fn begin_to_keep(&self, error: io::Error) -> io::Result<()> {
+        if is_pause(&error) {
+            self.socket.set_nonblocking(true)
+        } else {
+            Err(error)
+        }
+    }
+
+    // Keeps what is to be written, after what is kept already.
+    #[inline(never)]
+    fn keep(&mut self, bytes: &[u8]) -> Result<usize, ErrorKind>
+        ensures bound { WritesAtMost result bytes.now }
+    {
+        match self.unwritten.extend_from_slice(bytes) {
+            Ok(()) => Ok(bytes.len()),
+            Err(refused) => {
+                let error = io::Error::from(refused);
+                self.looks.fail(&self.machine, &error);
+                Err(error.kind())
+            }
+        }
     }
 }
 
 impl<M: Machine> Read for LinkStream<M> {
+    #[inline(always)]
     fn read(&mut self, buffer: &mut [u8]) -> io::Result<usize> {
-        let result = self.inside.read(buffer);
-        if self.inside.looks.is_blind() && matches!(&result, Ok(1..)) {
-            return result;
+        let inside = &mut *self.inside;
+        if !inside.is_plain() {
+            return with_error(inside.read_and_look(buffer));
         }
-        self.inside.look(buffer, result)
+        match inside.socket.read(buffer) {
+            Ok(0) => {
+                inside.see_end();
+                Ok(0)
+            }
+            Ok(count) => Ok(count),
+            Err(error) => with_error(inside.read_on(error, buffer)),
+        }
     }
 }
 
 impl<M: Machine> Write for LinkStream<M> {
+    #[inline(always)]
     fn write(&mut self, bytes: &[u8]) -> io::Result<usize> {
-        let result = self.inside.write(bytes);
-        if let Err(error) = &result {
-            let inside = &mut *self.inside;
-            inside.looks.fail(&inside.machine, error);
+        let inside = &mut *self.inside;
+        if !inside.unwritten.is_empty() {
+            return with_error(inside.keep(bytes));
         }
-        result
+        match inside.socket.write(bytes) {
+            Ok(count) => Ok(count),
+            Err(error) => with_error(inside.write_on(error, bytes)),
+        }
     }
 
     fn flush(&mut self) -> io::Result<()> {

@@ -1,4 +1,5 @@
-//! A node whose sessions are held at a gate, before they give their links back.
+//! A node in the test's hands: its sessions are held at a gate before they give their links back,
+//! and its log can be read.
 use crate::group::ANY_PORT;
 use crate::host::TestHost;
 use crate::settings::group;
@@ -21,9 +22,9 @@ pub(crate) struct Barrier {
 }
 
 impl Barrier {
-    const fn closed() -> Barrier {
+    const fn new(is_open: bool) -> Barrier {
         Barrier {
-            is_open: Mutex::new(false),
+            is_open: Mutex::new(is_open),
             opened: Condvar::new(),
         }
     }
@@ -48,6 +49,7 @@ impl Gate for Barrier {
 struct Node<M: Machine> {
     dialer: Dialer<M>,
     gate: Arc<Barrier, Global>,
+    limit: MessageLimit,
 }
 
 // Starts node 1, alone, before the server at this port. Returns its port and its gate.
@@ -55,25 +57,50 @@ pub(crate) fn start_node<R: TestHost>(
     rt: &R,
     server: u16,
 ) -> Result<(u16, Arc<Barrier, Global>), Fail> {
-    let listener = TcpListener::bind(rt, ANY_PORT)?;
-    let port = listener.local_addr()?.port();
-    let group = Arc::new(rt.alloc(), group(rt.alloc(), &[port], server, &[&[]])?)?;
-    let gate = Arc::new(rt.alloc(), Barrier::closed())?;
-    let node = gated(rt, &group, &gate)?;
-    start_accepting(rt, &group, node, listener)?;
+    let gate = Arc::new(rt.alloc(), Barrier::new(false))?;
+    let theirs = Arc::try_clone(&gate)?;
+    let (port, _log) = start(rt, server, theirs, MessageLimit::DEFAULT)?;
     Ok((port, gate))
 }
 
-fn gated<R: TestHost>(
+// Starts such a node with an open gate and this limit of a message. Returns its port and its log.
+pub(crate) fn start_limited<R: TestHost>(
+    rt: &R,
+    server: u16,
+    limit: MessageLimit,
+) -> Result<(u16, Arc<Log, Global>), Fail> {
+    let gate = Arc::new(rt.alloc(), Barrier::new(true))?;
+    start(rt, server, gate, limit)
+}
+
+fn start<R: TestHost>(
+    rt: &R,
+    server: u16,
+    gate: Arc<Barrier, Global>,
+    limit: MessageLimit,
+) -> Result<(u16, Arc<Log, Global>), Fail> {
+    let listener = TcpListener::bind(rt, ANY_PORT)?;
+    let port = listener.local_addr()?.port();
+    let group = Arc::new(rt.alloc(), group(rt.alloc(), &[port], server, &[&[]])?)?;
+    let log = Arc::new(rt.alloc(), Log::new(rt.alloc(), Level::Info))?;
+    let dialer = dialer_of(rt, &group, &log)?;
+    let node = Node {
+        dialer,
+        gate,
+        limit,
+    };
+    start_accepting(rt, &group, Arc::new(rt.alloc(), node)?, listener)?;
+    Ok((port, log))
+}
+
+fn dialer_of<R: TestHost>(
     rt: &R,
     group: &Arc<Group, Global>,
-    gate: &Arc<Barrier, Global>,
-) -> Result<Arc<Node<R>, Global>, AllocError> {
-    let log = Arc::new(rt.alloc(), Log::new(rt.alloc(), Level::Info))?;
+    log: &Arc<Log, Global>,
+) -> Result<Dialer<R>, AllocError> {
     let reports = Arc::new(rt.alloc(), Reports::new(rt.alloc()))?;
-    let dialer = Dialer::new(*rt, rt.alloc(), Arc::try_clone(group)?, 0, log, reports);
-    let gate = Arc::try_clone(gate)?;
-    Ok(Arc::new(rt.alloc(), Node { dialer, gate })?)
+    let (group, log) = (Arc::try_clone(group)?, Arc::try_clone(log)?);
+    Ok(Dialer::new(*rt, rt.alloc(), group, 0, log, reports))
 }
 
 // Accepts connections in a thread apart.
@@ -140,7 +167,7 @@ fn serve<R: TestHost>(
         &mut calling,
         &opener,
         node.dialer.reports(),
-        &MessageLimit::DEFAULT,
+        &node.limit,
         &mut client,
     );
 }

@@ -66,4 +66,6 @@ mod scripted;
 #[cfg(test)]
 mod settings;
 #[cfg(test)]
+mod too_long;
+#[cfg(test)]
 mod waiting;

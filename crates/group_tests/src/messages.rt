@@ -71,7 +71,7 @@ pub(crate) fn query(alloc: Global, text: &str) -> Result<Vec<u8>, AllocError> {
 }
 
 // Appends a message of this type and body.
-fn put_message(out: &mut Vec<u8>, kind: u8, body: &[u8]) -> Result<(), AllocError> {
+pub(crate) fn put_message(out: &mut Vec<u8>, kind: u8, body: &[u8]) -> Result<(), AllocError> {
     out.push(kind)?;
     put_length(out, body.len().saturating_add(4))?;
     out.extend_from_slice(body)

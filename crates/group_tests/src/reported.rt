@@ -44,7 +44,7 @@ const TWO: &[u8] = b"C\0\0\0\x08TWO\0";
 const OPEN: &[u8] = b"Z\0\0\0\x05T";
 
 // ErrorResponse: the link was lost.
-const LOST: &[u8] = b"E\0\0\0\x32SFATAL\0VFATAL\0C08006\0Mserver connection lost\0\0";
+pub(crate) const LOST: &[u8] = b"E\0\0\0\x32SFATAL\0VFATAL\0C08006\0Mserver connection lost\0\0";
 
 // A group of one node before this server, whose clients get this.
 fn start_group<R: TestHost>(rt: &R, server: u16, told: &[(&str, &str)]) -> Result<u16, Fail> {

@@ -53,23 +53,6 @@ impl<S, T> Link<S, T> {
     {
         self.details
     }
-
-    // The link in another state, and the state that it left.
-    fn into_state<To>(self, next: To) -> (Link<S, To>, T)
-        ensures link { result.0 ≡ self }
-    {
-        let Link {
-            details,
-            stream,
-            state,
-        } = self;
-        let moved = Link {
-            details,
-            stream,
-            state: next,
-        };
-        (moved, state)
-    }
 }
 
 impl<S> Link<S, Held> {
@@ -104,16 +87,32 @@ impl<S> Link<S, Held> {
     pub fn idle(self) -> IdleLink<S>
         ensures { result ≡ self }
     {
-        let (link, Held) = self.into_state(Idle);
-        link
+        let Link {
+            details,
+            stream,
+            state: Held,
+        } = self;
+        Link {
+            details,
+            stream,
+            state: Idle,
+        }
     }
 
     /// The client gives the link back, and a cancel request for it is still on its way.
     pub fn quarantine(self) -> QuarantinedLink<S>
         ensures { result ≡ self }
     {
-        let (link, Held) = self.into_state(Quarantined);
-        link
+        let Link {
+            details,
+            stream,
+            state: Held,
+        } = self;
+        Link {
+            details,
+            stream,
+            state: Quarantined,
+        }
     }
 
     /// The link leaves its pool. Returns its stream, to be closed.
@@ -144,7 +143,12 @@ impl<S, T: Drop> Link<S, T> {
     pub fn hold(self) -> Lease<S>
         ensures { result ≡ self }
     {
-        self.into_state(Held).0
+        let Link {
+            details,
+            stream,
+            state: _left,
+        } = self;
+        Lease::new(details, stream)
     }
 }
 
@@ -153,7 +157,7 @@ impl<S> Link<S, Quarantined> {
     pub fn free(self) -> IdleLink<S>
         ensures { result ≡ self }
     {
-        self.into_state(Idle).0
+        self.hold().idle()
     }
 
     /// The link leaves its pool. Returns its stream, to be closed.

@@ -1,5 +1,5 @@
 -- What is at a place: as an entry, and in the view.
-use Rattle.std.proofs.Common.{◌≡◌, ◌≢◌, true, false, List, Option, Some, None, is_some, ℕ, map, option_map, length, get_or, ◌<◌, arith, refl, ap, sym, ◌∙◌, ⊎_elim}
+use Rattle.std.proofs.Common.{◌≡◌, ◌≢◌, true, false, List, Option, Some, None, IfNone, is_some, ℕ, map, option_map, length, get_or, ◌<◌, arith, refl, ap, sym, ◌∙◌, ⊎_elim}
 use Rattle.std.proofs.Math.ListN.{set}
 use Rattle.std.specs.List.{slice_get, slice_set}
 use Rattle.std.proofs.lemmas.Option.{slice_get_within, slice_get-map, same_Some}
@@ -16,8 +16,11 @@ use Rattle.link_pool.specs.declared.entry.Entry.TheVariants as entry
 use Rattle.link_pool.specs.declared.place.Place.{Place}
 use Rattle.link_pool.specs.declared.place.Place.TheVariants as place
 use Rattle.link_pool.specs.Entries.{Entries, place_of, stream_of, idle_entry, free_entry, pool_in, streams_in, put_at, with_entry}
-use Rattle.link_pool.specs.PoolStep.{is_idle}
-use Rattle.link_pool.specs.Parts.{is_taken, Stores}
+use Rattle.link_pool.specs.PoolOf.{pool_of}
+use Rattle.link_pool.specs.PoolStep.{is_idle, StaleLease}
+use Rattle.link_pool.specs.Parts.{is_taken, Stores, IsStaleIn}
+use Rattle.link_pool.specs.declared.pool.Pool.TheInside.{Inside}
+use Rattle.lease.specs.declared.link_record.LinkRecord.{LinkRecord}
 use Rattle.lease.specs.LinkValue.{LinkValue}
 
 -- what is free in the view is free
@@ -227,3 +230,13 @@ read_pool pools d n pool same within read = let long = length-map pools pool_in 
 -- and of a place that there is
 pub read_at : {S : Type 0} (pools : List (Entries S)) (at : LinkPlace) (n : ℕ) (pool : Entries S) (was : Entry S) → n ≡ at.database → entry_at pools at ≡ Some was → pool ≡ get_or pools n pool → slice_get pools at.database ≡ Some pool
 read_at pools at n pool was same is read = let within = pool_within pools at was is in was_read pools n at.database pool same (omega (arith, same, within)) read
+
+-- a lease that is stale in its place is stale
+pub stale_seen : {S X : Type 0} (p : Inside S) (lease : LinkRecord) (pool : Entries S) (o : Option X) → slice_get p.pools.items lease.at.database ≡ Some pool
+    → IfNone o (IsStaleIn lease (option_map place_of (slice_get pool.entries lease.at.index))) → IfNone o (StaleLease lease (pool_of p).view)
+stale_seen p lease pool (Some x) there stale = tt
+stale_seen p lease pool None there stale = λ link slot is. stale link slot (record {
+  there = sym (seen_at p.pools.items lease.at ∙ ap (option_map place_of) (ap (λ o. entry_in o lease.at.index) there)) ∙ is.at;
+  says = is.says;
+  held = is.held;
+})

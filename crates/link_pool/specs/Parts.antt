@@ -1,6 +1,7 @@
 -- Parts of the definitions of steps (internal).
 use Rattle.std.specs.Prelude.{ℕ, ◌≡◌, Bool, true, false, List, Option, None, Some, slice_get}
 use Rattle.lease.specs.declared.link_place.LinkPlace.{LinkPlace}
+use Rattle.lease.specs.declared.link_record.LinkRecord.{LinkRecord}
 use Rattle.quarantine.specs.OpenTickets.{OpenTickets}
 use Rattle.quarantine.specs.HoldStates.{state_of}
 use Rattle.quarantine.specs.declared.hold.HoldState.{HoldState}
@@ -95,3 +96,14 @@ pub record IsLent (slot : ℕ) (at : LinkPlace) (link : Link) (v : PoolView) : T
   pub there : place_at v at ≡ Some (place.Link link)
   pub held : link.state ≡ state.Held slot
   pub fits : LinkFits v at link
+
+-- the link that a lease names is here, and with the client of this slot
+pub record IsHeldIn (lease : LinkRecord) (link : Link) (slot : ℕ) (here : Option Place)
+    : Type 0 where
+  pub there : here ≡ Some (place.Link link)
+  pub says : link.details ≡ lease
+  pub held : link.state ≡ state.Held slot
+
+-- no held link here is the lease's
+abbrev pub IsStaleIn : LinkRecord → Option Place → Type 0
+IsStaleIn lease here = (link : Link) (slot : ℕ) → IsHeldIn lease link slot here → ⊥

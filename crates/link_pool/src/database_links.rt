@@ -3,11 +3,12 @@ ghost use Rattle.std.specs.Prelude.{vec_capacity, ◌≡◌, ◌≢◌, ◌<◌,
 ghost use Rattle.link_pool.specs.declared.entry.Entry.{Entry as EntryOf};
 ghost use Rattle.link_pool.specs.declared.entry.Entry.TheVariants as entry;
 ghost use Rattle.link_pool.specs.Stacks.{put_on, top, under_top, all_places};
+ghost use Rattle.link_pool.specs.Parts.{IsHeldIn, IsStaleIn};
 ghost use Rattle.link_pool.specs.Entries.{place_of, idle_entry, free_entry, settled, leaving, stored_link, lent, ungiven, put_at, with_entry, freed, new_links, TakesIdle, IsQuarantined};
 
-use crate::entry::Entry;
+use crate::entry::{Entry, Held};
 use crate::place::{LinkState, Place};
-use lease::{Lease, PermitRecord};
+use lease::{Lease, LinkRecord, PermitRecord};
 use pg_ids::SlotNo;
 use quarantine::Hold;
 use std::alloc::{AllocError, Global};
@@ -98,6 +99,20 @@ impl<S: Drop> DatabaseLinks<S> {
         Some(entry.place())
     }
 
+    // The link of a lease with its client, if that client has it.
+    #[inline(always)]
+    pub(crate) fn held(&self, lease: &LinkRecord) -> Option<Held>
+        ensures held { IfSome result (λ found. IsHeldIn lease.now found.link found.slot
+            (option_map place_of (slice_get self.now.entries lease.now.at.index))) }
+        ensures stale { IfNone result (IsStaleIn lease.now
+            (option_map place_of (slice_get self.now.entries lease.now.at.index))) }
+    {
+        let Some(entry) = self.entries.get(lease.at.index as usize) else {
+            return None;
+        };
+        entry.held(lease)
+    }
+
     // The free place that is taken next, if one is free.
     pub(crate) fn next_free(&self) -> Option<u16>
         ensures next { result ≡ top self.now.free }
@@ -147,7 +162,7 @@ impl<S: Drop> DatabaseLinks<S> {
             return None;
         };
         let entry = &mut self.entries[index as usize];
-        entry.lend(slot)
+        entry.lend_idle(slot)
     }
 
     // The client of a slot gets the quarantined link of a place. Its tickets stay open.
@@ -171,6 +186,7 @@ impl<S: Drop> DatabaseLinks<S> {
     }
 
     // This is at a place from now on, which wasn't free, and at which no idle link was.
+    #[inline(always)]
     pub(crate) fn put(&mut self, index: u16, entry: Entry<S>)
         requires there { index < length self.old.entries }
         requires not_idle { idle_entry (slice_get self.old.entries index) ≡ false }
@@ -203,6 +219,7 @@ impl<S: Drop> DatabaseLinks<S> {
 }
 
 // A place is put on a stack, if it is of the stack's kind.
+#[inline(always)]
 fn push_if(stack: &mut Vec<u16>, is_of_kind: bool, index: u16)
     requires { is_of_kind ≡ true → length stack.old.items < vec_capacity stack.old }
     ensures places { stack.new.items ≡ put_on is_of_kind index stack.old.items }

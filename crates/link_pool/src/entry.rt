@@ -1,11 +1,18 @@
 //! What a pool keeps at one place: the link with its stream, where no client has that.
-ghost use Rattle.std.specs.Prelude.{◌≡◌, Some, None};
+ghost use Rattle.std.specs.Prelude.{◌≡◌, true, Some, None, IfSome, IfNone};
+ghost use Rattle.link_pool.specs.Parts.{IsHeldIn, IsStaleIn};
 ghost use Rattle.link_pool.specs.Entries.{place_of, claim_of, idle_entry, free_entry, settled, leaving, stored_link, lent, ungiven, IsQuarantined};
 
 use crate::place::{Claim, Link, LinkState, Place};
 use lease::{IdleLink, Lease, LinkPlace, LinkRecord, PermitRecord, QuarantinedLink};
 use pg_ids::{ServerKey, SlotNo};
 use quarantine::{Hold, HoldState};
+
+// A link that the client of a slot has.
+pub(crate) struct Held {
+    pub(crate) link: Link,
+    pub(crate) slot: SlotNo,
+}
 
 /// One place of a pool.
 #[derive(Drop)]
@@ -79,6 +86,7 @@ impl<S: Drop> Entry<S> {
     }
 
     // Whether it is an idle link.
+    #[inline(always)]
     pub(crate) fn is_idle(&self) -> bool
         ensures { result ≡ idle_entry (Some self.now) }
     {
@@ -91,6 +99,7 @@ impl<S: Drop> Entry<S> {
     }
 
     // Whether nothing is there.
+    #[inline(always)]
     pub(crate) fn is_free(&self) -> bool
         ensures { result ≡ free_entry (Some self.now) }
     {
@@ -104,6 +113,7 @@ impl<S: Drop> Entry<S> {
     }
 
     // What the client claims that has something here, or gave the link back.
+    #[inline(always)]
     pub(crate) fn claim(&self, at: &LinkPlace) -> Claim
         ensures { result ≡ claim_of at.now self.now }
     {
@@ -117,36 +127,84 @@ impl<S: Drop> Entry<S> {
         }
     }
 
+    // The link of a lease with its client, if that client has it here.
+    #[inline(always)]
+    pub(crate) fn held(&self, lease: &LinkRecord) -> Option<Held>
+        ensures held { IfSome result
+            (λ found. IsHeldIn lease.now found.link found.slot (Some (place_of self.now))) }
+        ensures stale { IfNone result (IsStaleIn lease.now (Some (place_of self.now))) }
+    {
+        let Entry::Held {
+            details,
+            key,
+            hold,
+            slot,
+        } = self
+        else {
+            return None;
+        };
+        if *details != *lease {
+            return None;
+        }
+        let link = Link {
+            details: *details,
+            key: *key,
+            state: LinkState::Held(*slot),
+            hold: *hold,
+        };
+        Some(Held { link, slot: *slot })
+    }
+
     // The client of a slot gets the link, if no client has it. A quarantined link's tickets stay
     // open.
     pub(crate) fn lend(&mut self, slot: SlotNo) -> Option<Lease<S>>
         ensures lease { result ≡ stored_link self.old }
         ensures entry { self.new ≡ lent slot self.old }
     {
-        match std::mem::replace(self, Entry::Free) {
-            Entry::Idle { link, key } => {
-                *self = Entry::Held {
-                    details: link.details(),
-                    key,
-                    hold: Hold::new(),
-                    slot,
-                };
-                Some(link.hold())
-            }
+        let (details, key, hold) = match self {
+            Entry::Idle { link, key } => (link.details(), *key, Hold::new()),
             Entry::Quarantined {
                 link,
                 key,
                 hold,
                 giver: _,
-            } => {
-                *self = Entry::Held {
-                    details: link.details(),
-                    key,
-                    hold,
-                    slot,
-                };
-                Some(link.hold())
+            } => (link.details(), *key, *hold),
+            Entry::Free | Entry::Open { .. } | Entry::Held { .. } => return None,
+        };
+        let held = Entry::Held {
+            details,
+            key,
+            hold,
+            slot,
+        };
+        match std::mem::replace(self, held) {
+            Entry::Idle { link, key: _ } => Some(link.hold()),
+            Entry::Quarantined { link, .. } => Some(link.hold()),
+            other => {
+                *self = other;
+                None
             }
+        }
+    }
+
+    // The client of a slot gets the idle link.
+    #[inline(always)]
+    pub(crate) fn lend_idle(&mut self, slot: SlotNo) -> Option<Lease<S>>
+        requires { idle_entry (Some self.old) ≡ true }
+        ensures lease { result ≡ stored_link self.old }
+        ensures entry { self.new ≡ lent slot self.old }
+    {
+        let Entry::Idle { link, key } = self else {
+            return None;
+        };
+        let held = Entry::Held {
+            details: link.details(),
+            key: *key,
+            hold: Hold::new(),
+            slot,
+        };
+        match std::mem::replace(self, held) {
+            Entry::Idle { link, key: _ } => Some(link.hold()),
             other => {
                 *self = other;
                 None

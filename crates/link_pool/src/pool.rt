@@ -132,6 +132,7 @@ impl<S: Drop> Pool<S> {
     }
 
     // What is at a place that a client has changes, and so what the client has.
+    #[inline(always)]
     fn change(&mut self, at: &LinkPlace, slot: SlotNo, entry: Entry<S>)
         requires taken { is_taken (place_at self.old.view at.now) ≡ true }
         requires slot { slot < length self.old.view.claims }

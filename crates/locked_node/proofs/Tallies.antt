@@ -9,6 +9,7 @@ use Rattle.node_core.specs.declared.exchange.Exchange.{Exchange}
 use Rattle.locked_node.specs.declared.tally.Tally.{Tally}
 use Rattle.locked_node.specs.declared.tally.TheConstants.{START}
 use Rattle.locked_node.specs.CallNumbers.{kind_of, index_of, numbers_of}
+use Rattle.locked_node.specs.Adding.{AddedTo}
 use Rattle.locked_node.specs.Totals.{Row, rows, all_calls, calls_at, sum_at, number_at, Counts, IsEmpty, AddsUp, SameSum}
 use Rattle.locked_node.proofs.Sums.{same_reduced, same_equal}
 use Rattle.locked_node.proofs.Cells.{ROOMS, no_row, next, behind, start_few, length-rows, calls_there, calls_lie, sums_lie, calls_le}
@@ -89,11 +90,7 @@ empty_cells n = record {
     counts : (kind : ℕ) → calls_at none kind ≡ 0
     counts kind = ⊎_elim (λ s. s.1 none ∙ zero_at n _) (λ s. s.1 none) (calls_lie kind)
 
--- i numbers are added to the cells from a place on
-pub record AddedTo (from i : ℕ) (old numbers now : List ℕ) : Type 0 where
-  pub inside : (k : ℕ) → k < i → get_or now (from + k) 0 ≡ (get_or old (from + k) 0 + get_or numbers k 0) % 2 ^ 128
-  pub beside : (p : ℕ) → (p < from) ⊎ (from + i ≤ p) → get_or now p 0 ≡ get_or old p 0
-
+-- numbers are added to the cells from a place on
 pub added_none : (from : ℕ) (old numbers : List ℕ) → AddedTo from 0 old numbers old
 added_none from old numbers = record { inside = λ k h. absurd (omega (arith, h)); beside = λ p h. refl }
 

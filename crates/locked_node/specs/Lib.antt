@@ -5,3 +5,5 @@ pub mod Journal
 pub mod Lock
 pub mod CallerOf
 pub mod Waking
+pub mod Adding
+pub mod Without

@@ -1,10 +1,12 @@
 //! The last calls of a node, and the totals of all.
 ghost use Rattle.std.specs.Prelude.{◌≡◌, ◌+◌, ◌<◌, ◌≤◌, [], length, IfOk, MatchBool};
+ghost use Rattle.link_pool.specs.declared.replies.AcquireReply.TheVariants as acquire;
+ghost use Rattle.node_core.specs.declared.exchange.Exchange.TheVariants as call;
 
 use crate::call_note::CallNote;
 use crate::tally::Tally;
 use circular_buffer::{HeapCircularBuffer, Iter};
-use node_core::Exchange;
+use node_core::{AcquireReply, Exchange, LinkRecord, PassRecord, PermitRecord};
 use std::alloc::{AllocError, Global};
 use std::marker::Model;
 
@@ -111,11 +113,32 @@ impl Log {
 
     /// Puts a call behind the tail, which the oldest one leaves where it is full. It isn't counted
     /// yet.
-    #[inline(always)]
+    #[inline(never)]
     pub(crate) fn put(&mut self, call: &Exchange)
         ensures { Puts self.old call.now self.new }
     {
-        self.tail.push_back(Entry { call: *call });
+        if self.tail.is_full() {
+            self.tail.push_back(Entry { call: *call });
+            return;
+        }
+        // Where there is room, the entry is copied once.
+        let _none = self.tail.try_push_back(Entry { call: *call });
+    }
+
+    /// Puts the call of a client that got this link, likewise.
+    #[inline(never)]
+    pub(crate) fn put_got(&mut self, pass: &PassRecord, lease: &LinkRecord)
+        ensures { Puts self.old (call.Acquire pass.now (acquire.Got lease.now)) self.new }
+    {
+        self.put(&Exchange::Acquire(*pass, AcquireReply::Got(*lease)));
+    }
+
+    /// Puts the call of a client that may open a link by this permit, likewise.
+    #[inline(never)]
+    pub(crate) fn put_open(&mut self, pass: &PassRecord, permit: &PermitRecord)
+        ensures { Puts self.old (call.Acquire pass.now (acquire.Open permit.now)) self.new }
+    {
+        self.put(&Exchange::Acquire(*pass, AcquireReply::Open(*permit)));
     }
 
     /// Counts a call, of which this was noted.

@@ -1,7 +1,8 @@
 //! Calls counted by their kind, with the sums of their numbers.
-ghost use Rattle.std.specs.Prelude.{◌≡◌, ◌+◌, ◌^◌, ◌<◌, slice_index};
+ghost use Rattle.std.specs.Prelude.{◌≡◌, ◌+◌, ◌^◌, ◌<◌, ◌≤◌, length, slice_index};
 ghost use Rattle.locked_node.specs.CallNumbers.{KINDS};
-ghost use Rattle.locked_node.specs.declared.tally.TheConstants.{START};
+ghost use Rattle.locked_node.specs.Adding.{AddedTo};
+ghost use Rattle.locked_node.specs.declared.tally.TheConstants.{START, CELLS};
 
 use crate::call_kind::{CallKind, KINDS};
 use crate::call_note::CallNote;
@@ -36,6 +37,34 @@ fn start_of(kind: usize) -> usize
     ensures within { result < 642 }
 {
     START[kind]
+}
+
+// Adds the first numbers to the cells from a place on. Where it is inlined with a constant count, it
+// has no loop.
+#[inline(always)]
+fn add_first(cells: &mut [u128; CELLS], from: usize, numbers: &[u64], count: usize)
+    requires few { count ≤ length numbers.now }
+    requires room { from + count ≤ CELLS }
+    ensures { AddedTo from count cells.old numbers.now cells.new }
+{
+    for i in 0..count {
+        let at = from + i;
+        cells[at] = cells[at].wrapping_add(u128::from(numbers[i]));
+    }
+}
+
+// Adds numbers to the cells from a place on. Most calls have five numbers or nine: those of a link
+// that is given back, and those of one that is got with a short key.
+#[inline(always)]
+fn add_all(cells: &mut [u128; CELLS], from: usize, numbers: &[u64])
+    requires { from + length numbers.now ≤ CELLS }
+    ensures { AddedTo from (length numbers.now) cells.old numbers.now cells.new }
+{
+    match numbers.len() {
+        5 => add_first(cells, from, numbers, 5),
+        9 => add_first(cells, from, numbers, 9),
+        count => add_first(cells, from, numbers, count),
+    }
 }
 
 /// The calls of each kind, with the sums of their numbers modulo 2^128.
@@ -81,11 +110,7 @@ impl Tally {
     {
         let kind = note.kind.index();
         let start = start_of(kind);
-        let numbers = note.numbers.as_slice();
-        for i in 0..numbers.len() {
-            let at = start + 1 + i;
-            self.cells[at] = self.cells[at].wrapping_add(u128::from(numbers[i]));
-        }
+        add_all(&mut self.cells, start + 1, note.numbers.as_slice());
         self.cells[start] += 1;
     }
 

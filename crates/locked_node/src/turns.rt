@@ -59,6 +59,7 @@ impl<S: Drop> Shared<S> {
 
     // Wakes the client of a slot in this incarnation, or spares it its next sleep, and wakes those
     // of earlier incarnations.
+    #[inline(never)]
     fn wake_slot<R: Wait>(&self, rt: &R, seat: &mut Place<S>, incarnation: u64, slot: SlotNo)
         requires own { seat.old.table_id ≡ self.now }
         ensures own { seat.new.table_id ≡ seat.old.table_id }
@@ -84,6 +85,7 @@ impl<S: Drop> Shared<S> {
     }
 
     // Wakes whoever a step wakes.
+    #[inline(always)]
     pub(crate) fn wake<R: Wait>(&self, rt: &R, seat: &mut Place<S>, turn: &Turn)
         requires own { seat.old.table_id ≡ self.now }
         ensures own { seat.new.table_id ≡ seat.old.table_id }
@@ -97,6 +99,8 @@ impl<S: Drop> Shared<S> {
     }
 
     // Wakes the client of each slot.
+    #[cold]
+    #[inline(never)]
     fn wake_every<R: Wait>(&self, rt: &R, seat: &mut Place<S>, incarnation: u64)
         requires own { seat.old.table_id ≡ self.now }
         ensures own { seat.new.table_id ≡ seat.old.table_id }

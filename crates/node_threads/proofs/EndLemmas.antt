@@ -254,7 +254,7 @@ idle_ends limit stream written status passage tells stayed idle told last = elim
 ]
 
 -- a reply that leaves a transaction open, where the stay ends
-open_ends : (limit : ℕ) (stream written : List ℕ) (status : ℕ) (passage : Passage)
+pub open_ends : (limit : ℕ) (stream written : List ℕ) (status : ℕ) (passage : Passage)
     (tells : List Call)
     (stayed : Stayed) → status_of status ≡ InTransaction
     → FinishesOpen passage.passed passage.bytes (Some stayed) tells

@@ -15,4 +15,8 @@ pub mod LoginLemmas
 pub mod OpeningLemmas
 pub mod LeaseLemmas
 pub mod ServingLemmas
+pub mod ConsoleLemmas
 pub mod ConnectionLemmas
+pub mod AboveLemmas
+pub mod WholeLemmas
+pub mod FirstReadLemmas

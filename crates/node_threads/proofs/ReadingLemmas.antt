@@ -43,11 +43,11 @@ fault_here limit stream fault none has =
         (whole ∙ append_assoc (text frame) (texts frames) has.rest))
 
 -- no frame begins no bytes, and no fault stands there
-no_frame-nothing : (limit : ℕ) → BeginsNoFrame limit []
+pub no_frame-nothing : (limit : ℕ) → BeginsNoFrame limit []
 unfolding text
 no_frame-nothing limit frame more is e = cc
 
-fault_at-nothing : (limit : ℕ) → fault_at limit [] ≡ None
+pub fault_at-nothing : (limit : ℕ) → fault_at limit [] ≡ None
 unfolding fault_at
 fault_at-nothing limit = refl
 

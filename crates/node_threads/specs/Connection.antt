@@ -4,20 +4,21 @@
 use Rattle.std.specs.Prelude.{◌≡◌, ◌⊎◌, ℕ, List, codes, string_bytes, position, true, false, Option, Some, None}
 use Rattle.std.specs.Str.{bytes_eq}
 use Rattle.pg_ids.specs.declared.any_key.Kind.{Kind}
-use Rattle.ini_config.specs.Node.{DatabaseSettings}
+use Rattle.ini_config.specs.Node.{DatabaseSettings, NodeSettings}
 use Rattle.locked_node.specs.Lock.{CallerView}
 use Rattle.peer_forward.specs.Calls.{Call, Effect}
 use Rattle.peer_forward.specs.Finishing.{Finishes}
 use Rattle.stat_board.specs.Seats.{SeatView}
-use Rattle.startup.specs.Replies.{Report, login_reporting}
-use Rattle.startup.specs.declared.error_code.ErrorCode.TheVariants.{InvalidCatalogName, OutOfMemory}
+use Rattle.startup.specs.Replies.{Report}
+use Rattle.startup.specs.declared.error_code.ErrorCode.TheVariants.{InvalidCatalogName}
 use Rattle.node_threads.specs.declared.login.first_packets.Opened.{Opened}
 use Rattle.node_threads.specs.declared.login.first_packets.Opened.TheVariants.{Session, Cancel, Over}
-use Rattle.node_threads.specs.StreamCalls.{SomeCalls, Wrote, WroteSome}
+use Rattle.node_threads.specs.StreamCalls.{SomeCalls}
 use Rattle.node_threads.specs.Asking.{SendsError}
 use Rattle.node_threads.specs.Opening.{Opens}
 use Rattle.node_threads.specs.Cancelling.{Carries, ServesCancel}
 use Rattle.node_threads.specs.Serving.{ServesClient}
+use Rattle.node_threads.specs.ConsoleSession.{ServesConsole}
 
 -- the name by which a client asks for the console
 abbrev pub console_name : List ℕ
@@ -38,35 +39,27 @@ ServesAt limit wrote gave reports (Some database) kind kept calls left old new =
     (secret : ℕ)
     × ServesClient limit wrote gave reports database secret kind kept calls left old new
 
--- The console greets its client before anything else: the client took all messages of a login
--- without a key that reports these parameters; or the connection ends with them, of which it didn't
--- take all, or with an error, since memory for them was refused.
-abbrev pub GreetsConsole : {C : Type 0} → Effect C → Effect C → List Report → C → C → Type 0
-GreetsConsole {C} wrote gave reports old new =
-    ((greeted : C) × SomeCalls wrote gave old greeted (Wrote (login_reporting reports None)))
-    ⊎ SomeCalls wrote gave old new
-    (λ calls. WroteSome (login_reporting reports None) calls ⊎ SendsError OutOfMemory calls)
-
 -- What the first packets lead to, behind which this was read of the client. A cancel request for
 -- which no seat is free is given up without an order.
 abbrev pub ServesOpened : {T C : Type 0} → ℕ → Effect T → Effect T → Effect C → Effect C → Carries
-    → Carries → List Report → List DatabaseSettings → Opened → List ℕ → C → C → CallerView
+    → Carries → List Report → NodeSettings → Opened → List ℕ → C → C → CallerView
     → CallerView → Type 0
-ServesOpened limit wrote gave wrote' gave' ToServer ToPeer reports databases (Session name kind)
+ServesOpened limit wrote gave wrote' gave' ToServer ToPeer reports settings (Session name kind)
     behind
     client client' old new =
-    ((bytes_eq (string_bytes name) console_name ≡ true) × (new ≡ old)
-    × GreetsConsole wrote' gave' reports client client')
+    ((bytes_eq (string_bytes name) console_name ≡ true) × (new ≡ old) × (left : List ℕ)
+    × SomeCalls wrote' gave' client client' (λ calls. ServesConsole limit reports settings old behind
+    calls left))
     ⊎ ((bytes_eq (string_bytes name) console_name ≡ false) × (left : List ℕ)
     × SomeCalls wrote' gave' client client' (λ calls. ServesAt limit wrote gave reports
-    (place_of (string_bytes name) databases) kind behind calls left old new))
-ServesOpened limit wrote gave wrote' gave' ToServer ToPeer reports databases (Cancel key) behind
+    (place_of (string_bytes name) settings.databases) kind behind calls left old new))
+ServesOpened limit wrote gave wrote' gave' ToServer ToPeer reports settings (Cancel key) behind
     client
     client' old new =
     ((client' ≡ client) × (new ≡ old))
     ⊎ ((seat next : SeatView) × ServesCancel ToServer ToPeer key old new seat next
     (λ verdict. Finishes wrote' client verdict client'))
-ServesOpened limit wrote gave wrote' gave' ToServer ToPeer reports databases Over behind client
+ServesOpened limit wrote gave wrote' gave' ToServer ToPeer reports settings Over behind client
     client'
     old new =
     (client' ≡ client) × (new ≡ old)
@@ -74,12 +67,12 @@ ServesOpened limit wrote gave wrote' gave' ToServer ToPeer reports databases Ove
 -- The first packets were read, and then what they lead to was served.
 abbrev pub ServesConnection : {T C : Type 0} → ℕ → Effect T → Effect T → Effect C → Effect C
     → Carries
-    → Carries → List Report → List DatabaseSettings → C → C → CallerView → CallerView → Type 0
-ServesConnection {T} {C} limit wrote gave wrote' gave' ToServer ToPeer reports databases client
+    → Carries → List Report → NodeSettings → C → C → CallerView → CallerView → Type 0
+ServesConnection {T} {C} limit wrote gave wrote' gave' ToServer ToPeer reports settings client
     client'
     old new =
     (opened : Opened) × (behind : List ℕ) × (next : C)
     × SomeCalls wrote' gave' client next (λ calls. Opens calls opened behind)
-    × ServesOpened limit wrote gave wrote' gave' ToServer ToPeer reports databases opened behind
+    × ServesOpened limit wrote gave wrote' gave' ToServer ToPeer reports settings opened behind
     next
     client' old new

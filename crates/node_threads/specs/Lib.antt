@@ -2,12 +2,14 @@ pub mod Secrets
 pub mod Front
 pub mod Desks
 pub mod Cancelling
+pub mod Words
 pub mod Balance
 pub mod StreamCalls
 pub mod Asking
 pub mod Replying
 pub mod Stay
 pub mod Progress
+pub mod Whole
 pub mod Finding
 pub mod Turn
 pub mod Leasing
@@ -15,4 +17,5 @@ pub mod LoggingIn
 pub mod Serving
 pub mod Opening
 pub mod Restarting
+pub mod ConsoleSession
 pub mod Connection

@@ -49,7 +49,7 @@ where
         (O.cancels opener.now))
         (IsCarried ⟦<O::Stream as WriteCalls>⟧.wrote ⟦<O::Stream as ReadCalls>⟧.gave
         (O.reaches opener.now))
-        reports.now settings.databases client.old client.new calling.old.caller
+        reports.now settings client.old client.new calling.old.caller
         calling.new.caller) }
 {
     let mut cutter = Cutter::with_limit(alloc, *limit);

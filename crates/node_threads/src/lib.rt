@@ -22,6 +22,6 @@ pub use node::{
     Admission, Calling, ClientCensus, Entrance, Front, LinkCensus, Node, PoolCensus, Secrets,
     restart,
 };
-pub use opener::Opener;
+pub use opener::{Opener, Sender};
 pub use service::{Context, Service};
 pub use session::{CONSOLE, Link, Stayed, serve_client, serve_console, stay, turn};

@@ -7,6 +7,15 @@ use std::io;
 use std::io::{Read, Write};
 use std::sync::Wait;
 
+/// Whose message is above the limit.
+#[derive(Clone, Copy, Debug, PartialEq, Eq)]
+pub enum Sender {
+    /// The client's.
+    Client,
+    /// The server's.
+    Server,
+}
+
 /// What connects a client's connection to the servers of a node's databases and to its peers, and
 /// knows how the client and a link do. There is one for each connection.
 pub trait Opener {
@@ -55,7 +64,7 @@ pub trait Opener {
     /// that was settled: the connection is reset.
     fn give_up_cancel(&self) {}
 
-    /// A session on this database ends, since a message of its client has this length field, which
-    /// is above the limit.
-    fn refuse_message(&self, _database: DatabaseNo, _length: u32, _limit: u32) {}
+    /// On this database a message has this length field, or a client's messages of an extended
+    /// query have this many bytes together, more than the limit.
+    fn refuse_message(&self, _database: DatabaseNo, _from: Sender, _bytes: usize, _limit: u32) {}
 }

@@ -7,6 +7,7 @@ use peer_forward::{ReadCalls, WriteCalls};
 
 /// Reads once, and returns how many bytes came: none at the end of the input, and where the read
 /// failed.
+#[inline(always)]
 pub fn read_some<T: WriteCalls + ReadCalls>(stream: &mut T, buffer: &mut [u8]) -> usize
     requires { 0 < length buffer.old }
     ensures within { result ≤ length buffer.new }

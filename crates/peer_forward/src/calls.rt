@@ -34,6 +34,7 @@ impl<T: Write> WriteCalls for T {
     ghost wrote = { λ old bytes result new.
         WriteAppends (T.contents old) (T.contents new) result bytes };
 
+    #[inline(always)]
     fn write_once(&mut self, bytes: &[u8]) -> io::Result<usize> {
         self.write(bytes)
     }
@@ -43,6 +44,7 @@ impl<T: Read> ReadCalls for T {
     ghost gave = { λ old buffer result new.
         ReadConsumes (T.remaining old) (T.remaining new) result buffer };
 
+    #[inline(always)]
     fn read_once(&mut self, buffer: &mut [u8]) -> io::Result<usize> {
         self.read(buffer)
     }

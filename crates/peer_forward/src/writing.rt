@@ -34,6 +34,7 @@ pub fn write_whole<T: WriteCalls + ReadCalls>(stream: &mut T, bytes: &[u8]) -> b
 }
 
 // The bytes from this place on, or the first of them.
+#[inline(always)]
 fn piece(bytes: &[u8], at: usize) -> &[u8]
     requires { at ≤ length bytes.now }
     ensures { result.now ≡ take 16384 (drop at bytes.now) }

@@ -152,7 +152,7 @@ impl Flow {
         if self.left.is_some() {
             return None;
         }
-        whole_in(self.limit, self.buffer.as_slice())
+        whole_head(self.limit, self.buffer.as_slice())
     }
 
     /// Hands out the whole frame with this head at once.
@@ -215,8 +215,9 @@ fn room_beside(kept: &[u8], unread: &[u8]) -> usize
     CAPACITY - (kept.len() + unread.len())
 }
 
-// The head at the front of the bytes, if its whole frame is there.
-fn whole_in(limit: MessageLimit, bytes: &[u8]) -> Option<Header>
+/// The head at the front of the bytes, if its whole frame is there.
+#[inline]
+pub fn whole_head(limit: MessageLimit, bytes: &[u8]) -> Option<Header>
     ensures none { result ≡ None → BeginsNoFrame limit bytes.now }
     ensures some { IfSome result
         (λ head. BeginsWith limit bytes.now head × (1 + head.length ≤ length bytes.now)) }

@@ -3,7 +3,7 @@ use Rattle.std.proofs.Common.{◌≡◌, ◌≢◌, ℕ, zero, suc, ◌<◌, ◌
 use Rattle.std.proofs.Math.ListN.{set}
 use Rattle.std.proofs.lemmas.Bool.{cases_eq, lt-ltb, le-ltb}
 use Rattle.std.proofs.lemmas.Grind.{get_or_default_zero}
-use Rattle.std.proofs.lemmas.List.{get_or-set_same, get_or-set_other, get_or-map, ext_get_or, length-map, length-replicate}
+use Rattle.std.proofs.lemmas.List.{set-get_or, get_or-set_same, get_or-set_other, get_or-map, ext_get_or, length-map, length-replicate}
 use Rattle.std.proofs.lemmas.List.FromFn.{get_or-map-range_with_len, length-map-range_with_len}
 use Rattle.slot_queues.specs.Queues.{times, times_in, others, behind, queue_of}
 use Rattle.slot_queues.specs.Rings.{walk, ring, queues_in, IsSlot, Leads, IsTied, IsApart}
@@ -323,6 +323,27 @@ removed next prev new_next new_prev slots slot before node tied below same e w =
     let made : Written next prev new_next new_prev (slice_index prev slot) slot = subst (λ (a : ℕ). Written next prev new_next new_prev a slot) is (subst (λ (b : ℕ). Written next prev new_next new_prev before b) same w) in
     tied_left next prev new_next new_prev slots (queues_in next slots) slot tied below
     (written next prev new_next new_prev slots (queues_in next slots) (slice_index prev slot) slot tied (tied.prev_below slot (omega (arith, all, below))) (omega (arith, all, below)) made)
+
+-- two nodes that are one: nothing is written
+unwritten : (next prev : List ℕ) (n : ℕ) → slice_index next n ≡ n → slice_index prev n ≡ n → Written next prev next prev n n
+unwritten next prev n ahead behind =
+    let kept : set prev n n ≡ prev = subst (λ (m : ℕ). set prev n m ≡ prev) behind (set-get_or prev n 0) in
+    record {
+      next_is = sym (ap (λ xs. set xs n (slice_index next n)) (set-get_or next n 0) ∙ set-get_or next n 0);
+      prev_is = subst (λ (m : ℕ). prev ≡ set (set prev m n) m n) (sym ahead) (sym (ap (λ xs. set xs n n) kept ∙ kept));
+    }
+
+-- a slot that comes before itself waits nowhere
+pub left_alone : (next prev : List ℕ) (slots slot before node : ℕ) → IsTied next prev slots (queues_in next slots) → slot < slots → node ≡ slot → before ≡ get_or prev node before → before ≡ node
+    → map (others slot) (queues_in next slots) ≡ queues_in next slots
+left_alone next prev slots slot before node tied below same e own_is =
+    let all = tied.next_all in
+    let same_long : length prev ≡ length next = tied.prev_all ∙ sym tied.next_all in
+    let is : before ≡ slice_index prev node = e ∙ get_or_default_zero prev node before (omega (arith, all, same_long, below, same)) in
+    let behind : slice_index prev node ≡ node = sym is ∙ own_is in
+    let ahead : slice_index next node ≡ node = ap (slice_index next) (sym behind) ∙ tied.forth node (omega (arith, all, below, same)) in
+    let tied_still = removed next prev next prev slots slot before node tied below same e (subst (λ (b : ℕ). Written next prev next prev b node) (sym own_is) (unwritten next prev node ahead behind)) in
+    sym (shown next prev slots (map (others slot) (queues_in next slots)) tied_still)
 
 -- after all nodes were parted
 pub parted : (next prev new_next new_prev : List ℕ) (slots : ℕ) (queues : List (List ℕ)) → IsTied next prev slots queues → IsApart (length next) new_next → IsApart (length prev) new_prev → IsTied new_next new_prev slots (replicate (length queues) [])

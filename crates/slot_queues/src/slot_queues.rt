@@ -1,5 +1,5 @@
 //! Queues that are threaded both ways through two tables.
-ghost use Rattle.std.specs.Prelude.{◌≡◌, ◌<◌, ℕ, [], IfOk, ◌≤◌, length, map, slice_get, slice_index, slice_set};
+ghost use Rattle.std.specs.Prelude.{◌≡◌, ◌<◌, ℕ, [], true, IfOk, ◌≤◌, length, map, slice_get, slice_index, slice_set};
 ghost use Rattle.slot_queues.specs.Queues.{times_in, others, behind, queue_of, empty_queues};
 ghost use Rattle.slot_queues.specs.Rings.{IsApart};
 
@@ -75,6 +75,26 @@ impl SlotQueues {
 
     /// A slot no longer waits, where it did.
     pub fn remove(&mut self, slot: SlotNo)
+        requires { slot < self.old.slots }
+        ensures { self.new ≡ record self.old { queues = map (others slot) self.old.queues } }
+    {
+        if self.is_alone(slot) {
+            return;
+        }
+        self.take_out(slot);
+    }
+
+    // Whether a slot's ring has only itself, so that it waits nowhere.
+    fn is_alone(&self, slot: SlotNo) -> bool
+        requires { slot < self.now.slots }
+        ensures { result ≡ true → map (others slot) self.now.queues ≡ self.now.queues }
+    {
+        let node = slot.get() as usize;
+        self.prev[node] == node
+    }
+
+    // A slot leaves the ring that it is in.
+    fn take_out(&mut self, slot: SlotNo)
         requires { slot < self.old.slots }
         ensures { self.new ≡ record self.old { queues = map (others slot) self.old.queues } }
     {

@@ -1,6 +1,6 @@
 //! The clients that have logged in, and those whose query runs.
 ghost use Rattle.std.specs.Prelude.{◌≡◌, ◌↔◌, ◌+◌, ◌^◌, ◌≤◌, Some, None, IsTrue, IsSome, IsNone, IfSome, IfNone, OnSome, OnOk, OnErr, bytes_eq};
-ghost use Rattle.std.specs.HashMap.{get, Updates, IsUnchanged};
+ghost use Rattle.std.specs.HashMap.{get, IsEmpty, Updates, IsUnchanged};
 ghost use Rattle.stub_server.specs.Login.{server_key};
 
 use crate::login::key_of;
@@ -27,9 +27,10 @@ pub(crate) struct Backends {
 impl Backends {
     ghost use Rattle.stub_server.specs.declared.backends.Hold.TheVariants.{Running, Interrupted};
 
-    /// Nobody has logged in. It takes no memory.
+    /// Nobody has logged in, and no query runs. It takes no memory.
     pub(crate) fn new(alloc: Global) -> Backends
-        ensures { result.logged_in ≡ 0 }
+        ensures logged_in { result.logged_in ≡ 0 }
+        ensures holds { IsEmpty result.holds }
     {
         Backends {
             logged_in: 0,

@@ -28,8 +28,8 @@ fn admission(alloc: Global, places: u16) -> Result<Admission, Fail> {
 
 fn come_and_go<R: Wait>(rt: &R, entrance: &Entrance<'_>) {
     for _i in 0..TIMES {
-        entrance.enter(rt, PLAIN);
-        entrance.leave(rt, PLAIN);
+        entrance.enter(rt);
+        entrance.leave(rt);
     }
 }
 
@@ -48,14 +48,14 @@ fn two_come_and_go<R: Threads + Wait + Sync>(rt: &R, one: &Entrance<'_>, other: 
 // The first two are let in at once, and the third by the timeout.
 fn come_one_by_one<R: Wait + Abort>(rt: &R, admission: &Admission, entrances: &[Entrance<'_>]) {
     for (before, entrance) in entrances.iter().enumerate() {
-        assert_eq!(rt; admission.inside(rt, PLAIN), before);
-        entrance.enter(rt, PLAIN);
+        assert_eq!(rt; admission.inside(PLAIN), before);
+        entrance.enter(rt);
     }
-    assert_eq!(rt; admission.inside(rt, PLAIN), entrances.len());
+    assert_eq!(rt; admission.inside(PLAIN), entrances.len());
     for entrance in entrances {
-        entrance.leave(rt, PLAIN);
+        entrance.leave(rt);
     }
-    assert_eq!(rt; admission.inside(rt, PLAIN), 0);
+    assert_eq!(rt; admission.inside(PLAIN), 0);
 }
 
 #[test]
@@ -64,7 +64,7 @@ fn whoever_is_not_let_in_comes_in_by_the_timeout(rt: HostRuntime) -> Result<(), 
     let admission = admission(alloc, 2)?;
     let mut entrances = Vec::new(alloc);
     for slot in 0..3 {
-        entrances.push(Entrance::new(&rt, alloc, &admission, SlotNo(slot))?)?;
+        entrances.push(Entrance::new(&rt, alloc, &admission, SlotNo(slot), PLAIN)?)?;
     }
     come_one_by_one(&rt, &admission, entrances.as_slice());
     Ok(())
@@ -74,10 +74,10 @@ fn whoever_is_not_let_in_comes_in_by_the_timeout(rt: HostRuntime) -> Result<(), 
 fn nobody_is_left_inside(rt: HostRuntime) -> Result<(), Fail> {
     let alloc = rt.alloc();
     let admission = admission(alloc, 1)?;
-    let one = Entrance::new(&rt, alloc, &admission, SlotNo(0))?;
-    let other = Entrance::new(&rt, alloc, &admission, SlotNo(1))?;
+    let one = Entrance::new(&rt, alloc, &admission, SlotNo(0), PLAIN)?;
+    let other = Entrance::new(&rt, alloc, &admission, SlotNo(1), PLAIN)?;
     two_come_and_go(&rt, &one, &other);
-    assert_eq!(rt; admission.inside(&rt, PLAIN), 0);
+    assert_eq!(rt; admission.inside(PLAIN), 0);
     Ok(())
 }
 
@@ -121,7 +121,7 @@ impl Waits {
     // A client comes in. If it had to wait, the wait is counted.
     fn enter<R: Wait + Clock>(&self, rt: &R, entrance: &Entrance<'_>) {
         let before = rt.monotonic().unwrap_or(Duration::ZERO);
-        let has_waited = entrance.enter(rt, PLAIN);
+        let has_waited = entrance.enter(rt);
         let after = rt.monotonic().unwrap_or(Duration::ZERO);
         if !has_waited {
             return;
@@ -141,17 +141,17 @@ fn come_often<R: Wait + Clock>(rt: &R, entrances: &[Entrance<'_>], place: usize,
     };
     for turn in 0..TURNS {
         if turn < TURNS / 2 {
-            entrance.enter(rt, PLAIN);
+            entrance.enter(rt);
         } else {
             waits.enter(rt, entrance);
         }
         entrance.asked();
         if waits.with_queue && turn % 8 == 0 {
-            entrance.queue(rt, PLAIN);
-            entrance.catch_up(rt, PLAIN);
+            entrance.queue(rt);
+            entrance.catch_up(rt);
         }
         thread::sleep(rt, Duration::from_micros(INSIDE));
-        entrance.leave(rt, PLAIN);
+        entrance.leave(rt);
     }
 }
 
@@ -215,13 +215,13 @@ fn assert_let_in<R: Threads + Wait + Clock + Sync + Abort>(
     let waits = Waits::new(with_queue);
     by_eight(rt, entrances, &waits);
     waits.assert_early(rt);
-    assert_eq!(rt; admission.inside(rt, PLAIN), 0);
+    assert_eq!(rt; admission.inside(PLAIN), 0);
     let two = entrances.split_at(entrances.len().min(2)).0;
     for entrance in two {
-        assert!(rt; !entrance.enter(rt, PLAIN));
+        assert!(rt; !entrance.enter(rt));
     }
     for entrance in two {
-        entrance.leave(rt, PLAIN);
+        entrance.leave(rt);
     }
 }
 
@@ -233,7 +233,7 @@ fn whoever_waits_is_let_in(rt: HostRuntime) -> Result<(), Fail> {
     let admission = Admission::new(alloc, &settings)?;
     let mut entrances = Vec::new(alloc);
     for slot in 0..8 {
-        entrances.push(Entrance::new(&rt, alloc, &admission, SlotNo(slot))?)?;
+        entrances.push(Entrance::new(&rt, alloc, &admission, SlotNo(slot), PLAIN)?)?;
     }
     assert_let_in(&rt, &admission, entrances.as_slice(), false);
     assert_let_in(&rt, &admission, entrances.as_slice(), true);
@@ -245,7 +245,7 @@ fn wait_often<R: Wait + Clock>(rt: &R, entrance: &Entrance<'_>, waits: &Waits, d
     for _i in 0..50u32 {
         waits.enter(rt, entrance);
         entrance.asked();
-        entrance.leave(rt, PLAIN);
+        entrance.leave(rt);
     }
     done.store(true, Ordering::SeqCst);
 }
@@ -285,13 +285,13 @@ fn wait_and_tell<R: Threads + Wait + Clock + Sync>(
 fn whoever_is_told_to_ask_asks(rt: HostRuntime) -> Result<(), Fail> {
     let alloc = rt.alloc();
     let admission = admission(alloc, 1)?;
-    let keeper = Entrance::new(&rt, alloc, &admission, SlotNo(0))?;
-    let entrance = Entrance::new(&rt, alloc, &admission, SlotNo(1))?;
-    assert!(rt; !keeper.enter(&rt, PLAIN));
+    let keeper = Entrance::new(&rt, alloc, &admission, SlotNo(0), PLAIN)?;
+    let entrance = Entrance::new(&rt, alloc, &admission, SlotNo(1), PLAIN)?;
+    assert!(rt; !keeper.enter(&rt));
     let waits = Waits::new(false);
     wait_and_tell(&rt, &admission, &entrance, &waits);
     waits.assert_early(&rt);
-    keeper.leave(&rt, PLAIN);
-    assert_eq!(rt; admission.inside(&rt, PLAIN), 0);
+    keeper.leave(&rt);
+    assert_eq!(rt; admission.inside(PLAIN), 0);
     Ok(())
 }

@@ -200,8 +200,8 @@ const SCHEDULES: [Schedule; 26] = [
         name: "own_query_is_struck",
         script: "node 2 1 2\nput 0000001004d2162e0008000000000007\ndeliver 0 2\nlogin 2 10 1\n\
             acquire 10\nup 10 0000000100000002\nsend 10\ntake 0\ndeliver 0 2\nact 0\n",
-        outcome: "1 flight 0\n2 refused 0 61\n3 key 0008000000000007\n4 open\n5 lease 0\n6 ok\n7 ok\n\
-            8 serve 1 0\n9 struck 0 10\ninterrupt 0 10 1\nevents 9 skipped 0 interrupts 1\n",
+        outcome: "1 flight 0\n2 refused 0 61\n3 key 0008000000000007\n4 open\n5 lease 0\n6 ok\n\
+            7 ok\n8 serve 1 0\n9 struck 0 10\ninterrupt 0 10 1\nevents 9 skipped 0 interrupts 1\n",
     },
     // A cancel that no node can serve is forwarded twice, and no more.
     Schedule {
@@ -220,7 +220,8 @@ const SCHEDULES: [Schedule; 26] = [
     // A client may not give back a link while one of its requests is outstanding.
     Schedule {
         name: "outstanding_request",
-        script: "node 2 1 2\nlogin 2 10 1\nacquire 10\nup 10 0000000100000002\nsend 10\nrelease 10\n",
+        script: "node 2 1 2\nlogin 2 10 1\nacquire 10\nup 10 0000000100000002\nsend 10\n\
+            release 10\n",
         outcome: "1 key 0008000000000007\n2 open\n3 lease 0\n4 ok\n5 skipped\n\
             events 5 skipped 1 interrupts 0\n",
     },
@@ -272,8 +273,8 @@ const SCHEDULES: [Schedule; 26] = [
         script: "node 2 1 1\nlogin 2 10 1\nacquire 10\nup 10 0000000100000002\n\
             put 0000001004d2162e0008000000000007\ndeliver 0 2\nrelease 10\nleave 10\n\
             login 2 12 9\nacquire 12\nact 0\nend 0\ntold 0\nacquire 12\n",
-        outcome: "1 key 0008000000000007\n2 open\n3 lease 0\n4 flight 0\n5 serve 0 0\n6 quarantined\n\
-            7 left\n8 key 0008000000000027\n9 waiting\n10 nothing\n11 ok\n12 freed\n13 got 0\n\
+        outcome: "1 key 0008000000000007\n2 open\n3 lease 0\n4 flight 0\n5 serve 0 0\n\
+            6 quarantined\n7 left\n8 key 0008000000000027\n9 waiting\n10 nothing\n11 ok\n12 freed\n13 got 0\n\
             events 13 skipped 0 interrupts 0\n",
     },
     // Longer keys have a boot and a serial, so the secret may come again. A short request never
@@ -294,8 +295,8 @@ const SCHEDULES: [Schedule; 26] = [
         script: "node 1 1 1\nnode 2 1 1\nlogin 2 10 1\nacquire 10\nup 10 0000000100000002\n\
             put 0000001004d2162e0008000000000007\ndeliver 0 1\naccept 1 2\nfend 1\nact 0\n\
             end 0\ntold 0\nfend 1\nftold 1\n",
-        outcome: "1 key 0008000000000007\n2 open\n3 lease 0\n4 flight 0\n5 forward 0 1\n6 serve 1 0\n\
-            7 skipped\n8 nothing\n9 ok\n10 counted\n11 ok\n12 ok\n\
+        outcome: "1 key 0008000000000007\n2 open\n3 lease 0\n4 flight 0\n5 forward 0 1\n\
+            6 serve 1 0\n7 skipped\n8 nothing\n9 ok\n10 counted\n11 ok\n12 ok\n\
             events 12 skipped 1 interrupts 0\n",
     },
     // A forward connection that breaks says nothing of its cancel, which may still strike.
@@ -304,8 +305,8 @@ const SCHEDULES: [Schedule; 26] = [
         script: "node 1 1 1\nnode 2 1 1\nlogin 2 10 1\nacquire 10\nup 10 0000000100000002\n\
             put 0000001004d2162e0008000000000007\ndeliver 0 1\naccept 1 2\nfbroken 1\nsend 10\n\
             take 0\nact 0\n",
-        outcome: "1 key 0008000000000007\n2 open\n3 lease 0\n4 flight 0\n5 forward 0 1\n6 serve 1 0\n\
-            7 ok\n8 ok\n9 ok\n10 struck 0 10\ninterrupt 0 10 1\n\
+        outcome: "1 key 0008000000000007\n2 open\n3 lease 0\n4 flight 0\n5 forward 0 1\n\
+            6 serve 1 0\n7 ok\n8 ok\n9 ok\n10 struck 0 10\ninterrupt 0 10 1\n\
             events 10 skipped 0 interrupts 1\n",
     },
     // The race that strikes the wrong client in a plain pooler. Ann (10) runs a query and cancels

@@ -41,7 +41,7 @@ pub enum Event {
     Stopping,
     /// The group serves no longer.
     Stopped,
-    /// A client's message is longer than the limit.
+    /// A message of a client or of a server is longer than the limit.
     MessageTooLong,
 }
 

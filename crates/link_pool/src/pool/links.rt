@@ -6,18 +6,12 @@ ghost use Rattle.link_pool.specs.Streams.{UpStreams, ReleaseStreams, CloseStream
 ghost use Rattle.link_pool.specs.Said.{up_said, release_said, close_said};
 
 use super::Pool;
-use crate::entry::Entry;
-use crate::place::{Link, Place};
+use crate::entry::{Entry, Held};
+use crate::place::Place;
 use crate::replies::{CloseReply, ReleaseReply, UpFailedReply, UpReply};
 use lease::{Lease, LinkRecord, Permit, PermitRecord};
 use pg_ids::{LinkNo, ServerKey, SlotNo};
 use quarantine::{Hold, HoldState};
-
-// A link that the client of a slot has.
-struct Held {
-    link: Link,
-    slot: SlotNo,
-}
 
 impl<S: Drop> Pool<S> {
     // The client for which a permit's place is kept.
@@ -33,20 +27,17 @@ impl<S: Drop> Pool<S> {
     }
 
     // The link of a lease, and its client.
+    #[inline(always)]
     fn held(&self, lease: &LinkRecord) -> Option<Held>
         ensures held { IfSome result
             (λ found. IsHeld lease.now found.link found.slot self.now.view) }
         ensures stale { IfNone result (StaleLease lease.now self.now.view) }
         ensures whole { IsPool self.now.view }
     {
-        let Some(Place::Link(link)) = self.place(lease.at) else {
+        let Some(pool) = self.pools.get(lease.at.database.get() as usize) else {
             return None;
         };
-        if link.details != *lease {
-            return None;
-        }
-        let slot = link.holder()?;
-        Some(Held { link, slot })
+        pool.held(lease)
     }
 
     /// A link is open, over this stream and with this key: its client has it.

@@ -4,6 +4,7 @@ ghost use Rattle.link_pool.specs.Said.{acquire_said};
 ghost use Rattle.link_pool.specs.Streams.{AcquireStreams};
 ghost use Rattle.link_pool.specs.declared.replies.AcquireReply.TheVariants as acquire;
 ghost use Rattle.locked_node.specs.Journal.{Puts};
+ghost use Rattle.locked_node.specs.Without.{without_said};
 ghost use Rattle.locked_node.specs.Totals.{IsCountOf};
 ghost use Rattle.locked_node.specs.Waking.{database_at, database_of, woken_by};
 ghost use Rattle.lease.specs.LinkValue.{LinkValue};
@@ -200,33 +201,64 @@ impl<S: Drop> Call<S> for Acquire<'_> {
         ensures woken { note.new.turn.woken
             ≡ woken_by (call.Acquire details.now (acquire_said reply.now)) }
     {
-        let (answer, said) = match reply {
-            AcquireReply::Got(lease) => (
-                CallAnswer::AcquireGot,
-                AcquireReply::Got(lease.details()),
-            ),
-            AcquireReply::Open(permit) => (
-                CallAnswer::AcquireOpen,
-                AcquireReply::Open(permit.details()),
-            ),
-            AcquireReply::Waiting => (CallAnswer::AcquireWaiting, AcquireReply::Waiting),
-            AcquireReply::Cancelled => (CallAnswer::AcquireCancelled, AcquireReply::Cancelled),
-            AcquireReply::Holding => (CallAnswer::AcquireHolding, AcquireReply::Holding),
-            AcquireReply::Stale => (CallAnswer::AcquireStale, AcquireReply::Stale),
-            AcquireReply::Exhausted => (CallAnswer::AcquireExhausted, AcquireReply::Exhausted),
-        };
-        log.put(&Exchange::Acquire(*details, said));
-        note.begin(answer, details.key.kind());
-        push_pass(&mut note.numbers, details);
+        let kind = details.key.kind();
         match reply {
-            AcquireReply::Got(lease) => push_link(&mut note.numbers, &lease.details()),
-            AcquireReply::Open(permit) => push_permit(&mut note.numbers, &permit.details()),
-            _ => {}
+            AcquireReply::Got(lease) => {
+                let lease = lease.details();
+                log.put_got(details, &lease);
+                note.begin(CallAnswer::AcquireGot, kind);
+                push_pass(&mut note.numbers, details);
+                push_link(&mut note.numbers, &lease);
+                push_any_key(&mut note.numbers, &details.key);
+            }
+            AcquireReply::Open(permit) => {
+                let permit = permit.details();
+                log.put_open(details, &permit);
+                note.begin(CallAnswer::AcquireOpen, kind);
+                push_pass(&mut note.numbers, details);
+                push_permit(&mut note.numbers, &permit);
+                push_any_key(&mut note.numbers, &details.key);
+            }
+            AcquireReply::Waiting => record_without(details, Without::Waiting, log, note),
+            AcquireReply::Cancelled => record_without(details, Without::Cancelled, log, note),
+            AcquireReply::Holding => record_without(details, Without::Holding, log, note),
+            AcquireReply::Stale => record_without(details, Without::Stale, log, note),
+            AcquireReply::Exhausted => record_without(details, Without::Exhausted, log, note),
         }
-        push_any_key(&mut note.numbers, &details.key);
     }
 
     fn forfeit(self) -> Self::Reply {
         AcquireReply::Exhausted
     }
+}
+
+// A reply to a client that gets neither a link nor a permit.
+#[derive(Clone, Copy, Debug, PartialEq, Eq)]
+enum Without {
+    Waiting,
+    Cancelled,
+    Holding,
+    Stale,
+    Exhausted,
+}
+
+// Records such a reply.
+#[inline(never)]
+fn record_without(details: &PassRecord, reply: Without, log: &mut Log, note: &mut CallNote)
+    ensures put { Puts log.old (call.Acquire details.now (without_said reply)) log.new }
+    ensures count { IsCountOf (call.Acquire details.now (without_said reply)) note.new }
+    ensures woken { note.new.turn.woken
+        ≡ woken_by (call.Acquire details.now (without_said reply)) }
+{
+    let (answer, said) = match reply {
+        Without::Waiting => (CallAnswer::AcquireWaiting, AcquireReply::Waiting),
+        Without::Cancelled => (CallAnswer::AcquireCancelled, AcquireReply::Cancelled),
+        Without::Holding => (CallAnswer::AcquireHolding, AcquireReply::Holding),
+        Without::Stale => (CallAnswer::AcquireStale, AcquireReply::Stale),
+        Without::Exhausted => (CallAnswer::AcquireExhausted, AcquireReply::Exhausted),
+    };
+    log.put(&Exchange::Acquire(*details, said));
+    note.begin(answer, details.key.kind());
+    push_pass(&mut note.numbers, details);
+    push_any_key(&mut note.numbers, &details.key);
 }

@@ -172,21 +172,28 @@ impl<S: Drop> Call<S> for Release<S> {
 
     #[inline(always)]
     fn record(details: &Self::Details, reply: &Self::Reply, log: &mut Log, note: &mut CallNote) {
-        let (answer, said) = match reply {
-            ReleaseReply::Idle => (CallAnswer::ReleasedIdle, ReleaseReply::Idle),
-            ReleaseReply::Quarantined => (
-                CallAnswer::ReleasedQuarantined,
-                ReleaseReply::Quarantined,
-            ),
-            ReleaseReply::Closed(_) => (CallAnswer::ReleasedClosed, ReleaseReply::Closed(())),
-            ReleaseReply::Stale(_) => (CallAnswer::ReleaseStale, ReleaseReply::Stale(())),
-            ReleaseReply::Exhausted(_) => (
-                CallAnswer::ReleaseExhausted,
-                ReleaseReply::Exhausted(()),
-            ),
-        };
-        log.put(&Exchange::Release(*details, said));
-        note.begin(answer, Kind::Short);
+        match reply {
+            ReleaseReply::Idle => {
+                log.put(&Exchange::Release(*details, ReleaseReply::Idle));
+                note.begin(CallAnswer::ReleasedIdle, Kind::Short);
+            }
+            ReleaseReply::Quarantined => {
+                log.put(&Exchange::Release(*details, ReleaseReply::Quarantined));
+                note.begin(CallAnswer::ReleasedQuarantined, Kind::Short);
+            }
+            ReleaseReply::Closed(_) => {
+                log.put(&Exchange::Release(*details, ReleaseReply::Closed(())));
+                note.begin(CallAnswer::ReleasedClosed, Kind::Short);
+            }
+            ReleaseReply::Stale(_) => {
+                log.put(&Exchange::Release(*details, ReleaseReply::Stale(())));
+                note.begin(CallAnswer::ReleaseStale, Kind::Short);
+            }
+            ReleaseReply::Exhausted(_) => {
+                log.put(&Exchange::Release(*details, ReleaseReply::Exhausted(())));
+                note.begin(CallAnswer::ReleaseExhausted, Kind::Short);
+            }
+        }
         push_link(&mut note.numbers, details);
     }
 

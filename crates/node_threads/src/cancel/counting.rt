@@ -4,6 +4,7 @@ ghost use Rattle.std.specs.Arc.{arc_value};
 ghost use Rattle.stat_board.specs.Places.{place_of};
 ghost use Rattle.stat_board.specs.Seats.{Splits};
 ghost use Rattle.node_threads.specs.Cancelling.{Tries};
+ghost use Rattle.node_threads.specs.Words.{ReadsAll, counters};
 
 use stat_board::{Board, BoardSeat, Counter};
 use std::alloc::{AllocError, Global};
@@ -43,16 +44,20 @@ impl Counting {
     }
 
     /// The words of the board, in the order of its counters.
-    pub fn words(&mut self) -> [u64; 8] {
+    pub fn words(&mut self) -> [u64; 8]
+        ensures read { ReadsAll counters self.old.seat result self.new.seat }
+        ensures board { self.new.seat.board ≡ self.old.seat.board }
+    {
+        let spent = self.seat.read(&self.board, Counter::Spent);
+        let unknown = self.seat.read(&self.board, Counter::Unknown);
+        let no_peer = self.seat.read(&self.board, Counter::NoPeer);
+        let no_link = self.seat.read(&self.board, Counter::NoLink);
+        let forwarded = self.seat.read(&self.board, Counter::Forwarded);
+        let sent = self.seat.read(&self.board, Counter::Sent);
+        let ended = self.seat.read(&self.board, Counter::Ended);
+        let failed = self.seat.read(&self.board, Counter::Failed);
         [
-            self.seat.read(&self.board, Counter::Spent),
-            self.seat.read(&self.board, Counter::Unknown),
-            self.seat.read(&self.board, Counter::NoPeer),
-            self.seat.read(&self.board, Counter::NoLink),
-            self.seat.read(&self.board, Counter::Forwarded),
-            self.seat.read(&self.board, Counter::Sent),
-            self.seat.read(&self.board, Counter::Ended),
-            self.seat.read(&self.board, Counter::Failed),
+            spent, unknown, no_peer, no_link, forwarded, sent, ended, failed,
         ]
     }
 }

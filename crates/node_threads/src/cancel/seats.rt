@@ -1,5 +1,6 @@
 //! The seats at a node's board, for its cancel connections.
 ghost use Rattle.std.specs.Prelude.{◌≡◌, ◌⊎◌, ◌≤◌, ◌<◌, ◌+◌, ◌*◌, ◌++◌, ◌∷◌, [], None, IfSome, OnOk, vec_len, vec_capacity, Contains};
+ghost use Rattle.node_threads.specs.Words.{AreRead};
 
 use crate::Counting;
 use pg_ids::{AnyKey, Identity};
@@ -81,7 +82,9 @@ impl Seats {
     }
 
     /// The words of the board, in the order of its counters.
-    pub fn words<R: Wait>(&self, rt: &R) -> [u64; 8] {
+    pub fn words<R: Wait>(&self, rt: &R) -> [u64; 8]
+        ensures read { AreRead result }
+    {
         self.console.lock(rt).words()
     }
 }

@@ -7,12 +7,14 @@ mod call;
 mod list;
 mod lock;
 mod request;
+mod session;
 
 pub use call::DeskCall;
 use lease::{Lease, Ticket};
 pub use list::ListDesk;
 pub use lock::LockDesk;
 pub use request::{RequestDesk, Requested};
+pub(crate) use session::SessionDesk;
 use std::sync::Wait;
 
 /// Where a cancel request's ticket is spent once it was carried, and a client's lease once its

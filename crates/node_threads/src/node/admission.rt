@@ -7,10 +7,10 @@
 //! While one of them waits in the node's queue all the same, nobody is let in. A client that was
 //! not let in within 20 milliseconds asks all the same; so does one at once that is made to, by a
 //! cancel request for it or by the console. No claim of a node rests on this.
+use crate::node::semaphore::{ADMITTED, ASKED, QUEUED, Semaphore, State, TOLD, WAITING, exchange};
 use ini_config::Settings;
 use pg_ids::{DatabaseNo, SlotNo};
 use std::alloc::{AllocError, Global};
-use std::collections::VecDeque;
 use std::sync::atomic::{AtomicU64, Ordering};
 use std::sync::{Arc, Mutex, Wait};
 use std::time::Duration;
@@ -23,46 +23,17 @@ const ASKING: u64 = 20;
 
 const TRIES: u64 = 5;
 
-// The state of a client: it waits to be let in; it was let in and hasn't asked for a link yet; it
-// has asked, or has no request; it waits in the node's queue.
-const WAITING: u64 = 0;
-
-const ADMITTED: u64 = 1;
-
-const ASKED: u64 = 2;
-
-const QUEUED: u64 = 3;
-
-// Beside the first two: it has to ask at once, and somebody waits until it has.
-const TOLD: u64 = 4;
-
-type State = Arc<AtomicU64, Global>;
-
 /// The semaphores before a node's databases, and its clients by their slots.
 #[derive(Drop)]
 pub struct Admission {
-    semaphores: Vec<Mutex<Semaphore>>,
+    semaphores: Vec<Semaphore>,
     clients: Mutex<Vec<Option<State>>>,
 }
 
-// The semaphore before a database.
-#[derive(Drop)]
-struct Semaphore {
-    // How many may be inside.
-    permits: usize,
-    // How many are inside. Those that timed out are too, so there may be more than permits.
-    inside: usize,
-    // How many of them wait in the node's queue.
-    queued: usize,
-    // The clients that wait to be let in, in the order in which they came, and some that no longer
-    // do.
-    waiting: VecDeque<State>,
-}
-
-/// A client's way through the semaphores of its node.
+/// A client's way through the semaphore before its database.
 #[derive(Drop)]
 pub struct Entrance<'a> {
-    admission: &'a Admission,
+    semaphore: &'a Semaphore,
     state: State,
 }
 
@@ -72,7 +43,7 @@ impl Admission {
         let mut semaphores = Vec::new(alloc);
         for place in 0..settings.database_count() {
             let database = DatabaseNo(place as u8);
-            semaphores.push(Mutex::new(Semaphore::new(alloc, settings, database)))?;
+            semaphores.push(Semaphore::new(alloc, settings, database))?;
         }
         let slots = settings.max_client_conn() as usize;
         let mut clients = Vec::with_capacity(alloc, slots)?;
@@ -86,9 +57,9 @@ impl Admission {
     }
 
     /// How many clients are inside at a database at this moment.
-    pub fn inside<R: Wait>(&self, rt: &R, database: DatabaseNo) -> usize {
+    pub fn inside(&self, database: DatabaseNo) -> usize {
         match self.semaphores.get(database.get() as usize) {
-            Some(semaphore) => semaphore.lock(rt).inside,
+            Some(semaphore) => semaphore.inside() as usize,
             None => 0,
         }
     }
@@ -135,105 +106,35 @@ impl Admission {
     }
 }
 
-impl Semaphore {
-    // Nobody is inside, and nobody waits.
-    fn new(alloc: Global, settings: &Settings, database: DatabaseNo) -> Semaphore {
-        let permits = match settings.database(database) {
-            Some(entry) => entry.pool_size as usize,
-            None => 0,
-        };
-        Semaphore {
-            permits,
-            inside: 0,
-            queued: 0,
-            waiting: VecDeque::new(alloc),
-        }
-    }
-
-    // Whether a client may come in.
-    fn is_open(&self) -> bool {
-        self.queued == 0 && self.inside < self.permits
-    }
-
-    // A client comes. Returns whether it is inside, or has to wait. Where memory for waiting is
-    // refused it needn't.
-    fn come(&mut self, state: &State) -> bool {
-        if !self.is_open() {
-            self.forget_gone();
-            state.store(WAITING, Ordering::SeqCst);
-            if let Ok(waiting) = Arc::try_clone(state) {
-                if self.waiting.push_back(waiting).is_ok() {
-                    return false;
-                }
-            }
-        }
-        state.store(ADMITTED, Ordering::SeqCst);
-        self.enter();
-        true
-    }
-
-    // One more is inside.
-    fn enter(&mut self) {
-        self.inside = self.inside.saturating_add(1);
-    }
-
-    // Lets in the client that waits first, if one may come in, and returns its state.
-    fn admit_next(&mut self) -> Option<State> {
-        if !self.is_open() {
-            return None;
-        }
-        for _ in 0..self.waiting.len() {
-            let Some(state) = self.waiting.pop_front() else {
-                break;
-            };
-            if exchange(&state, WAITING, ADMITTED) {
-                self.enter();
-                return Some(state);
-            }
-        }
-        None
-    }
-
-    // Forgets those at the front that wait no longer.
-    fn forget_gone(&mut self) {
-        for _ in 0..self.waiting.len() {
-            match self.waiting.front() {
-                Some(state) if state.load(Ordering::SeqCst) != WAITING => {}
-                _ => return,
-            }
-            self.waiting.pop_front();
-        }
-    }
-
-    // One of those inside is done. Returns the state of the next.
-    fn leave(&mut self) -> Option<State> {
-        self.inside = self.inside.saturating_sub(1);
-        self.admit_next()
-    }
-}
-
 impl<'a> Entrance<'a> {
-    /// The way of the client of a slot.
+    /// The way of the client of a slot to a database, if the node has that.
     pub fn new<R: Wait>(
         rt: &R,
         alloc: Global,
         admission: &'a Admission,
         slot: SlotNo,
+        database: DatabaseNo,
     ) -> Result<Entrance<'a>, AllocError> {
+        let Some(semaphore) = admission.semaphores.get(database.get() as usize) else {
+            return Err(AllocError);
+        };
         let state = Arc::new(alloc, AtomicU64::new(ASKED))?;
         let known = Arc::try_clone(&state)?;
         admission.set_client(rt, slot, Some(known));
-        Ok(Entrance { admission, state })
+        Ok(Entrance { semaphore, state })
     }
 
-    /// Waits until the client may ask for a link of a database, for 20 milliseconds at most.
-    /// Returns whether it had to wait.
-    pub fn enter<R: Wait>(&self, rt: &R, database: DatabaseNo) -> bool {
-        let Some(semaphore) = self.semaphore(database) else {
-            return false;
-        };
-        let is_inside = semaphore.lock(rt).come(&self.state);
-        if is_inside {
+    /// Waits until the client may ask for a link, for 20 milliseconds at most. Returns whether it
+    /// had to wait.
+    #[inline(always)]
+    pub fn enter<R: Wait>(&self, rt: &R) -> bool {
+        !self.semaphore.come_at_once() && self.wait_to_enter(rt)
+    }
+
+    // The same where others may wait.
+    #[inline(never)]
+    fn wait_to_enter<R: Wait>(&self, rt: &R) -> bool {
+        if self.semaphore.come(rt, &self.state) {
             return false;
         }
         let limit = Duration::from_millis(TIMEOUT);
@@ -241,13 +142,21 @@ impl<'a> Entrance<'a> {
         if exchange(&self.state, WAITING, ADMITTED)
             || exchange(&self.state, WAITING | TOLD, ADMITTED | TOLD)
         {
-            semaphore.lock(rt).enter();
+            self.semaphore.enter(rt);
         }
         true
     }
 
     /// The client has asked for a link. Whoever told it to is woken.
+    #[inline(always)]
     pub fn asked(&self) {
+        if self.state.load(Ordering::SeqCst) != ASKED {
+            self.tell_asked();
+        }
+    }
+
+    #[inline(never)]
+    fn tell_asked(&self) {
         if exchange(&self.state, ADMITTED, ASKED) {
             return;
         }
@@ -258,28 +167,27 @@ impl<'a> Entrance<'a> {
 
     /// The client, which has asked, waits in the node's queue: nobody is let in until it has caught
     /// up.
-    pub fn queue<R: Wait>(&self, rt: &R, database: DatabaseNo) {
-        let Some(semaphore) = self.semaphore(database) else {
-            return;
-        };
+    pub fn queue<R: Wait>(&self, rt: &R) {
         if exchange(&self.state, ASKED, QUEUED) {
-            let mut semaphore = semaphore.lock(rt);
-            semaphore.queued = semaphore.queued.saturating_add(1);
+            self.semaphore.queue(rt);
         }
     }
 
     /// The client waits in the node's queue no longer, if it did.
-    pub fn catch_up<R: Wait>(&self, rt: &R, database: DatabaseNo) {
-        let Some(semaphore) = self.semaphore(database) else {
-            return;
-        };
-        if !exchange(&self.state, QUEUED, ASKED) {
-            return;
+    #[inline(always)]
+    pub fn catch_up<R: Wait>(&self, rt: &R) {
+        if self.state.load(Ordering::SeqCst) == QUEUED {
+            self.leave_queue(rt);
         }
-        unqueue(rt, semaphore);
+    }
+
+    // The client waits in the node's queue no longer. Others are let in.
+    #[inline(never)]
+    fn leave_queue<R: Wait>(&self, rt: &R) {
+        self.state.store(ASKED, Ordering::SeqCst);
+        self.semaphore.unqueue(rt);
         for _ in rt.forever() {
-            let next = semaphore.lock(rt).admit_next();
-            match next {
+            match self.semaphore.admit_next(rt) {
                 Some(state) => state.wake_all(),
                 None => return,
             }
@@ -287,28 +195,22 @@ impl<'a> Entrance<'a> {
         unreachable!()
     }
 
-    /// Lets the next client in at a database, where this one is done.
-    pub fn leave<R: Wait>(&self, rt: &R, database: DatabaseNo) {
+    /// Lets the next client in, where this one is done.
+    #[inline(always)]
+    pub fn leave<R: Wait>(&self, rt: &R) {
         self.asked();
-        let Some(semaphore) = self.semaphore(database) else {
-            return;
-        };
-        let next = semaphore.lock(rt).leave();
-        if let Some(state) = next {
-            state.wake_all();
+        if !self.semaphore.leave_at_once() {
+            self.leave_and_wake(rt);
         }
     }
 
-    // The semaphore before a database.
-    fn semaphore(&self, database: DatabaseNo) -> Option<&Mutex<Semaphore>> {
-        self.admission.semaphores.get(database.get() as usize)
+    // The same where others may wait.
+    #[inline(never)]
+    fn leave_and_wake<R: Wait>(&self, rt: &R) {
+        if let Some(state) = self.semaphore.leave(rt) {
+            state.wake_all();
+        }
     }
-}
-
-// One client less waits in the node's queue.
-fn unqueue<R: Wait>(rt: &R, semaphore: &Mutex<Semaphore>) {
-    let mut semaphore = semaphore.lock(rt);
-    semaphore.queued = semaphore.queued.saturating_sub(1);
 }
 
 // Tells a client to ask at once, if it waits to be let in or was let in and hasn't asked. Returns
@@ -334,11 +236,4 @@ fn await_asked<R: Wait>(rt: &R, state: &AtomicU64) {
             Duration::from_millis(ASKING),
         );
     }
-}
-
-// A client's state becomes another, if it is still as it was found. Returns whether it was.
-fn exchange(state: &AtomicU64, found: u64, new: u64) -> bool {
-    state
-        .compare_exchange(found, new, Ordering::SeqCst, Ordering::SeqCst)
-        .is_ok()
 }

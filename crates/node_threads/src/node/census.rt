@@ -1,5 +1,6 @@
 //! How many clients and links of a node are in which state.
 ghost use Rattle.std.specs.Prelude.{◌≡◌};
+ghost use Rattle.node_threads.specs.Words.{AreRead};
 
 use crate::Calling;
 use link_pool::{Claim, LinkState, Place};
@@ -69,7 +70,9 @@ impl<L: Drop> Calling<L> {
 
     /// How many cancel requests there were of each kind, in the order in which the console shows
     /// them.
-    pub fn cancels<R: Wait>(&self, rt: &R) -> [u64; 8] {
+    pub fn cancels<R: Wait>(&self, rt: &R) -> [u64; 8]
+        ensures read { AreRead result }
+    {
         self.node.seats.words(rt)
     }
 }

@@ -6,6 +6,7 @@ mod census;
 mod front;
 mod restarts;
 mod secrets;
+mod semaphore;
 
 pub use admission::{Admission, Entrance};
 pub use calling::{Calling, Node};

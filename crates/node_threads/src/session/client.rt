@@ -14,7 +14,9 @@ ghost use Rattle.node_threads.specs.Stay.{Stay};
 ghost use Rattle.node_threads.specs.Serving.{Greets, TellsCancelled, ComesOf, Serves, Stays, ServesClient};
 ghost use Rattle.node_threads.specs.declared.session.leases.Acquired.{Acquired as AcquiredOf};
 
+use crate::desk::SessionDesk;
 use crate::login::refuse;
+use crate::session::above::tell_of_client;
 use crate::session::leases::{Acquired, acquire};
 use crate::session::replies::lost;
 use crate::session::requests::next_request;
@@ -24,7 +26,7 @@ use lease::{Lease, Pass};
 use locked_node::{Caller, Shared};
 use node_core::LeaveReply;
 use peer_forward::{ReadCalls, WriteCalls, write_whole};
-use pg_frames::{Cutter, Flow, FrameError, MessageLimit};
+use pg_frames::{Cutter, Flow, MessageLimit};
 use pg_ids::{DatabaseNo, Kind, Secret};
 use startup::{ErrorCode, Reports, Severity, write_login};
 use std::alloc::Global;
@@ -93,7 +95,8 @@ where
         caller.old caller.new) }
 {
     let alloc = service.alloc;
-    let Ok(entrance) = Entrance::new(service.rt, alloc, service.admission, pass.key().slot()) else {
+    let slot = pass.key().slot();
+    let Ok(entrance) = Entrance::new(service.rt, alloc, service.admission, slot, database) else {
         return error(alloc, ErrorCode::OutOfMemory);
     };
     if let Some(end) = greet(alloc, service.reports, client, pass) {
@@ -111,29 +114,11 @@ where
             &mut session,
         );
         if let Some(end) = ended {
-            tell_too_long(service.opener, database, *service.limit, cutter);
+            tell_of_client(service.opener, &session, cutter);
             return end;
         }
     }
     unreachable!()
-}
-
-// Tells the opener if a session ends since the client's next message is longer than the limit.
-fn tell_too_long<O: Opener>(
-    opener: &O,
-    database: DatabaseNo,
-    limit: MessageLimit,
-    cutter: &Cutter,
-) {
-    if cutter.fault() != Some(FrameError::TooLong) {
-        return;
-    }
-    if let [_, a, b, c, d, ..] = cutter.pending() {
-        let length = u32::from_be_bytes([*a, *b, *c, *d]);
-        if length > limit.get() {
-            opener.refuse_message(database, length, limit.get());
-        }
-    }
 }
 
 // Writes the messages of a login. Returns what is to be written to the client if this ends the
@@ -192,9 +177,9 @@ where
     };
     let database = session.database();
     let acquired = acquire(service, caller, entrance, pass, database);
-    entrance.catch_up(service.rt, database);
+    entrance.catch_up(service.rt);
     let end = serve_acquired(service, caller, client, cutter, session, acquired, request);
-    entrance.leave(service.rt, database);
+    entrance.leave(service.rt);
     end
 }
 
@@ -319,7 +304,10 @@ where
     ensures limit { cutter.new.limit ≡ cutter.old.limit }
 {
     let shared = service.shared;
-    let mut desk = LockDesk { shared, caller };
+    let mut desk = SessionDesk {
+        desk: LockDesk { shared, caller },
+        opener: service.opener,
+    };
     let context = service.context();
     turn(context, &mut desk, session, client, cutter, lease, request)
 }

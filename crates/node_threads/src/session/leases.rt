@@ -50,7 +50,7 @@ pub fn acquire<R: Wait, O: Opener, G: Gate>(
     // It is what the node answered last.
     ensures answer { IsAnswer pass.now result caller.new }
 {
-    let has_waited = entrance.enter(service.rt, database);
+    let has_waited = entrance.enter(service.rt);
     if has_waited && service.opener.is_gone() {
         return Acquired::Ended;
     }
@@ -85,7 +85,7 @@ fn ask<R: Wait, O: Opener, G: Gate>(
             Some(unless_gone(service, caller, database, opened))
         }
         AcquireReply::Waiting => {
-            entrance.queue(service.rt, database);
+            entrance.queue(service.rt);
             service.shared.wait_turn(service.rt, caller, pass);
             if service.opener.is_gone() {
                 Some(Acquired::Ended)

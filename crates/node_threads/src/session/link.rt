@@ -1,5 +1,5 @@
 //! A link to a server.
-ghost use Rattle.std.specs.Prelude.{◌≡◌, ◌<◌, ◌≤◌, [], ◌∷◌, ℕ, List, None, true, false, length};
+ghost use Rattle.std.specs.Prelude.{◌≡◌, ◌<◌, ◌≤◌, [], ◌∷◌, ℕ, List, None, true, false, length, take, vec_len};
 ghost use Rattle.peer_forward.specs.Calls.{Call, Makes};
 ghost use Rattle.pg_frames.specs.FrameText.{HasFault};
 ghost use Rattle.pg_frames.specs.Passage.{fed, after, HasNoNext};
@@ -41,4 +41,19 @@ pub(crate) fn read_up_to<const MOST: usize, L: WriteCalls + ReadCalls>(link: &mu
     }
     link.flow.append(&buffer[..count]);
     true
+}
+
+/// Reads once into this memory, and returns how many bytes came: none at the end of the input, and
+/// where the read failed.
+pub(crate) fn read_into<T: WriteCalls + ReadCalls>(stream: &mut T, room: &mut Vec<u8>) -> usize
+    requires { 0 < vec_len room.old }
+    ensures within { result ≤ vec_len room.new }
+    ensures some { 0 < result → (call : Call)
+        × Makes T.wrote T.gave stream.old (call ∷ []) stream.new
+        × Read (take result room.new.items) (call ∷ []) }
+    ensures none { result ≡ 0 → (call : Call)
+        × Makes T.wrote T.gave stream.old (call ∷ []) stream.new × IsFailedRead call }
+    ensures len { vec_len room.new ≡ vec_len room.old }
+{
+    read_some(stream, room.as_mut_slice())
 }

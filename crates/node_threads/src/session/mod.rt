@@ -1,6 +1,9 @@
 //! A client's session: its requests, the links that it gets for them, and the replies.
 
+pub(crate) mod above;
 mod admin;
+mod admin_input;
+mod admin_replies;
 mod client;
 mod leases;
 pub(crate) mod link;
@@ -10,6 +13,7 @@ mod replies;
 mod requests;
 mod stays;
 mod turns;
+mod whole;
 
 pub use admin::{CONSOLE, serve_console};
 pub use client::serve_client;

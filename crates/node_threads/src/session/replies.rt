@@ -27,9 +27,11 @@ const MAX_FIRST_READ: usize = 2_048;
 
 const MAX_READ: usize = 16_384;
 
-/// Passes the reply to a request on to the client. It returns nothing where the reply leaves a
-/// transaction open and the stay goes on.
-pub fn pass_reply<R: Wait, C: WriteCalls + ReadCalls, L: WriteCalls + ReadCalls>(
+/// Passes the reply to a request on to the client, however it comes. It returns nothing where the
+/// reply leaves a transaction open and the stay goes on. It isn't inlined, since most replies come
+/// whole with one read.
+#[inline(never)]
+pub fn pass_rest<R: Wait, C: WriteCalls + ReadCalls, L: WriteCalls + ReadCalls>(
     rt: &R,
     session: &mut Client,
     client: &mut C,

@@ -9,16 +9,14 @@ ghost use Rattle.node_threads.specs.Asking.{IsError};
 ghost use Rattle.node_threads.specs.Progress.{asking};
 ghost use Rattle.node_threads.specs.Finding.{gathering, Finds, Quits, IsRefusal, AsksNext};
 
+use crate::session::link::read_into;
 use crate::stream::read_some;
-use client_state::{Act, Client, Reply, Request};
+use client_state::{Act, Client, Reply, Request, is_query};
 use peer_forward::{ReadCalls, WriteCalls};
 use pg_frames::{Cutter, FrameError};
 use std::sync::Wait;
 
-// How many bytes are read at once: first, and where they weren't a whole request. What a read may
-// fill is zeroed before, and most requests are short.
-const FIRST_READ: usize = 512;
-
+// How many bytes are read at once where the first read wasn't a whole Query.
 const MAX_READ: usize = 16_384;
 
 // What was cut from what a client sent.
@@ -47,42 +45,82 @@ pub fn next_request<R: Wait, C: WriteCalls + ReadCalls>(
     ensures session { OnOk result (session.new ≡ asking session.old.limit session.old.database) }
     ensures limit { cutter.new.limit ≡ cutter.old.limit }
 {
-    let mut has_read = false;
+    if !cutter.pending().is_empty() {
+        return gather(rt, session, client, cutter);
+    }
+    match read_first(session, client, cutter) {
+        Some(asked) => asked,
+        None => gather(rt, session, client, cutter),
+    }
+}
+
+// Reads the client once, of which nothing is pending. It returns what to do where one whole Query
+// came, or nothing more comes.
+fn read_first<C: WriteCalls + ReadCalls>(
+    session: &mut Client,
+    client: &mut C,
+    cutter: &mut Cutter,
+) -> Option<Result<Request, Reply>>
+    requires session { session.old
+        ≡ gathering session.old.limit session.old.leased session.old.database [] }
+    requires limit { cutter.old.limit ≡ session.old.limit }
+    requires none { cutter.old.bytes ≡ [] }
+    ensures asks { IfSome result (λ asked. SomeCalls C.wrote C.gave client.old client.new
+        (λ calls. AsksNext session.old.limit cutter.old.bytes calls asked cutter.new.bytes)) }
+    ensures more { result ≡ None → SomeCalls C.wrote C.gave client.old client.new
+        (λ calls. (bytes : List ℕ) × Read bytes calls × (cutter.new ≡ with_piece cutter.old bytes)) }
+    ensures session { IfSome result (λ asked.
+        OnOk asked (session.new ≡ asking session.old.limit session.old.database)) }
+    ensures same { result ≡ None → session.new ≡ session.old }
+    ensures limit { cutter.new.limit ≡ cutter.old.limit }
+{
+    let mut room = match session.take_room() {
+        Ok(room) => room,
+        Err(_) => return Some(Err(Reply::nothing())),
+    };
+    let count = read_into(client, &mut room);
+    if count == 0 {
+        return Some(Err(Reply::nothing()));
+    }
+    if is_query(session.limit(), room.as_slice().split_at(count).0) {
+        return Some(Ok(session.ask(room, count)));
+    }
+    let appended = cutter.append(room.as_slice().split_at(count).0);
+    session.keep_room(room);
+    match appended {
+        Ok(()) => None,
+        Err(_) => Some(Err(Reply::nothing())),
+    }
+}
+
+// Cuts the client's next request from what was read, and reads more until it is whole. It isn't
+// inlined, so that the reader of a whole Query has no room for the buffer.
+#[inline(never)]
+fn gather<R: Wait, C: WriteCalls + ReadCalls>(
+    rt: &R,
+    session: &mut Client,
+    client: &mut C,
+    cutter: &mut Cutter,
+) -> Result<Request, Reply>
+    requires session { session.old
+        ≡ gathering session.old.limit session.old.leased session.old.database [] }
+    requires limit { cutter.old.limit ≡ session.old.limit }
+    ensures asks { SomeCalls C.wrote C.gave client.old client.new
+        (λ calls. AsksNext session.old.limit cutter.old.bytes calls result cutter.new.bytes) }
+    ensures session { OnOk result (session.new ≡ asking session.old.limit session.old.database) }
+    ensures limit { cutter.new.limit ≡ cutter.old.limit }
+{
     for _ in rt.forever() {
         match cut_request(session, cutter) {
             Found::Request(request) => return Ok(request),
             Found::End(reply) => return Err(reply),
             Found::More => {}
         }
-        if let Some(reply) = read_more(session, client, cutter, has_read) {
+        if let Some(reply) = read_more(session, client, cutter) {
             return Err(reply);
         }
-        has_read = true;
     }
     unreachable!()
-}
-
-// Reads more of the client, where some of a request was read or none was. It returns what is to be
-// written as the session ends, if it does.
-fn read_more<C: WriteCalls + ReadCalls>(
-    session: &mut Client,
-    client: &mut C,
-    cutter: &mut Cutter,
-    has_read: bool,
-) -> Option<Reply>
-    requires none { BeginsNoFrame cutter.old.limit cutter.old.bytes }
-    ensures more { result ≡ None → SomeCalls C.wrote C.gave client.old client.new
-        (λ calls. (bytes : List ℕ) × Read bytes calls × (cutter.new ≡ with_piece cutter.old bytes)) }
-    ensures session { result ≡ None → session.new ≡ session.old }
-    ensures ends { IfSome result (λ reply. SomeCalls C.wrote C.gave client.old client.new
-        (λ calls. Quits cutter.old.limit cutter.old.bytes calls reply cutter.new.bytes)) }
-    ensures limit { cutter.new.limit ≡ cutter.old.limit }
-{
-    if has_read {
-        read_on::<MAX_READ, C>(session, client, cutter)
-    } else {
-        read_on::<FIRST_READ, C>(session, client, cutter)
-    }
 }
 
 // Cuts a request from what was read of the client.
@@ -112,16 +150,13 @@ fn cut_request(session: &mut Client, cutter: &mut Cutter) -> Found
     }
 }
 
-// Reads at most `MOST` bytes more of the client. It isn't inlined, so that a session's stack has no
-// room for a buffer that it doesn't read into.
+// Reads more of the client. It returns what is to be written as the session ends, if it does.
 #[inline(never)]
-fn read_on<const MOST: usize, C: WriteCalls + ReadCalls>(
+fn read_more<C: WriteCalls + ReadCalls>(
     session: &mut Client,
     client: &mut C,
     cutter: &mut Cutter,
 ) -> Option<Reply>
-    requires some { 0 < MOST }
-    requires many { MOST ≤ 16384 }
     requires none { BeginsNoFrame cutter.old.limit cutter.old.bytes }
     ensures more { result ≡ None → SomeCalls C.wrote C.gave client.old client.new
         (λ calls. (bytes : List ℕ) × Read bytes calls × (cutter.new ≡ with_piece cutter.old bytes)) }
@@ -133,7 +168,7 @@ fn read_on<const MOST: usize, C: WriteCalls + ReadCalls>(
     if let Some(error) = cutter.fault() {
         return Some(refusal(session, error));
     }
-    let mut buffer = [0; MOST];
+    let mut buffer = [0; MAX_READ];
     let count = read_some(client, &mut buffer);
     if count == 0 {
         return Some(Reply::nothing());

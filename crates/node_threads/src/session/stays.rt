@@ -4,8 +4,9 @@ ghost use Rattle.node_threads.specs.StreamCalls.{SomeCalls};
 ghost use Rattle.node_threads.specs.Progress.{asking, LeavesBehind};
 ghost use Rattle.node_threads.specs.Stay.{Stay};
 
-use crate::session::replies::{lost, pass_reply};
+use crate::session::replies::lost;
 use crate::session::requests::next_request;
+use crate::session::whole::pass_reply;
 use crate::{Link, Stayed};
 use client_state::{Client, Request};
 use peer_forward::{ReadCalls, WriteCalls, write_whole};

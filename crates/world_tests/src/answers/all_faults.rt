@@ -39,8 +39,8 @@ pool_mode = transaction
 %include /etc/pgbouncer/more.ini
 ";
 
-// The lines behind `[users]`, up to `[pgbouncer]`, are not read. `listen_addr` and `auth_type` aren't
-// told as missing, since they stand in lines 15 and 18.
+// The lines behind `[users]`, up to `[pgbouncer]`, are not read. `listen_addr` and `auth_type`
+// aren't told as missing, since they stand in lines 15 and 18.
 const FOREIGN_FAULTS: &str = "\
 FILE:4: 26 Missing: report lacks a required pair
 FILE:5: 27 NotInProfile: * asks for what is not in this profile

@@ -1,5 +1,6 @@
 //! The options of `serve` that say how a group runs.
-use super::running::{PORTS, SEED, SERVE, expect_wrong, words_of};
+use super::refused_runs::PORTS;
+use super::running::{SEED, SERVE, expect_wrong, words_of};
 use command_line::{LogLevel, Running, usage};
 use std::alloc::Global;
 use std::process::Abort;

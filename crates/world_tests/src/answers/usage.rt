@@ -25,7 +25,8 @@ const FAULTS: [(&str, &str, &str); 10] = [
     ("world small two", "unexpected argument 'two' found", WORLD),
     (
         "world --peers 1 small",
-        "unexpected argument '--peers' found\n\n  tip: to pass '--peers' as a value, use '-- --peers'",
+        "unexpected argument '--peers' found\n\n  \
+         tip: to pass '--peers' as a value, use '-- --peers'",
         WORLD,
     ),
     (

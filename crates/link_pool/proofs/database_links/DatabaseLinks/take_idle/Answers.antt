@@ -30,7 +30,7 @@ invariant_of-self-2 g c =
     let is : c.index_mut-entry.result.now ≡ entry.Idle top.link top.key = same_Some c.index_mut-entry.result.now (entry.Idle top.link top.key) (sym (was_read entries index index c.index_mut-entry.result.now refl within c.index_mut-entry.ensures.value) ∙ top.is) in
     let room = c.self.invariant.1 in
     let capacity = c.pop.ensures.capacity in
-    rw (c.lend.ensures.entry, is) (
+    rw (c.lend_idle.ensures.entry, is) (
       c.self.invariant.0,
       omega (arith, room, capacity),
       popped idle_entry entries c.self.inside.idle.items c.pop.new.self.items index (entry.Idle top.link top.key) (entry.Held top.link.details top.key new_hold c.args.slot) c.in-Some.ensures.items top.is refl c.self.invariant.2,
@@ -46,7 +46,16 @@ returns g c =
     let within = slice_get_within entries index (entry.Idle top.link top.key) top.is in
     let is : c.index_mut-entry.result.now ≡ entry.Idle top.link top.key = same_Some c.index_mut-entry.result.now (entry.Idle top.link top.key) (sym (was_read entries index index c.index_mut-entry.result.now refl within c.index_mut-entry.ensures.value) ∙ top.is) in
     record {
-      taken = rw (c.lend.ensures.lease, c.lend.ensures.entry, is, ← c.self.view_is) (record { index = index; key = top.key; was = top.is; after = refl });
-      none = rw (c.lend.ensures.lease, is) tt;
-      same = rw (c.lend.ensures.lease, is) tt;
+      taken = rw (c.lend_idle.ensures.lease, c.lend_idle.ensures.entry, is, ← c.self.view_is) (record { index = index; key = top.key; was = top.is; after = refl });
+      none = rw (c.lend_idle.ensures.lease, is) tt;
+      same = rw (c.lend_idle.ensures.lease, is) tt;
     }
+
+pub lend_idle-requires : goal.lend_idle-requires
+lend_idle-requires g c =
+    let entries = c.self.inside.entries.items in
+    let index : ℕ = c.in-Some.index in
+    let top = idle_one (slice_get entries index) (last_of idle_entry entries c.self.inside.idle.items c.pop.new.self.items index c.in-Some.ensures.items c.self.invariant.2) in
+    let within = slice_get_within entries index (entry.Idle top.link top.key) top.is in
+    let is : c.index_mut-entry.result.now ≡ entry.Idle top.link top.key = same_Some c.index_mut-entry.result.now (entry.Idle top.link top.key) (sym (was_read entries index index c.index_mut-entry.result.now refl within c.index_mut-entry.ensures.value) ∙ top.is) in
+    rw is refl

@@ -1,5 +1,6 @@
 use Rattle.std.proofs.Common.{rules, ◌≡◌, ℕ, length, subst}
-use Rattle.locked_node.proofs.Tallies.{AddedTo, added_all}
+use Rattle.locked_node.specs.Adding.{AddedTo}
+use Rattle.locked_node.proofs.Tallies.{added_all}
 use Rattle.locked_node.proofs.tally.Tally.merge.Goals as goal
 
 pub returns : goal.returns

@@ -1,4 +1,4 @@
-use Rattle.locked_node.proofs.Tallies.{AddedTo}
+use Rattle.locked_node.specs.Adding.{AddedTo}
 use Rattle.locked_node.proofs.tally.Tally.merge.Given as goal
 
 abbrev pub invariant-loop-i : goal.invariant-loop-i

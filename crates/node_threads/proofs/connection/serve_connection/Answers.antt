@@ -1,0 +1,64 @@
+use Rattle.std.proofs.Common.{◌≡◌, ◌∙◌, inl, inr, rules, ℕ, List, true, false, Option, ap, sym, subst}
+use Rattle.pg_ids.specs.declared.any_key.Kind.{Kind}
+use Rattle.startup.specs.Replies.{Report}
+use Rattle.ini_config.specs.Node.{NodeSettings}
+use Rattle.locked_node.specs.Lock.{CallerView}
+use Rattle.peer_forward.specs.Calls.{Effect}
+use Rattle.node_threads.specs.StreamCalls.{SomeCalls}
+use Rattle.node_threads.specs.declared.login.first_packets.Opened.TheVariants.{Session}
+use Rattle.node_threads.specs.ConsoleSession.{ServesConsole}
+use Rattle.node_threads.specs.Connection.{place_of, ServesAt}
+use Rattle.node_threads.proofs.connection.serve_connection.Goals as goal
+
+-- a session of the console, by the limit of its cutter
+console_of : {C : Type 0} (limit at : ℕ) (wrote gave : Effect C) (a b : C) (reports : List Report)
+    (settings : NodeSettings) (caller : CallerView) (kept left : List ℕ) → at ≡ limit
+    → SomeCalls wrote gave a b (λ calls. ServesConsole at reports settings caller kept calls left)
+    → SomeCalls wrote gave a b
+    (λ calls. ServesConsole limit reports settings caller kept calls left)
+console_of limit at wrote gave a b reports settings caller kept left is serves =
+    subst (λ (n : ℕ). SomeCalls wrote gave a b
+    (λ calls. ServesConsole n reports settings caller kept calls left)) is serves
+
+-- a session on the database with a name, which was read
+session_of : {T C : Type 0} (limit : ℕ) (wrote gave : Effect T) (wrote' gave' : Effect C)
+    (a b : C) (reports : List Report) (settings : NodeSettings) (read name : List ℕ)
+    (kind : Kind) (kept left : List ℕ) (old new : CallerView) → read ≡ name
+    → SomeCalls wrote' gave' a b (λ calls. ServesAt limit wrote gave reports
+    (place_of read settings.databases) kind kept calls left old new)
+    → SomeCalls wrote' gave' a b (λ calls. ServesAt limit wrote gave reports
+    (place_of name settings.databases) kind kept calls left old new)
+session_of limit wrote gave wrote' gave' a b reports settings read name kind kept left old new is
+    serves =
+    subst (λ (n : List ℕ). SomeCalls wrote' gave' a b (λ calls. ServesAt limit wrote gave reports
+    (place_of n settings.databases) kind kept calls left old new)) is serves
+
+pub returns-then-eq-clause-served : goal.returns-then-eq-clause-served
+returns-then-eq-clause-served g c settings is = (
+  Session c.in-Session.database c.in-Session.kind,
+  c.open.new.cutter.bytes,
+  c.open.new.client,
+  c.in-Session.ensures.opens,
+  inl (
+    search rules,
+    c.serve_console.ensures.same,
+    c.serve_console.new.cutter.bytes,
+    console_of _ _ _ _ _ _ _ settings _ _ _
+        (c.in-Session.ensures.limit ∙ ap (λ p. p.limit) c.with_limit-cutter.ensures)
+        (c.serve_console.ensures.served settings is),
+  ),
+)
+
+pub returns-in-Session-clause-served : goal.returns-in-Session-clause-served
+returns-in-Session-clause-served g c settings is = (
+  Session c.in-Session.database c.in-Session.kind,
+  c.open.new.cutter.bytes,
+  c.open.new.client,
+  c.in-Session.ensures.opens,
+  inr (
+    search rules,
+    c.serve_session.new.cutter.bytes,
+    session_of _ _ _ _ _ _ _ _ settings c.as_str-name.result.now _ _ _ _ _ _
+        c.as_str-name.ensures.value (c.serve_session.ensures.served settings is),
+  ),
+)
