@@ -274,7 +274,7 @@ impl<'a, M: Machine> Opener for ClientDialer<'a, M> {
 
     fn cancel<R: Wait>(&self, _rt: &R, database: DatabaseNo) -> io::Result<LinkStream<M>> {
         self.connection.set_target(Target::Server(database));
-        self.connection.meter().ask(database);
+        self.connection.meter().know(database);
         let settings = self.dialer.settings()?;
         let Some(entry) = settings.database(database) else {
             return Err(io::Error::from(ErrorKind::NotFound));
@@ -320,9 +320,13 @@ impl<'a, M: Machine> Opener for ClientDialer<'a, M> {
         self.connection.meter().end();
     }
 
+    fn begin_wait(&self) {
+        self.connection.meter().begin_wait(&self.dialer.machine);
+    }
+
     // It is asked whenever the client has waited for a link.
     fn is_gone(&self) -> bool {
-        self.connection.meter().wait(&self.dialer.machine);
+        self.connection.meter().wait();
         self.connection.is_gone()
     }
 

@@ -55,6 +55,9 @@ pub trait Opener {
     /// The client has no link from now on.
     fn detach(&self) {}
 
+    /// The client is about to wait for a link. Once it has, `is_gone` is called.
+    fn begin_wait(&self) {}
+
     /// Whether the client is gone. It doesn't wait.
     fn is_gone(&self) -> bool {
         false

@@ -176,7 +176,7 @@ impl<'a, M: Machine> Read for ClientStream<'a, M> {
         let mut socket = self.connection.socket();
         match socket.read(buffer) {
             Ok(count) => {
-                self.connection.meter().receive(self.machine, count);
+                self.connection.meter().receive(count);
                 self.is_sending = count == room;
                 Ok(count)
             }

@@ -35,7 +35,7 @@ impl<'a, M: Machine> ClientStream<'a, M> {
             let mut socket = self.connection.socket();
             match socket.read(buffer) {
                 Ok(count) => {
-                    self.connection.meter().receive(self.machine, count);
+                    self.connection.meter().receive(count);
                     return Ok(count);
                 }
                 Err(error) if is_pause(&error) => self.look_around()?,

@@ -1,7 +1,6 @@
 //! What is counted of the databases of a node while it serves clients.
 use crate::metrics::waits::{WaitCounts, Waits};
 use ini_config::{Group, Settings};
-use pg_ids::DatabaseNo;
 use std::alloc::{AllocError, Global};
 use std::sync::Arc;
 use std::sync::atomic::{AtomicU64, Ordering};
@@ -23,9 +22,6 @@ pub struct NodeCounters {
 /// What is counted of a database of a node.
 #[derive(Drop)]
 pub struct PoolCounters {
-    // How many links it may have, and how many connections ask for one, or have one.
-    places: u64,
-    asking: AtomicU64,
     // How many transactions have ended on its links.
     transactions: AtomicU64,
     // How many bytes came from its clients, and went to them.
@@ -67,12 +63,8 @@ impl NodeCounters {
     /// Nothing was counted of a node with these settings.
     pub fn new(alloc: Global, settings: &Settings) -> Result<NodeCounters, AllocError> {
         let mut pools = Vec::with_capacity(alloc, settings.database_count())?;
-        for place in 0..settings.database_count() {
-            let places = match settings.database(DatabaseNo(place as u8)) {
-                Some(entry) => u64::from(entry.pool_size),
-                None => 0,
-            };
-            pools.push(Arc::new(alloc, PoolCounters::new(alloc, places)?)?)?;
+        for _ in 0..settings.database_count() {
+            pools.push(Arc::new(alloc, PoolCounters::new(alloc)?)?)?;
         }
         Ok(NodeCounters {
             pools,
@@ -92,35 +84,14 @@ impl NodeCounters {
 }
 
 impl PoolCounters {
-    // Nothing was counted of a database that may have this many links.
-    fn new(alloc: Global, places: u64) -> Result<PoolCounters, AllocError> {
+    // Nothing was counted of a database.
+    fn new(alloc: Global) -> Result<PoolCounters, AllocError> {
         Ok(PoolCounters {
-            places,
-            asking: AtomicU64::new(0),
             transactions: AtomicU64::new(0),
             received: AtomicU64::new(0),
             sent: AtomicU64::new(0),
             waits: Waits::new(alloc)?,
         })
-    }
-
-    /// One more connection asks for a link. Returns whether as many as there are links do so
-    /// already, so that it may have to wait.
-    #[inline]
-    pub fn ask(&self) -> bool {
-        self.asking.fetch_add(1, Ordering::SeqCst) >= self.places
-    }
-
-    /// A connection that asked has no link any more, or gets none.
-    #[inline]
-    pub fn leave(&self) {
-        self.asking.fetch_sub(1, Ordering::SeqCst);
-    }
-
-    /// Whether more connections ask for a link than there are.
-    #[inline]
-    pub fn is_crowded(&self) -> bool {
-        self.asking.load(Ordering::SeqCst) > self.places
     }
 
     /// A transaction has ended.

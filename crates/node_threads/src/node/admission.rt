@@ -124,16 +124,16 @@ impl<'a> Entrance<'a> {
         Ok(Entrance { semaphore, state })
     }
 
-    /// Waits until the client may ask for a link, for 20 milliseconds at most. Returns whether it
-    /// had to wait.
+    /// Returns whether the client may ask for a link at once: there is room, and nobody waits.
     #[inline(always)]
-    pub fn enter<R: Wait>(&self, rt: &R) -> bool {
-        !self.semaphore.come_at_once() && self.wait_to_enter(rt)
+    pub fn try_enter(&self) -> bool {
+        self.semaphore.come_at_once()
     }
 
-    // The same where others may wait.
+    /// Waits until the client may ask for a link, for 20 milliseconds at most. Returns whether it
+    /// had to wait.
     #[inline(never)]
-    fn wait_to_enter<R: Wait>(&self, rt: &R) -> bool {
+    pub fn enter<R: Wait>(&self, rt: &R) -> bool {
         if self.semaphore.come(rt, &self.state) {
             return false;
         }

@@ -50,9 +50,11 @@ pub fn acquire<R: Wait, O: Opener, G: Gate>(
     // It is what the node answered last.
     ensures answer { IsAnswer pass.now result caller.new }
 {
-    let has_waited = entrance.enter(service.rt);
-    if has_waited && service.opener.is_gone() {
-        return Acquired::Ended;
+    if !entrance.try_enter() {
+        service.opener.begin_wait();
+        if entrance.enter(service.rt) && service.opener.is_gone() {
+            return Acquired::Ended;
+        }
     }
     for _ in service.rt.forever() {
         if let Some(acquired) = ask(service, caller, entrance, pass, database) {
@@ -85,6 +87,7 @@ fn ask<R: Wait, O: Opener, G: Gate>(
             Some(unless_gone(service, caller, database, opened))
         }
         AcquireReply::Waiting => {
+            service.opener.begin_wait();
             entrance.queue(service.rt);
             service.shared.wait_turn(service.rt, caller, pass);
             if service.opener.is_gone() {
