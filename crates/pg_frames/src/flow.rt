@@ -19,6 +19,13 @@ use std::marker::Model;
 /// belong to the body whose head was handed out.
 #[derive(Drop)]
 pub struct Flow {
+    // A link is moved at each step of its node, so what its flow has is apart.
+    inside: Box<Inside>,
+}
+
+// What a flow has.
+#[derive(Drop)]
+struct Inside {
     limit: MessageLimit,
     buffer: Buffer,
     left: Option<usize>,
@@ -32,10 +39,10 @@ impl Model for Flow {
     ghost use Rattle.pg_frames.specs.Buffer.{kept, unread};
 
     ghost view = { λ flow. record {
-      limit = flow.limit;
-      passed = kept flow.buffer;
-      left = flow.left;
-      bytes = unread flow.buffer;
+      limit = flow.inside.value.limit;
+      passed = kept flow.inside.value.buffer;
+      left = flow.inside.value.left;
+      bytes = unread flow.inside.value.buffer;
     } };
 }
 
@@ -57,11 +64,15 @@ impl Flow {
         let Ok(buffer) = Buffer::new(alloc) else {
             return Err(FrameError::Memory);
         };
-        Ok(Flow {
+        let inside = Inside {
             limit,
             buffer,
             left: None,
-        })
+        };
+        match Box::new(alloc, inside) {
+            Ok(inside) => Ok(Flow { inside }),
+            Err(_) => Err(FrameError::Memory),
+        }
     }
 
     /// How many bytes may be fed now.
@@ -72,7 +83,8 @@ impl Flow {
         ensures drained { HasNoNext self.now.limit self.now.left self.now.bytes
             → HasFault self.now.limit (after self.now) None → 16380 ≤ result + length self.now.passed }
     {
-        room_beside(self.buffer.kept(), self.buffer.as_slice())
+        let buffer = &self.inside.buffer;
+        room_beside(buffer.kept(), buffer.as_slice())
     }
 
     /// Takes the next piece of the stream, for which there has to be room. Frames before a fault
@@ -91,7 +103,7 @@ impl Flow {
         if let Some(fault) = self.fault() {
             return Err(fault);
         }
-        self.buffer.append(piece);
+        self.inside.buffer.append(piece);
         match self.fault() {
             Some(fault) => Err(fault),
             None => Ok(()),
@@ -105,42 +117,43 @@ impl Flow {
         requires sound { HasFault self.old.limit (after self.old) None }
         ensures { self.new ≡ fed self.old piece.now }
     {
-        self.buffer.append(piece);
+        self.inside.buffer.append(piece);
     }
 
     /// The fault at the front of the rest of what was fed.
     pub fn fault(&self) -> Option<FrameError>
         ensures { HasFault self.now.limit (after self.now) result }
     {
-        let bytes = self.buffer.as_slice();
-        let body = self.left.unwrap_or(0).min(bytes.len());
-        fault_in(self.limit, bytes.split_at(body).1)
+        let inside = &*self.inside;
+        let bytes = inside.buffer.as_slice();
+        let body = inside.left.unwrap_or(0).min(bytes.len());
+        fault_in(inside.limit, bytes.split_at(body).1)
     }
 
     /// Hands out the next piece, if one is there. A body is handed out as far as it was fed.
     pub fn next(&mut self) -> Option<Piece<'_>>
         ensures* after_borrow { sem 𝓛 (Rests the_row self.entry (Hands self.old result)) }
     {
-        let Some(left) = self.left else {
-            let header = head_in(self.limit, self.buffer.as_slice())?;
-            self.buffer.advance(HEADER_LEN);
-            self.left = Some(header.length - FIELD_LEN);
+        let Some(left) = self.inside.left else {
+            let header = head_in(self.inside.limit, self.inside.buffer.as_slice())?;
+            self.inside.buffer.advance(HEADER_LEN);
+            self.inside.left = Some(header.length - FIELD_LEN);
             return Some(Piece::Head {
                 kind: header.kind,
                 length: header.length,
             });
         };
         if left == 0 {
-            self.left = None;
+            self.inside.left = None;
             return Some(Piece::Tail);
         }
-        let count = left.min(self.buffer.as_slice().len());
+        let count = left.min(self.inside.buffer.as_slice().len());
         if count == 0 {
             return None;
         }
-        self.buffer.advance(count);
-        self.left = Some(left - count);
-        Some(Piece::Part(self.buffer.taken(count)))
+        self.inside.buffer.advance(count);
+        self.inside.left = Some(left - count);
+        Some(Piece::Part(self.inside.buffer.taken(count)))
     }
 
     /// The head of the next frame, if no part of it was handed out and all of it is there.
@@ -149,10 +162,10 @@ impl Flow {
         ensures some { IfSome result (λ head. (self.now.left ≡ None)
             × BeginsWith self.now.limit self.now.bytes head × (1 + head.length ≤ length self.now.bytes)) }
     {
-        if self.left.is_some() {
+        if self.inside.left.is_some() {
             return None;
         }
-        whole_head(self.limit, self.buffer.as_slice())
+        whole_head(self.inside.limit, self.inside.buffer.as_slice())
     }
 
     /// Hands out the whole frame with this head at once.
@@ -165,28 +178,28 @@ impl Flow {
         ensures bytes { self.new.bytes ≡ drop (1 + head.length) self.old.bytes }
         ensures limit { self.new.limit ≡ self.old.limit }
     {
-        self.buffer.advance(1 + head.length);
+        self.inside.buffer.advance(1 + head.length);
     }
 
     /// The limit of a message.
     pub fn limit(&self) -> MessageLimit
         ensures { result ≡ self.now.limit }
     {
-        self.limit
+        self.inside.limit
     }
 
     /// The bytes that were fed and aren't handed out.
     pub fn pending(&self) -> &[u8]
         ensures { result.now ≡ self.now.bytes }
     {
-        self.buffer.as_slice()
+        self.inside.buffer.as_slice()
     }
 
     /// The text of the pieces that were handed out, as far as it isn't forgotten.
     pub fn passed(&self) -> &[u8]
         ensures { result.now ≡ self.now.passed }
     {
-        self.buffer.kept()
+        self.inside.buffer.kept()
     }
 
     /// Whether it is as a new one: between two frames, with nothing fed that isn't handed out and
@@ -194,7 +207,7 @@ impl Flow {
     pub fn is_at_start(&self) -> bool
         ensures { IsTrue result ↔ (self.now ≡ start self.now.limit) }
     {
-        self.left.is_none() && self.pending().is_empty() && self.passed().is_empty()
+        self.inside.left.is_none() && self.pending().is_empty() && self.passed().is_empty()
     }
 
     /// Forgets the first bytes of that text, which makes room.
@@ -202,7 +215,7 @@ impl Flow {
         requires { count ≤ length self.old.passed }
         ensures { self.new ≡ forgotten self.old count }
     {
-        self.buffer.forget(count);
+        self.inside.buffer.forget(count);
     }
 }
 
