@@ -10,12 +10,12 @@ use pg_ids::{LinkNo, PeerNo};
 /// What a permit says.
 #[derive(Clone, Copy, Debug, PartialEq, Eq, Hash)]
 pub struct PermitRecord {
-    /// The node that gave it.
-    pub peer: PeerNo,
-    /// The node's incarnation.
+    /// The incarnation of the node that gave it.
     pub incarnation: u64,
     /// The number of the permit there, which no other permit has.
     pub number: u64,
+    /// The node.
+    pub peer: PeerNo,
     /// The place in its node's pool that is kept for the link.
     pub at: LinkPlace,
 }

@@ -6,14 +6,14 @@ use pg_ids::{LinkNo, PeerNo};
 /// What a ticket says.
 #[derive(Clone, Copy, Debug, PartialEq, Eq, Hash)]
 pub struct TicketRecord {
-    /// The node that gave it.
-    pub peer: PeerNo,
-    /// The node's incarnation.
+    /// The incarnation of the node that gave it.
     pub incarnation: u64,
     /// The number of the ticket there, which no other ticket has.
     pub number: u64,
     /// The link whose server is asked to cancel.
     pub link: LinkNo,
+    /// The node.
+    pub peer: PeerNo,
     /// Where that link is in its node's pool.
     pub at: LinkPlace,
 }
