@@ -66,6 +66,7 @@ pub fn acquire<R: Wait, O: Opener, G: Gate>(
 
 // Asks once, and waits for the client's turn where there is no link. It returns nothing where the
 // client is to ask again.
+#[inline(always)]
 fn ask<R: Wait, O: Opener, G: Gate>(
     service: Service<'_, R, Link<O::Stream>, O, G>,
     caller: &mut Caller<Link<O::Stream>>,
