@@ -110,7 +110,7 @@ const CHECK: &[Argument] = &[
         name: "all",
         form: Form::Flag,
         required: false,
-        help: "Tell of every fault, each with a sentence, in place of the first one",
+        help: "Report every error, each with a sentence, instead of the first one",
     },
     Argument {
         name: "FILE",
@@ -166,7 +166,7 @@ where it isn't given: give another one at each start",
         required: false,
         help: "\
 Run a stand-in server at each port of 127.0.0.1 that the settings
-name as a server's address, for trials without PostgreSQL",
+name as a server's address, for tests without PostgreSQL",
     },
     Argument {
         name: "report",
@@ -190,7 +190,7 @@ query: 8192 to 1073741823, and 1048576 where it isn't given",
         form: Form::Value("PORT"),
         required: false,
         help: "\
-Serve figures for Prometheus over HTTP at this port of 127.0.0.1,
+Serve metrics for Prometheus over HTTP at this port of 127.0.0.1,
 1 to 65535",
     },
     Argument {

@@ -103,7 +103,7 @@ fn about<'a>(name: CommandName) -> &'a str {
         CommandName::Serve => {
             "Serve clients and cancel requests as a group of poolers, until stopped"
         }
-        CommandName::Stub => "Run a stand-in server, for trials without PostgreSQL",
+        CommandName::Stub => "Run a stand-in server, for tests without PostgreSQL",
     }
 }
 

@@ -13,7 +13,7 @@ Commands:
   check   Check that settings files make a group
   world   Print what the events of a script bring about
   serve   Serve clients and cancel requests as a group of poolers, until stopped
-  stub    Run a stand-in server, for trials without PostgreSQL
+  stub    Run a stand-in server, for tests without PostgreSQL
   help    Print this message or the help of the given subcommand(s)
 
 Options:
@@ -97,7 +97,7 @@ Arguments:
   <FILE>...  Settings files, one for each pooler of the group
 
 Options:
-      --all   Tell of every fault, each with a sentence, in place of the first one
+      --all   Report every error, each with a sentence, instead of the first one
   -h, --help  Print help
 
 Examples:
@@ -154,13 +154,13 @@ Options:
       --boot <N>             The number of this start, part of longer keys, 0 to 4294967295 and 0
                              where it isn't given: give another one at each start
       --stand-in             Run a stand-in server at each port of 127.0.0.1 that the settings
-                             name as a server's address, for trials without PostgreSQL
+                             name as a server's address, for tests without PostgreSQL
       --report <NAME=VALUE>  Report this parameter to clients at each login, as PostgreSQL does
                              of its own: give it once for each parameter
       --max-message <BYTES>  The longest message that is passed on, in either direction, as its
                              length field says, and the longest group of messages of an extended
                              query: 8192 to 1073741823, and 1048576 where it isn't given
-      --metrics <PORT>       Serve figures for Prometheus over HTTP at this port of 127.0.0.1,
+      --metrics <PORT>       Serve metrics for Prometheus over HTTP at this port of 127.0.0.1,
                              1 to 65535
       --log <LEVEL>          Which lines of the log are written: 'warn' for those that somebody
                              may have to look into, 'notice' for these and what the group does,
@@ -179,7 +179,7 @@ Examples:
 ";
 
 const STUB: &str = "\
-Run a stand-in server, for trials without PostgreSQL
+Run a stand-in server, for tests without PostgreSQL
 
 Usage: pgpeer stub [--byte] <PORT>
 
