@@ -119,7 +119,15 @@ impl<M: Machine> Acceptor<M> {
                 node.take_reserved(host).ok_or(io::Error::from(AllocError))?
             }
         };
-        let deadline = Deadline::after(host, time_of(serves))?;
+        // A caller is given back where there is no time: dropping it here would need room for its
+        // totals on the stack of each connection.
+        let deadline = match Deadline::after(host, time_of(serves)) {
+            Ok(deadline) => deadline,
+            Err(error) => {
+                node.give_back(host, calling);
+                return Err(error);
+            }
+        };
         let entry = Entry {
             doorway: &self.doorway,
             newcomer,

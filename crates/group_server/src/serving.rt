@@ -125,10 +125,10 @@ impl<M: Machine> Serving<M> {
         }
     }
 
-    // Keeps a caller for the next connection. One that can't be kept is made anew then. It isn't
-    // inlined, so that a connection's stack has no room for a caller that is dropped.
+    /// Keeps a caller for the next connection. One that can't be kept is made anew then. It isn't
+    /// inlined, so that a connection's stack has no room for a caller that is dropped.
     #[inline(never)]
-    fn give_back<R: Wait>(&self, rt: &R, calling: Box<Calling<LinkStream<M>>>) {
+    pub fn give_back<R: Wait>(&self, rt: &R, calling: Box<Calling<LinkStream<M>>>) {
         let _ = self.free.lock(rt).push(calling);
     }
 }
