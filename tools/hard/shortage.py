@@ -1,6 +1,7 @@
 """No descriptors, threads or memory, and outputs that nobody reads."""
 import multiprocessing
 import os
+import resource
 import socket
 import subprocess
 import threading
@@ -9,8 +10,8 @@ import time
 from hard.fake import FakeServer
 from hard.others import Others
 from hard.trial import Pooler, Postgres, bind_to_parent, scenario
-from hard.wire import (Late, Lost, Refused, ask_cancel, connect, make_key, outcome, query_frame, read_end, startup,
-                       time_cancel)
+from hard.wire import (Late, Lost, Reader, Refused, ask_cancel, connect, make_key, outcome, query_frame, read_end,
+                       startup, time_cancel)
 
 FORK = multiprocessing.get_context("fork")
 ALONE = 61000  # numbers of users that have no other process
@@ -105,6 +106,35 @@ def idle_flood(t):
         judge_login(t, f"login {number + 1} meanwhile", pooler, 5)
     others.judge(t)
     flood.kill()
+
+
+@scenario("accept-fails", limit=30)
+def accept_fails(t):
+    """for a while a connection can't be accepted: clients go on, and those that wait are served afterwards"""
+    server = Postgres(t)
+    pooler = Pooler(t, {"shop": server.port}, pool=6)
+    clients, canceller = [pooler.client() for _ in range(6)], pooler.client()
+    wrong = serve_all(clients)
+    process = pooler.process.pid
+    soft, hard = resource.prlimit(process, resource.RLIMIT_NOFILE)
+    resource.prlimit(process, resource.RLIMIT_NOFILE, (3, hard))
+    begun, streams = time.monotonic(), open_strangers(pooler.port, 20)
+    logins = [connect(pooler.port) for _ in range(3)]
+    for stream in logins:
+        stream.sendall(startup("shop"))
+    while time.monotonic() - begun < 2:
+        wrong += serve_all(clients)
+    t.check(not wrong, "six clients meanwhile", served(6, wrong), "6")
+    lines = pooler.errors().splitlines()
+    t.check(any(" accept_failed " in line for line in lines), "the log", lines[-1] if lines else "nothing",
+            "accept_failed")
+    resource.prlimit(process, resource.RLIMIT_NOFILE, (soft, hard))
+    came = [outcome(lambda stream=stream: Reader(stream).read_frame(time.monotonic() + 3)[0]) for stream in logins]
+    t.check(came == ["ok:b'R'"] * 3, "three logins that waited", f"{came}", "a login's first message each")
+    judge_cancel(t, "a cancel afterwards", server, canceller, pooler.port)
+    judge_login(t, "a login afterwards", pooler, 3)
+    for stream in [*streams, *logins]:
+        stream.close()
 
 
 def log_in_until_refused(t, pooler, most):
