@@ -1,25 +1,24 @@
 /* Refuses the allocation whose number, from 1, is in REFUSE, of the program that this is loaded before;
    with ONWARDS set, each later one as well.
+   With EACH set to "FIRST STEP LAST", the program runs once for each of these numbers, for 60 seconds at most. In the
+   folder that OUTPUT names, NUMBER.out and NUMBER.err are what it wrote, and NUMBER.end tells how it ended.
    With COUNT set, how many allocations were asked for goes to standard error at the end. */
 #define _GNU_SOURCE
 #include <dlfcn.h>
 #include <errno.h>
+#include <fcntl.h>
 #include <stdatomic.h>
 #include <stdio.h>
 #include <stdlib.h>
 #include <sys/syscall.h>
+#include <sys/wait.h>
 #include <unistd.h>
 
 static atomic_long asked;
+static long number;
+static int onwards;
 
 static int refused(void) {
-    static long number = -1;
-    static int onwards;
-    if (number == -1) {
-        const char *word = getenv("REFUSE");
-        onwards = getenv("ONWARDS") != NULL;
-        number = word ? atol(word) : 0;
-    }
     long now = atomic_fetch_add(&asked, 1) + 1;
     return now == number || (onwards && number > 0 && now > number);
 }
@@ -38,11 +37,15 @@ void *realloc(void *old, size_t size) {
     return next(old, size);
 }
 
-__attribute__((destructor)) static void tell(void) {
+/* Writes such a line, and allocates nothing. */
+static void write_line(int to, const char *word, long value) {
     char line[32];
-    if (!getenv("COUNT")) return;
-    int length = snprintf(line, sizeof line, "asked %ld\n", (long)asked);
-    if (write(2, line, length) != length) abort();
+    int length = snprintf(line, sizeof line, "%s %ld\n", word, value);
+    if (write(to, line, length) != length) abort();
+}
+
+__attribute__((destructor)) static void tell(void) {
+    if (getenv("COUNT")) write_line(2, "asked", asked);
 }
 
 /* How a program with threads ends. */
@@ -50,4 +53,39 @@ void _exit(int status) {
     tell();
     syscall(SYS_exit_group, status);
     __builtin_unreachable();
+}
+
+static int file(const char *end) {
+    char path[4096];
+    int length = snprintf(path, sizeof path, "%s/%ld.%s", getenv("OUTPUT"), number, end);
+    int opened = length < (int)sizeof path ? open(path, O_CREAT | O_WRONLY | O_TRUNC, 0600) : -1;
+    if (opened < 0) abort();
+    return opened;
+}
+
+/* One run after another, each in a process of its own, which returns from here. */
+static void run_each(char *words) {
+    long first = strtol(words, &words, 10), step = strtol(words, &words, 10), last = strtol(words, &words, 10);
+    for (number = first; step > 0 && number <= last; number += step) {
+        pid_t child = fork();
+        if (child < 0) abort();
+        if (child == 0) {
+            if (dup2(file("out"), 1) < 0 || dup2(file("err"), 2) < 0) abort();
+            alarm(60);
+            return;
+        }
+        int status, end = file("end");
+        if (waitpid(child, &status, 0) != child) abort();
+        if (WIFEXITED(status)) write_line(end, "status", WEXITSTATUS(status));
+        else write_line(end, "signal", WTERMSIG(status));
+        close(end);
+    }
+    _exit(0);
+}
+
+__attribute__((constructor)) static void begin(void) {
+    char *word = getenv("REFUSE"), *words = getenv("EACH");
+    onwards = getenv("ONWARDS") != NULL;
+    if (word) number = atol(word);
+    if (words) run_each(words);
 }
