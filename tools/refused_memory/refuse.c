@@ -1,5 +1,5 @@
 /* Refuses the allocation whose number, from 1, is in REFUSE, of the program that this is loaded before;
-   with ONWARDS set, each later one as well.
+   with ONWARDS set to something, each later one as well.
    With EACH set to "FIRST STEP LAST", the program runs once for each of these numbers, for 60 seconds at most. In the
    folder that OUTPUT names, NUMBER.out and NUMBER.err are what it wrote, and NUMBER.end tells how it ended.
    With COUNT set, how many allocations were asked for goes to standard error at the end. */
@@ -84,8 +84,8 @@ static void run_each(char *words) {
 }
 
 __attribute__((constructor)) static void begin(void) {
-    char *word = getenv("REFUSE"), *words = getenv("EACH");
-    onwards = getenv("ONWARDS") != NULL;
+    char *word = getenv("REFUSE"), *words = getenv("EACH"), *later = getenv("ONWARDS");
+    onwards = later && *later;
     if (word) number = atol(word);
     if (words) run_each(words);
 }
