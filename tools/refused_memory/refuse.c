@@ -1,7 +1,7 @@
 /* Refuses the allocation whose number, from 1, is in REFUSE, of the program that this is loaded before;
    with ONWARDS set to something, each later one as well.
-   With EACH set to "FIRST STEP LAST", the program runs once for each of these numbers, for 60 seconds at most. In the
-   folder that OUTPUT names, NUMBER.out and NUMBER.err are what it wrote, and NUMBER.end tells how it ended.
+   With EACH set to "FIRST STEP LAST", the program runs once for each of these numbers, for LIMIT seconds at most. In
+   the folder that OUTPUT names, NUMBER.out and NUMBER.err are what it wrote, and NUMBER.end tells how it ended.
    With COUNT set, how many allocations were asked for goes to standard error at the end. */
 #define _GNU_SOURCE
 #include <dlfcn.h>
@@ -71,7 +71,7 @@ static void run_each(char *words) {
         if (child < 0) abort();
         if (child == 0) {
             if (dup2(file("out"), 1) < 0 || dup2(file("err"), 2) < 0) abort();
-            alarm(60);
+            alarm(atoi(getenv("LIMIT")));
             return;
         }
         int status, end = file("end");
