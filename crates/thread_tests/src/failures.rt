@@ -1,9 +1,10 @@
 //! One call of a connection's streams fails, each in its turn: a read, a write or a connect, from
-//! the first packet to the end. Nothing is left of the connection then, and what is written after
-//! the failure is the error of a lost link, the byte for a request that may still be acted on, or
-//! nothing.
+//! the first packet to the end. Nothing is left of the connection then; no link was given back but
+//! after a whole reply that left its client idle; and what is written after the failure is the
+//! error of a lost link, the byte for a request that may still be acted on, or nothing.
 use crate::calls::{assert_spent, calls_of};
 use crate::line::{Dials, Failing, Fault, Line, Side, Stage};
+use crate::refused::assert_closed;
 use crate::shown::{assert_nothing_held, assert_words};
 use crate::stories::{ANSWERS, ANSWERS_LAST, ASKS_LAST, STORIES, Story};
 use crate::story::{NODE, Others, calling, visit, visit_all};
@@ -29,6 +30,14 @@ fn assert_reported(rt: &impl Abort, story: &Story, stage: &Stage, caller: &Calle
     assert_eq!(rt; failed, expected);
 }
 
+// Nothing is left of the connections of this stage's clients, and no link was given back but after
+// a whole reply that left its client idle.
+#[track_caller]
+fn assert_settled(rt: &impl Abort, caller: &Caller<Link<Line>>, stage: &Stage) {
+    assert_spent(rt, caller);
+    assert_closed(rt, caller, stage.answered());
+}
+
 // What there is of a story.
 #[derive(Clone, Copy)]
 struct Scene<'a> {
@@ -45,7 +54,7 @@ fn come<R: Wait + Abort>(rt: &R, scene: Scene<'_>, calling: &mut Calling<Line>) 
     let dials = Dials::new(scene.failing, story.servers);
     let Some(keeper) = story.keeper else {
         let done = visit_all(rt, alloc, calling, &dials, &Open, story.clients);
-        assert_spent(rt, calling.caller());
+        assert_settled(rt, calling.caller(), scene.failing);
         assert_words(rt, alloc, calling, &dials);
         return done;
     };
@@ -55,10 +64,10 @@ fn come<R: Wait + Abort>(rt: &R, scene: Scene<'_>, calling: &mut Calling<Line>) 
     let own_dials = Dials::new(scene.calm, &[ANSWERS]);
     let others = Others::new(alloc, scene.calm, second, &dials, story.clients);
     assert!(rt; visit(rt, alloc, calling, &own_dials, &others, keeper));
-    assert_spent(rt, calling.caller());
+    assert_settled(rt, calling.caller(), scene.calm);
     let done = others.are_done();
     let mut theirs = others.into_calling();
-    assert_spent(rt, theirs.caller());
+    assert_settled(rt, theirs.caller(), scene.failing);
     assert_reported(rt, story, scene.failing, theirs.caller());
     assert_words(rt, alloc, &mut theirs, &own_dials);
     done

@@ -1,6 +1,7 @@
 //! Streams in one thread of which one call may be made to fail, and what connects to them. What
 //! happens to links is logged.
 use crate::log::{Event, Log, written};
+use crate::messages::IDLE;
 use crate::talk::{Talk, Turn, is_error, is_out_of_memory};
 use node_threads::Opener;
 use pg_ids::{DatabaseNo, PeerNo};
@@ -55,6 +56,8 @@ struct Seen {
     is_inside: bool,
     // Whether the client has the error of the failure.
     is_told: bool,
+    // How often a client took the end of a whole reply that leaves it idle.
+    answered: u32,
     // How often a stream was read or written that should be left alone.
     strays: usize,
 }
@@ -79,6 +82,7 @@ impl Stage {
             failed: None,
             is_inside: false,
             is_told: false,
+            answered: 0,
             strays: 0,
         };
         let stage = Stage {
@@ -102,6 +106,11 @@ impl Stage {
     // How many calls there were.
     pub(crate) fn calls(&self) -> usize {
         self.seen.get().calls
+    }
+
+    // How often a client took the end of a whole reply that leaves it idle.
+    pub(crate) fn answered(&self) -> u32 {
+        self.seen.get().answered
     }
 
     // From now on no call fails, and the server of a link does this.
@@ -135,6 +144,13 @@ impl Stage {
         seen.strays = seen.strays.wrapping_add(1);
         self.seen.set(seen);
         Err(io::Error::from(ErrorKind::BrokenPipe))
+    }
+
+    // A client took the end of a whole reply that leaves it idle.
+    fn answer(&self) {
+        let mut seen = self.seen.get();
+        seen.answered = seen.answered.wrapping_add(1);
+        self.seen.set(seen);
     }
 
     fn set_inside(&self, is_inside: bool) {
@@ -274,12 +290,20 @@ impl Line {
         }
         match self.talk.write(bytes) {
             Ok(count) => {
-                self.is_greeted = self.is_greeted || bytes.len() > 1;
+                self.note(bytes);
                 Ok(count)
             }
             Err(error) if self.may_be_told(bytes) => Err(error),
             Err(_) => self.stage.stray(),
         }
+    }
+
+    // It took these bytes. The greeting of a client ends as a reply does, and isn't one.
+    fn note(&mut self, bytes: &[u8]) {
+        if self.side == Side::Client && self.is_greeted && bytes.ends_with(IDLE) {
+            self.stage.answer();
+        }
+        self.is_greeted = self.is_greeted || bytes.len() > 1;
     }
 
     // Where memory was refused a client may be told so before its greeting.

@@ -383,7 +383,8 @@ fn come<R: Wait + Abort>(
 }
 
 // A link is given back by a client that had the whole answer alone: else it is closed.
-fn assert_closed<S: Drop>(rt: &impl Abort, caller: &Caller<S>, whole: u32) {
+#[track_caller]
+pub(crate) fn assert_closed<S: Drop>(rt: &impl Abort, caller: &Caller<S>, whole: u32) {
     let idle = calls_of(caller, CallAnswer::ReleasedIdle);
     let quarantined = calls_of(caller, CallAnswer::ReleasedQuarantined);
     let released = idle.wrapping_add(quarantined);

@@ -273,7 +273,8 @@ fn failing<'a>(pieces: &'a [&'a [u8]], breaks: bool, room: usize) -> Script<'a> 
     }
 }
 
-// A read of the link, a write of the link and a write of the client that fail.
+// A read of the link, a write of the link, a write of the client, and a read of the client in an
+// open transaction that fail.
 #[test]
 fn failures(rt: HostRuntime) -> Result<(), Fail> {
     let cut = comes_of(End(LOST), BEGIN, BEGIN_DONE);
@@ -282,7 +283,10 @@ fn failures(rt: HostRuntime) -> Result<(), Fail> {
     let unsent = comes_of(End(LOST), b"Q\0\0\0\x0ab", b"");
     assert_stay(&rt, reads(&[]), failing(&[ROW], false, 6), &unsent)?;
     let untold = comes_of(End(b""), BEGIN, b"C\0\0\0\x0aBEGI");
-    assert_stay(&rt, failing(&[], false, 9), reads(&[BEGUN]), &untold)
+    assert_stay(&rt, failing(&[], false, 9), reads(&[BEGUN]), &untold)?;
+    let unheard = comes_of(End(b""), BEGIN, BEGUN);
+    let gone = failing(&[], true, 5_000_000);
+    assert_stay(&rt, gone, reads(&[BEGUN]), &unheard)
 }
 
 // What the client sends after its first request, what the link gives, and what comes of it.

@@ -1,4 +1,5 @@
 //! What happens at a node while a call fails: clients, requests, and what they get.
+use crate::consoles::CONSOLES;
 use crate::line::Fault;
 use crate::messages::{
     BEGIN, BEGUN, COMMIT, COMMITTED, IDLE, LOGIN, LOWERED, OPEN, QUERY, ROW, STARTUP, TERMINATE,
@@ -221,6 +222,15 @@ pub(crate) const STORIES: &[Story] = &[
                 LOST,
             ],
         ],
+        servers: &[],
+        faults: ALL,
+        told: LOST,
+        fails: false,
+    },
+    // Clients of the console, which has no link.
+    Story {
+        keeper: None,
+        clients: CONSOLES,
         servers: &[],
         faults: ALL,
         told: LOST,
