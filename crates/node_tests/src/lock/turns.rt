@@ -156,7 +156,8 @@ fn start_anew<R: Wait>(
     unreachable!()
 }
 
-// While the only link is held, sixteen clients wait; a new start wakes each of them.
+// While the only link is held, sixteen clients wait, and after a new start none waits again. How
+// soon they are woken `wakes` tells.
 #[test]
 fn all_are_woken_by_a_new_start(rt: HostRuntime) -> Result<(), Fail> {
     let (shared, mut first) = Shared::new(rt.alloc(), alone(rt.alloc(), 1, 1, 17)?)?;
