@@ -1,5 +1,6 @@
 //! What a link's message means to a session, by its head and by its status.
-ghost use Rattle.std.specs.Prelude.{◌≡◌, ◌↔◌, IsTrue};
+ghost use Rattle.std.specs.Prelude.{◌≡◌, ◌↔◌, ℕ, IsTrue, codes};
+ghost use Rattle.client_state.specs.Text.{is_one_of};
 ghost use Rattle.client_state.specs.LinkMessage.{link_message};
 ghost use Rattle.client_state.specs.declared.link_message.LinkMessage.{LinkMessage as MessageOf};
 
@@ -46,15 +47,26 @@ impl LinkMessage {
     }
 }
 
-/// Whether a session passes a message of this type and this length field on to its client.
-#[inline]
-pub fn is_passed_on(kind: u8, length: usize) -> bool
-    ensures { IsTrue result ↔ (link_message kind length ≡ MessageOf.PassOn) }
+/// Whether a session passes a message of this type on to its client, whatever its length field is.
+/// The types of most replies are tested first.
+#[inline(always)]
+#[tactic(auto, unfolding(crate::specs::LinkMessage::link_message))]
+pub fn is_passed_on(kind: u8) -> bool
+    ensures { (length : ℕ) → IsTrue result ↔ (link_message kind length ≡ MessageOf.PassOn) }
 {
-    match LinkMessage::of(kind, length) {
-        LinkMessage::PassOn => true,
-        LinkMessage::Ready | LinkMessage::Refused(_) => false,
+    match kind {
+        b'T' | b'D' | b'C' | b'I' | b'E' | b'N' | b'S' => true,
+        _ => is_other_passed_on(kind),
     }
+}
+
+// Whether it is the type of a message that only extended queries are answered with.
+#[inline(never)]
+#[tactic(auto, unfolding(crate::specs::LinkMessage::link_message))]
+fn is_other_passed_on(kind: u8) -> bool
+    ensures { IsTrue result ↔ IsTrue (is_one_of (codes "123nst") kind) }
+{
+    matches!(kind, b'1' | b'2' | b'3' | b'n' | b's' | b't')
 }
 
 impl Status {

@@ -1,7 +1,7 @@
 //! The stream of a link, and of a connection for a cancel request.
 ghost use Rattle.std.specs.Io.{ReadsAtMost, WritesAtMost};
 
-use crate::error_kind::{with_error, with_kind};
+use crate::error_kind::{Cause, with_error, with_kind};
 use crate::limits::{LOOK_MILLIS, WRITE_MILLIS};
 use crate::looks::Looks;
 use crate::poll::{is_ended, is_quiet, wait_both};
@@ -185,10 +185,10 @@ impl<M: Machine> Inside<M> {
 
     // Goes on after a read of the socket that failed.
     #[inline(never)]
-    fn read_on(&mut self, error: io::Error, buffer: &mut [u8]) -> Result<usize, ErrorKind>
+    fn read_on(&mut self, cause: Cause, buffer: &mut [u8]) -> Result<usize, ErrorKind>
         ensures bound { ReadsAtMost result buffer.new }
     {
-        let read = self.read_again(error, buffer);
+        let read = self.read_again(cause.error(), buffer);
         with_kind(self.look(buffer, read))
     }
 
@@ -258,10 +258,10 @@ impl<M: Machine> Inside<M> {
 
     // Goes on after a write to the socket that failed: what it doesn't take soon is kept.
     #[inline(never)]
-    fn write_on(&mut self, error: io::Error, bytes: &[u8]) -> Result<usize, ErrorKind>
+    fn write_on(&mut self, cause: Cause, bytes: &[u8]) -> Result<usize, ErrorKind>
         ensures bound { WritesAtMost result bytes.now }
     {
-        match self.begin_to_keep(error) {
+        match self.begin_to_keep(cause.error()) {
             Ok(()) => self.keep(bytes),
             Err(error) => {
                 self.looks.fail(&self.machine, &error);
@@ -308,7 +308,7 @@ impl<M: Machine> Read for LinkStream<M> {
                 Ok(0)
             }
             Ok(count) => Ok(count),
-            Err(error) => with_error(inside.read_on(error, buffer)),
+            Err(error) => with_error(inside.read_on(Cause::of(&error), buffer)),
         }
     }
 }
@@ -322,7 +322,7 @@ impl<M: Machine> Write for LinkStream<M> {
         }
         match inside.socket.write(bytes) {
             Ok(count) => Ok(count),
-            Err(error) => with_error(inside.write_on(error, bytes)),
+            Err(error) => with_error(inside.write_on(Cause::of(&error), bytes)),
         }
     }
 

@@ -128,7 +128,8 @@ impl<S> Link<S, Held> {
     }
 
     /// Spends the lease without a step, as `close` does: where a journal or a caller has used up
-    /// its calls, for leases that a world makes, and at a desk that is a list. Returns its stream.
+    /// its calls, at a desk that is a list, and for what the command `decide` holds at its end.
+    /// Returns its stream.
     pub fn forfeit(self) -> S
         ensures { result ≡ self.stream }
     {

@@ -33,7 +33,8 @@ impl<R> Token<R> {
     }
 
     /// Spends the token without a step, as `spend` does: where a journal or a caller has used up
-    /// its calls, for values that a world makes, and at a desk that is a list. Returns its record.
+    /// its calls, at a desk that is a list, and for what the command `decide` holds at its end.
+    /// Returns its record.
     pub fn forfeit(self) -> R
         ensures { result ≡ self }
     {

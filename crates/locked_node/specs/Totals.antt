@@ -63,7 +63,7 @@ SameSum a b = a % 2 ^ 128 ≡ b % 2 ^ 128
 -- this was noted of a call: its kind and its numbers
 pub record IsCountOf (call : Exchange) (note : CallNote) : Type 0 where
   pub kind : note.kind ≡ kind_of call
-  pub numbers : note.numbers.items ≡ numbers_of call
+  pub numbers : note.numbers ≡ numbers_of call
 
 -- a tally of no call
 pub record IsEmpty (tally : Tally) : Type 0 where

@@ -35,7 +35,7 @@ impl CallNote {
     #[inline(always)]
     pub(crate) fn begin(&mut self, answer: CallAnswer, key: Kind)
         ensures kind { self.new.kind ≡ record { answer = answer; key = key } }
-        ensures numbers { self.new.numbers.items ≡ [] }
+        ensures numbers { self.new.numbers ≡ [] }
         ensures woken { self.new.turn.woken ≡ Nobody }
     {
         self.kind = CallKind { answer, key };

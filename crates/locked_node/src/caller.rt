@@ -2,6 +2,7 @@
 ghost use Rattle.std.specs.Prelude.{◌≡◌, ◌<◌, ◌≤◌, IfNone, IfSome};
 
 use crate::call_kind::CallKind;
+use crate::call_note::CallNote;
 use crate::rule::Place;
 use crate::shared::Shared;
 use crate::tally::Tally;
@@ -17,6 +18,8 @@ pub struct Caller<S> {
     pub(crate) seat: Place<S>,
     pub(crate) allowance: u128,
     pub(crate) tally: Tally,
+    // What was noted of its last call.
+    pub(crate) note: CallNote,
 }
 
 impl<S> Model for Caller<S> {
@@ -74,6 +77,7 @@ impl<S: Drop> Caller<S> {
             seat,
             allowance: PART,
             tally: Tally::new(),
+            note: CallNote::new(),
         })
     }
 

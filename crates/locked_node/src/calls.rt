@@ -19,7 +19,6 @@ ghost use Rattle.node_core.specs.declared.refusal.JoinRefusal.TheVariants as joi
 ghost use Rattle.node_core.specs.declared.refusal.CancelRefusal.TheVariants as cancel;
 
 use crate::call::Call;
-use crate::call_note::CallNote;
 use crate::caller::Caller;
 use crate::shared::Shared;
 use crate::steps::{
@@ -47,12 +46,11 @@ impl<S: Drop> Shared<S> {
         if caller.allowance == 0 {
             return call.forfeit();
         }
-        let mut note = CallNote::new();
         self.take(rt, &mut caller.seat);
-        let reply = self.make(&mut caller.seat, call, &mut note);
-        self.pass_on(rt, &mut caller.seat, &note.turn);
+        let reply = self.make(&mut caller.seat, call, &mut caller.note);
+        self.pass_on(rt, &mut caller.seat, &caller.note.turn);
         caller.allowance -= 1;
-        caller.tally.add(&note);
+        caller.tally.add(&caller.note);
         reply
     }
 

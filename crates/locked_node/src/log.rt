@@ -1,12 +1,13 @@
 //! The last calls of a node, and the totals of all.
 ghost use Rattle.std.specs.Prelude.{◌≡◌, ◌+◌, ◌<◌, ◌≤◌, [], length, IfOk, MatchBool};
 ghost use Rattle.link_pool.specs.declared.replies.AcquireReply.TheVariants as acquire;
+ghost use Rattle.link_pool.specs.declared.replies.ReleaseReply.TheVariants as release;
 ghost use Rattle.node_core.specs.declared.exchange.Exchange.TheVariants as call;
 
 use crate::call_note::CallNote;
 use crate::tally::Tally;
 use circular_buffer::{HeapCircularBuffer, Iter};
-use node_core::{AcquireReply, Exchange, LinkRecord, PassRecord, PermitRecord};
+use node_core::{AcquireReply, Exchange, LinkRecord, PassRecord, PermitRecord, ReleaseReply};
 use std::alloc::{AllocError, Global};
 use std::marker::Model;
 
@@ -117,20 +118,34 @@ impl Log {
     pub(crate) fn put(&mut self, call: &Exchange)
         ensures { Puts self.old call.now self.new }
     {
+        self.put_here(*call);
+    }
+
+    // The same, with the call written where it is kept.
+    #[inline(always)]
+    fn put_here(&mut self, call: Exchange)
+        ensures { Puts self.old call self.new }
+    {
         if self.tail.is_full() {
-            self.tail.push_back(Entry { call: *call });
-            return;
+            self.tail.truncate_front(TAIL - 1);
         }
-        // Where there is room, the entry is copied once.
-        let _none = self.tail.try_push_back(Entry { call: *call });
+        let _none = self.tail.try_push_back(Entry { call });
     }
 
     /// Puts the call of a client that got this link, likewise.
-    #[inline(never)]
+    #[inline(always)]
     pub(crate) fn put_got(&mut self, pass: &PassRecord, lease: &LinkRecord)
         ensures { Puts self.old (call.Acquire pass.now (acquire.Got lease.now)) self.new }
     {
-        self.put(&Exchange::Acquire(*pass, AcquireReply::Got(*lease)));
+        self.put_here(Exchange::Acquire(*pass, AcquireReply::Got(*lease)));
+    }
+
+    /// Puts the call of a client whose link is idle again, likewise.
+    #[inline(always)]
+    pub(crate) fn put_released(&mut self, lease: &LinkRecord)
+        ensures { Puts self.old (call.Release lease.now release.Idle) self.new }
+    {
+        self.put_here(Exchange::Release(*lease, ReleaseReply::Idle));
     }
 
     /// Puts the call of a client that may open a link by this permit, likewise.

@@ -97,6 +97,7 @@ impl<S: Drop> Shared<S> {
             seat,
             allowance,
             tally,
+            note: CallNote::new(),
         };
         let shared = Shared {
             table,
@@ -125,6 +126,7 @@ impl<S: Drop> Shared<S> {
             seat,
             allowance: _,
             tally: _,
+            note: _,
         } = caller;
         let mut closed = table.close_with(seat);
         let word = closed.word(0);

@@ -186,8 +186,8 @@ abbrev pub Joins : ℕ → ℕ → Kind → Result PassRecord JoinRefusal → Ca
 Joins database secret kind answer old new =
     Counted (step.Join database secret kind answer) answer (Err join.Exhausted) old new
 
--- A client that got a slot was served, and gave its pass back. After that it was written what it is
--- to read at the end.
+-- A client that got a slot was served, gave its pass back, and was written what it is to read at
+-- the end.
 pub record HasServed {T : Type 0} (limit : ℕ) (wrote gave : Effect T) (reports : List Report)
     (database secret : ℕ) (kind : Kind) (kept : List ℕ) (calls : List Call) (left : List ℕ)
     (old new : CallerView) : Type 0 where

@@ -1,12 +1,12 @@
 -- What the calls of carrying say of the bytes and of the end.
-use Rattle.std.proofs.Common.{◌≡◌, ◌⊎◌, inl, inr, ℕ, zero, suc, true, false, List, [], ◌∷◌, ◌++◌, length, reverse, get_or, Result, Ok, Err, refl, sym, ap, ◌∙◌, subst, arith, append-nil, length-append}
+use Rattle.std.proofs.Common.{◌≡◌, inl, inr, ℕ, zero, suc, true, false, List, [], ◌∷◌, ◌++◌, length, reverse, get_or, Result, Ok, Err, refl, sym, ap, ◌∙◌, arith, append-nil, length-append}
 use Rattle.std.proofs.lemmas.List.{reverse-append}
 use Rattle.std.specs.declared.io.Error.{Error}
 use Rattle.peer_forward.specs.declared.outcome.Outcome.{Outcome}
 use Rattle.peer_forward.specs.declared.outcome.Outcome.TheVariants.{Ended, Failed}
 use Rattle.peer_forward.specs.Calls.{Call, ReadCall, Effect, Makes, taken}
 use Rattle.peer_forward.specs.Writing.{Writes}
-use Rattle.peer_forward.specs.Carrying.{outcome_of, Carries, EndsWithoutByte, Carried}
+use Rattle.peer_forward.specs.Carrying.{outcome_of, Carried}
 use Rattle.peer_forward.proofs.CallLemmas.{Makes-append, taken-append, taken_is}
 use Rattle.peer_forward.proofs.WritingLemmas.{wrote_so}
 

@@ -1,6 +1,6 @@
 -- The calls of writing a text, one after another, and what they say of its bytes.
 use Rattle.std.proofs.Common.{◌≡◌, ℕ, ◌+◌, ◌<◌, ◌≤◌, zero, suc, Bool, true, false, List, [], ◌∷◌, ◌++◌, length, take, drop, Result, Ok, Err, refl, sym, ap, ◌∙◌, subst, arith, append_assoc, append-nil, length-drop, length-take, take-append-drop}
-use Rattle.std.proofs.lemmas.List.{drop-drop, take-append-le}
+use Rattle.std.proofs.lemmas.List.{drop-drop, take-append-le, take_all}
 use Rattle.std.specs.declared.io.Error.{Error}
 use Rattle.peer_forward.specs.Calls.{Call, WriteCall, ReadCall, Effect, Makes}
 use Rattle.peer_forward.specs.Writing.{IsFailedWrite, Wrote, WroteSome, Writes}
@@ -129,4 +129,28 @@ writes_wrote wrote gave a b text whole same writes is = (
   writes.0,
   writes.1,
   subst (λ (w : Bool). WroteSo w text writes.0) is (wrote_so text writes.0 whole writes.2),
+)
+
+-- the first write of a text, which is handed all of it, failed or took nothing
+pub first_failed : {T : Type 0} (wrote gave : Effect T) (a b : T) (text : List ℕ)
+    (result : Result ℕ Error) → 0 < length text → length text ≤ 16384
+    → IsFailedWrite (WriteCall text result) → wrote a text result b
+    → (calls : List Call) × Makes wrote gave a calls b × Writes text calls false
+first_failed wrote gave a b text result some fits none call = (
+  WriteCall text result ∷ [],
+  (b, call, refl),
+  write_none text text result some (sym (take_all 16384 text fits)) none,
+)
+
+-- it took some, and these calls wrote the rest
+pub first_some : {T : Type 0} (wrote gave : Effect T) (a b c : T) (text : List ℕ) (count : ℕ)
+    (whole : Bool) → length text ≤ 16384 → 0 < count → count ≤ length text
+    → wrote a text (Ok count) b
+    → ((calls : List Call) × Makes wrote gave b calls c × Writes (drop count text) calls whole)
+    → (calls : List Call) × Makes wrote gave a calls c × Writes text calls whole
+first_some wrote gave a b c text count whole fits took within call rest = (
+  WriteCall text (Ok count) ∷ rest.0,
+  (b, call, rest.1),
+  write_some text text count rest.0 whole (omega (arith, took, within))
+      (sym (take_all 16384 text fits)) took within rest.2,
 )

@@ -10,7 +10,8 @@ const MAX_WRITE: usize = 16_384;
 
 /// Writes the bytes in pieces of at most 16,384 bytes, and returns whether all of them were taken.
 /// A call that is interrupted has failed, and none is tried again. It takes no memory and doesn't
-/// flush.
+/// flush. Most texts are taken whole by the first write, so the others stand apart.
+#[inline(always)]
 pub fn write_whole<T: WriteCalls + ReadCalls>(stream: &mut T, bytes: &[u8]) -> bool
     ensures whole { result ≡ true → (calls : List Call)
         × Makes T.wrote T.gave stream.old calls stream.new × Wrote bytes.now calls }
@@ -18,6 +19,28 @@ pub fn write_whole<T: WriteCalls + ReadCalls>(stream: &mut T, bytes: &[u8]) -> b
         × Makes T.wrote T.gave stream.old calls stream.new × WroteSome bytes.now calls }
     // Which calls are made, and the result, follow from the results of the calls.
     ensures writes { (calls : List Call) × Makes T.wrote T.gave stream.old calls stream.new
+        × Writes bytes.now calls result }
+{
+    let len = bytes.len();
+    if len == 0 || len > MAX_WRITE {
+        return write_rest(stream, bytes);
+    }
+    let Ok(count) = stream.write_once(bytes) else {
+        return false;
+    };
+    if count == len {
+        return true;
+    }
+    if count == 0 {
+        return false;
+    }
+    write_rest(stream, bytes.split_at(count).1)
+}
+
+// Writes the bytes, by as many writes as that takes.
+#[inline(never)]
+fn write_rest<T: WriteCalls + ReadCalls>(stream: &mut T, bytes: &[u8]) -> bool
+    ensures { (calls : List Call) × Makes T.wrote T.gave stream.old calls stream.new
         × Writes bytes.now calls result }
 {
     let mut taken = 0;

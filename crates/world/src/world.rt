@@ -58,7 +58,7 @@ impl World {
         ensures step { IfOk result (λ took. WorldStep event.now took self.old self.new) }
         ensures settled { SettledStays self.old self.new }
         ensures err { OnErr result (self.new ≡ self.old) }
-        // It may be refused only to an admissible event that makes the world larger.
+        // It may be refused only to an admissible event of a kind that can make the world larger.
         ensures memory { OnErr result (NeedsRoom event.now × Admissible self.old event.now) }
     {
         self.advance(event)

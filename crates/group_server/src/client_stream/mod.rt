@@ -180,7 +180,7 @@ impl<'a, M: Machine> Read for ClientStream<'a, M> {
                 self.is_sending = count == room;
                 Ok(count)
             }
-            Err(error) => with_error(self.read_on(error, buffer)),
+            Err(error) => with_error(self.read_on(error.kind(), buffer)),
         }
     }
 }
@@ -200,7 +200,7 @@ impl<'a, M: Machine> Write for ClientStream<'a, M> {
             }
             Err(error) => {
                 self.last = LastCall::Failed;
-                Err(error)
+                with_error(Err(error.kind()))
             }
         }
     }

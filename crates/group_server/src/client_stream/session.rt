@@ -70,7 +70,7 @@ impl<'a, M: Machine> ClientStream<'a, M> {
     #[inline(never)]
     pub(super) fn read_on(
         &mut self,
-        error: io::Error,
+        error: ErrorKind,
         buffer: &mut [u8],
     ) -> Result<usize, ErrorKind>
         ensures bound { ReadsAtMost result buffer.new }
@@ -84,9 +84,10 @@ impl<'a, M: Machine> ClientStream<'a, M> {
     }
 
     // Reads the socket when something comes, after a read of it that failed.
-    fn read_again(&mut self, error: io::Error, buffer: &mut [u8]) -> io::Result<usize>
+    fn read_again(&mut self, error: ErrorKind, buffer: &mut [u8]) -> io::Result<usize>
         ensures bound { ReadsAtMost result buffer.new }
     {
+        let error = io::Error::from(error);
         if !is_pause(&error) {
             return Err(error);
         }

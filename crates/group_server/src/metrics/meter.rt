@@ -126,6 +126,9 @@ impl Meter {
     /// The client has ended its transaction, and has no link any more.
     #[inline]
     pub fn end(&self) {
+        if self.node.is_none() {
+            return;
+        }
         if let Some(pool) = self.pool.get() {
             pool.end();
             pool.pass(self.received.replace(0), self.sent.replace(0));

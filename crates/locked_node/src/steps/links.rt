@@ -174,7 +174,7 @@ impl<S: Drop> Call<S> for Release<S> {
     fn record(details: &Self::Details, reply: &Self::Reply, log: &mut Log, note: &mut CallNote) {
         match reply {
             ReleaseReply::Idle => {
-                log.put(&Exchange::Release(*details, ReleaseReply::Idle));
+                log.put_released(details);
                 note.begin(CallAnswer::ReleasedIdle, Kind::Short);
             }
             ReleaseReply::Quarantined => {

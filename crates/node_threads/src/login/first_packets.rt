@@ -16,7 +16,7 @@ use std::alloc::Global;
 use std::sync::Wait;
 
 // How many bytes are read at once.
-const MAX_READ: usize = 4_096;
+const MAX_READ: usize = 1_024;
 
 // How many bytes a request for encryption takes.
 const NEGOTIATION_LEN: usize = 8;

@@ -145,6 +145,7 @@ fn greet<C: WriteCalls + ReadCalls>(
 
 // Reads a client's next request and serves its transaction. Returns what is to be written to the
 // client where the session ends.
+#[inline(always)]
 fn serve_request<R, O, G, C>(
     service: Service<'_, R, Link<O::Stream>, O, G>,
     caller: &mut Caller<Link<O::Stream>>,

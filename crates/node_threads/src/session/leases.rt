@@ -36,6 +36,7 @@ pub enum Acquired<L> {
 }
 
 /// Asks for a link for a client, opens one if the node says so, and waits for its turn otherwise.
+#[inline(always)]
 pub fn acquire<R: Wait, O: Opener, G: Gate>(
     service: Service<'_, R, Link<O::Stream>, O, G>,
     caller: &mut Caller<Link<O::Stream>>,

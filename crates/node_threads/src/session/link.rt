@@ -45,6 +45,7 @@ pub(crate) fn read_up_to<const MOST: usize, L: WriteCalls + ReadCalls>(link: &mu
 
 /// Reads once into this memory, and returns how many bytes came: none at the end of the input, and
 /// where the read failed.
+#[inline(always)]
 pub(crate) fn read_into<T: WriteCalls + ReadCalls>(stream: &mut T, room: &mut Vec<u8>) -> usize
     requires { 0 < vec_len room.old }
     ensures within { result ≤ vec_len room.new }

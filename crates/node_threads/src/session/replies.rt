@@ -111,7 +111,7 @@ fn next_passed(flow: &Flow) -> Option<Header>
         × (link_message head.kind head.length ≡ PassOn)) }
 {
     match flow.whole_frame() {
-        Some(head) if is_passed_on(head.kind, head.length) => Some(head),
+        Some(head) if is_passed_on(head.kind) => Some(head),
         _ => None,
     }
 }

@@ -31,6 +31,7 @@ enum Found {
 
 /// Reads the client's next request, with a lease in an open transaction or without one, or returns
 /// what is to be written to the client as the session ends.
+#[inline(always)]
 pub fn next_request<R: Wait, C: WriteCalls + ReadCalls>(
     rt: &R,
     session: &mut Client,
@@ -56,6 +57,7 @@ pub fn next_request<R: Wait, C: WriteCalls + ReadCalls>(
 
 // Reads the client once, of which nothing is pending. It returns what to do where one whole Query
 // came, or nothing more comes.
+#[inline(always)]
 fn read_first<C: WriteCalls + ReadCalls>(
     session: &mut Client,
     client: &mut C,

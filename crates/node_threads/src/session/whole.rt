@@ -170,10 +170,11 @@ fn passed_head(limit: MessageLimit, bytes: &[u8]) -> Option<Header>
         × (1 + head.length ≤ length bytes.now)
         × (link_message head.kind head.length ≡ PassOn)) }
 {
-    match whole_head(limit, bytes) {
-        Some(head) if is_passed_on(head.kind, head.length) => Some(head),
-        _ => None,
+    // Most types are passed on, and the type is judged in fewer steps than the whole head.
+    if !is_passed_on(*bytes.first()?) {
+        return None;
     }
+    whole_head(limit, bytes)
 }
 
 // The status of a ReadyForQuery that these bytes are, if it is known.

@@ -1,6 +1,6 @@
 use Rattle.std.proofs.Common.{◌≤◌, ◌-◌, length, drop}
 use Rattle.peer_forward.proofs.WritingLemmas.{WritesTo}
-use Rattle.peer_forward.proofs.writing.write_whole.Given as goal
+use Rattle.peer_forward.proofs.writing.write_rest.Given as goal
 
 -- the writes so far leave the rest
 abbrev pub invariant-loop-taken : goal.invariant-loop-taken
