@@ -186,6 +186,7 @@ where
 
 // Serves a request with what came of asking for a link. Returns what is to be written to the client
 // where the session ends.
+#[inline(always)]
 fn serve_acquired<R, O, G, C>(
     service: Service<'_, R, Link<O::Stream>, O, G>,
     caller: &mut Caller<Link<O::Stream>>,
