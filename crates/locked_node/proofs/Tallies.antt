@@ -226,10 +226,3 @@ counts_call old new more kind call long h is added cells = record {
         (λ l. let x = l.1 old in let z = l.1 new in let n = next k l.0 in let same = apart k ne l.0 (get_or START k 0) (omega arith) (omega (arith, n)) in omega (arith, x, z, same))
         (λ l. let x = l.1 old in let z = l.1 new in omega (arith, x, z))
         (calls_lie k)
-
--- before any number is added
-pub none_added : (from : ℕ) (cells numbers : List ℕ) → AddedTo from 0 cells numbers cells
-none_added from cells numbers = record {
-  inside = λ k none. absurd (omega (arith, none));
-  beside = λ p at. refl;
-}

@@ -1,5 +1,5 @@
 //! Calls counted by their kind, with the sums of their numbers.
-ghost use Rattle.std.specs.Prelude.{◌≡◌, ◌+◌, ◌^◌, ◌<◌, ◌≤◌, ℕ, List, length, slice_index};
+ghost use Rattle.std.specs.Prelude.{◌≡◌, ◌+◌, ◌^◌, ◌<◌, ◌≤◌, length, slice_index};
 ghost use Rattle.locked_node.specs.CallNumbers.{KINDS};
 ghost use Rattle.locked_node.specs.Adding.{AddedTo};
 ghost use Rattle.locked_node.specs.declared.tally.TheConstants.{START, CELLS};
@@ -39,8 +39,9 @@ fn start_of(kind: usize) -> usize
     START[kind]
 }
 
-// Adds the first numbers to the cells from a place on.
-#[inline(never)]
+// Adds the first numbers to the cells from a place on. Where it is inlined with a constant count, it
+// has no loop.
+#[inline(always)]
 fn add_first(cells: &mut [u128; CELLS], from: usize, numbers: &[u64], count: usize)
     requires few { count ≤ length numbers.now }
     requires room { from + count ≤ CELLS }
@@ -52,60 +53,16 @@ fn add_first(cells: &mut [u128; CELLS], from: usize, numbers: &[u64], count: usi
     }
 }
 
-// Adds one of the numbers to its cell, which is this far behind a place.
-#[inline(always)]
-fn add_one(cells: &mut [u128; CELLS], from: usize, numbers: &[u64], i: usize)
-    requires some { i < length numbers.now }
-    requires room { from + i < CELLS }
-    ensures { (old : List ℕ) → AddedTo from i old numbers.now cells.old
-        → AddedTo from (i + 1) old numbers.now cells.new }
-{
-    let at = from + i;
-    cells[at] = cells[at].wrapping_add(u128::from(numbers[i]));
-}
-
-// Adds five numbers to the cells from a place on: those of a link that is given back.
-#[inline(always)]
-fn add_five(cells: &mut [u128; CELLS], from: usize, numbers: &[u64])
-    requires five { length numbers.now ≡ 5 }
-    requires room { from + 5 ≤ CELLS }
-    ensures { AddedTo from 5 cells.old numbers.now cells.new }
-{
-    add_one(cells, from, numbers, 0);
-    add_one(cells, from, numbers, 1);
-    add_one(cells, from, numbers, 2);
-    add_one(cells, from, numbers, 3);
-    add_one(cells, from, numbers, 4);
-}
-
-// Adds nine numbers to the cells from a place on: those of a link that is got with a short key.
-#[inline(always)]
-fn add_nine(cells: &mut [u128; CELLS], from: usize, numbers: &[u64])
-    requires nine { length numbers.now ≡ 9 }
-    requires room { from + 9 ≤ CELLS }
-    ensures { AddedTo from 9 cells.old numbers.now cells.new }
-{
-    add_one(cells, from, numbers, 0);
-    add_one(cells, from, numbers, 1);
-    add_one(cells, from, numbers, 2);
-    add_one(cells, from, numbers, 3);
-    add_one(cells, from, numbers, 4);
-    add_one(cells, from, numbers, 5);
-    add_one(cells, from, numbers, 6);
-    add_one(cells, from, numbers, 7);
-    add_one(cells, from, numbers, 8);
-}
-
-// Adds numbers to the cells from a place on. Most calls have five numbers or nine, and a loop takes
-// more steps.
+// Adds numbers to the cells from a place on. Most calls have five numbers or nine: those of a link
+// that is given back, and those of one that is got with a short key.
 #[inline(always)]
 fn add_all(cells: &mut [u128; CELLS], from: usize, numbers: &[u64])
     requires { from + length numbers.now ≤ CELLS }
     ensures { AddedTo from (length numbers.now) cells.old numbers.now cells.new }
 {
     match numbers.len() {
-        5 => add_five(cells, from, numbers),
-        9 => add_nine(cells, from, numbers),
+        5 => add_first(cells, from, numbers, 5),
+        9 => add_first(cells, from, numbers, 9),
         count => add_first(cells, from, numbers, count),
     }
 }
