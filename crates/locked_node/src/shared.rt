@@ -12,7 +12,7 @@ use crate::journal::Journal;
 use crate::locked::Locked;
 use crate::log::MOST;
 use crate::rule::{Both, Give, Hand, Look, Place, Return, Rule, Share, Take};
-use crate::turn::Turn;
+use crate::turn::{Turn, Woken};
 use atomic_table::Table;
 use crossbeam_utils::Backoff;
 use node_core::{View, ViewRoom};
@@ -276,7 +276,9 @@ impl<S: Drop> Shared<S> {
         seat.slot_mut(&self.table.shared, 0).make(call, note)
     }
 
-    // Gives the lock back, with one call more in the journal, and wakes whoever the call wakes.
+    // Gives the lock back, with one call more in the journal, and wakes whoever the call wakes. Most
+    // calls wake nobody: these call no function that may wait, since each such call costs
+    // instructions, also where it is inlined.
     #[inline(always)]
     pub(crate) fn pass_on<R: Wait>(&self, rt: &R, seat: &mut Place<S>, turn: &Turn)
         requires own { seat.old.table_id ≡ self.now }
@@ -285,7 +287,11 @@ impl<S: Drop> Shared<S> {
         ensures given { Given seat.old.me seat.new.me }
     {
         self.give(seat);
-        self.wake(rt, seat, turn);
+        match turn.woken {
+            Woken::Nobody => {}
+            Woken::One(slot) => self.wake_slot(rt, seat, turn.incarnation, slot),
+            Woken::All => self.wake_every(rt, seat, turn.incarnation),
+        }
     }
 
     // Gives the lock back, with one call more in the journal.

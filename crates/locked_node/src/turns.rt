@@ -9,7 +9,6 @@ ghost use Rattle.std.specs.Prelude.{◌≡◌, ◌≢◌, ◌<◌, IfSome};
 use crate::caller::Caller;
 use crate::rule::{Place, Rest};
 use crate::shared::{FIRST_SLOT, Shared};
-use crate::turn::{Turn, Woken};
 use lease::Pass;
 use pg_ids::SlotNo;
 use std::sync::Wait;
@@ -60,7 +59,13 @@ impl<S: Drop> Shared<S> {
     // Wakes the client of a slot in this incarnation, or spares it its next sleep, and wakes those
     // of earlier incarnations.
     #[inline(never)]
-    fn wake_slot<R: Wait>(&self, rt: &R, seat: &mut Place<S>, incarnation: u64, slot: SlotNo)
+    pub(crate) fn wake_slot<R: Wait>(
+        &self,
+        rt: &R,
+        seat: &mut Place<S>,
+        incarnation: u64,
+        slot: SlotNo,
+    )
         requires own { seat.old.table_id ≡ self.now }
         ensures own { seat.new.table_id ≡ seat.old.table_id }
         ensures same { seat.new.me ≡ seat.old.me }
@@ -84,24 +89,10 @@ impl<S: Drop> Shared<S> {
         unreachable!()
     }
 
-    // Wakes whoever a step wakes.
-    #[inline(always)]
-    pub(crate) fn wake<R: Wait>(&self, rt: &R, seat: &mut Place<S>, turn: &Turn)
-        requires own { seat.old.table_id ≡ self.now }
-        ensures own { seat.new.table_id ≡ seat.old.table_id }
-        ensures same { seat.new.me ≡ seat.old.me }
-    {
-        match turn.woken {
-            Woken::Nobody => {}
-            Woken::One(slot) => self.wake_slot(rt, seat, turn.incarnation, slot),
-            Woken::All => self.wake_every(rt, seat, turn.incarnation),
-        }
-    }
-
     // Wakes the client of each slot.
     #[cold]
     #[inline(never)]
-    fn wake_every<R: Wait>(&self, rt: &R, seat: &mut Place<S>, incarnation: u64)
+    pub(crate) fn wake_every<R: Wait>(&self, rt: &R, seat: &mut Place<S>, incarnation: u64)
         requires own { seat.old.table_id ≡ self.now }
         ensures own { seat.new.table_id ≡ seat.old.table_id }
         ensures same { seat.new.me ≡ seat.old.me }
