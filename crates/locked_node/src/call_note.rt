@@ -4,6 +4,7 @@ ghost use Rattle.locked_node.specs.declared.turn.Woken.TheVariants.{Nobody};
 
 use crate::call_answer::CallAnswer;
 use crate::call_kind::CallKind;
+use crate::counted_kind::CountedKind;
 use crate::numbers::Numbers;
 use crate::turn::{Turn, Woken};
 use pg_ids::Kind;
@@ -11,7 +12,7 @@ use pg_ids::Kind;
 /// What is noted of a call: its kind and its numbers, which are counted, and whom it wakes.
 #[derive(Drop)]
 pub struct CallNote {
-    pub(crate) kind: CallKind,
+    pub(crate) kind: CountedKind,
     pub(crate) numbers: Numbers,
     pub(crate) turn: Turn,
 }
@@ -21,7 +22,7 @@ impl CallNote {
     #[inline(always)]
     pub(crate) fn new() -> CallNote {
         CallNote {
-            kind: CallKind::short(CallAnswer::Joined),
+            kind: CountedKind::new(CallKind::short(CallAnswer::Joined)),
             numbers: Numbers::new(),
             turn: Turn {
                 incarnation: 0,
@@ -38,7 +39,7 @@ impl CallNote {
         ensures numbers { self.new.numbers ≡ [] }
         ensures woken { self.new.turn.woken ≡ Nobody }
     {
-        self.kind = CallKind { answer, key };
+        self.kind = CountedKind::new(CallKind { answer, key });
         self.numbers.clear();
         self.turn.woken = Woken::Nobody;
     }

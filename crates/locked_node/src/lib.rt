@@ -7,6 +7,7 @@ mod call_kind;
 mod call_note;
 mod caller;
 mod calls;
+mod counted_kind;
 mod journal;
 mod locked;
 mod log;

@@ -31,7 +31,7 @@ const CELLS: usize = 642 + WIDEST;
 
 // Where the cells of a kind begin.
 #[inline(always)]
-fn start_of(kind: usize) -> usize
+pub(crate) fn start_of(kind: usize) -> usize
     requires { kind < KINDS }
     ensures place { result ≡ slice_index START kind }
     ensures within { result < 642 }
@@ -108,8 +108,7 @@ impl Tally {
         requires room { all_calls self.old < 2 ^ 127 }
         ensures { (call : CallOf) → IsCountOf call note.now → Counts self.old call self.new }
     {
-        let kind = note.kind.index();
-        let start = start_of(kind);
+        let start = note.kind.start();
         add_all(&mut self.cells, start + 1, note.numbers.as_slice());
         self.cells[start] += 1;
     }
