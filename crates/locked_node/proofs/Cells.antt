@@ -4,7 +4,9 @@ use Rattle.std.proofs.lemmas.Bool.{cases_lt}
 use Rattle.std.proofs.lemmas.List.{get_or-take, get_or-drop, length-take, get_or_past}
 use Rattle.std.proofs.lemmas.List.Sums.{get_or-le-sum_by}
 use Rattle.std.specs.Prelude.{slice_range}
-use Rattle.locked_node.specs.declared.call_kind.TheConstants.{REST, KEYS}
+use Rattle.pg_ids.specs.declared.any_key.Kind.{Kind}
+use Rattle.pg_ids.specs.declared.any_key.Kind.TheVariants.{Short, Long}
+use Rattle.locked_node.specs.CallNumbers.{key_index, key_width}
 use Rattle.locked_node.specs.declared.tally.TheConstants.{START}
 use Rattle.locked_node.specs.declared.tally.Tally.{Tally}
 use Rattle.locked_node.specs.Totals.{Row, rows, rows_in, row_at, all_calls, calls_at, sum_at}
@@ -13,15 +15,52 @@ use Rattle.locked_node.specs.Totals.{Row, rows, rows_in, row_at, all_calls, call
 abbrev pub no_row : Row
 no_row = record { calls = 0; sums = [] }
 
--- how many sums each kind has room for, by answers: first with a short key, or with no key, and
--- then with a long one
-abbrev rooms : List ℕ → List ℕ → List ℕ
-rooms [] keys = []
-rooms (rest ∷ rests) [] = []
-rooms (rest ∷ rests) (keys ∷ others) = (rest + keys * 3) ∷ (rest + keys * 3) ∷ rooms rests others
+-- how many sums each answer has room for: with a short key, or with no key
+abbrev SHORTS : List ℕ
+SHORTS =
+    8 ∷ 2 ∷ 2  -- Join
+    ∷ 4 ∷ 12 ∷ 4 ∷ 4  -- Leave
+    ∷ 9 ∷ 9 ∷ 4 ∷ 4 ∷ 4 ∷ 4 ∷ 4  -- Acquire
+    ∷ 11 ∷ 11 ∷ 6 ∷ 6  -- Up
+    ∷ 5 ∷ 5 ∷ 5  -- UpFailed
+    ∷ 5 ∷ 5 ∷ 5 ∷ 5 ∷ 5  -- Release
+    ∷ 5 ∷ 5 ∷ 5  -- Close
+    ∷ 9 ∷ 7 ∷ 2  -- Cancel
+    ∷ 1 ∷ 1 ∷ 1 ∷ 1 ∷ 1 ∷ 1  -- Cancel, refused
+    ∷ 6 ∷ 6 ∷ 6 ∷ 6  -- Ended
+    ∷ 6 ∷ 6 ∷ 6 ∷ 6  -- Failed
+    ∷ 1 ∷ 1 ∷ []  -- Restart
 
+-- and with a long key
+abbrev LONGS : List ℕ
+LONGS =
+    8 ∷ 2 ∷ 2  -- Join
+    ∷ 6 ∷ 12 ∷ 6 ∷ 6  -- Leave
+    ∷ 11 ∷ 11 ∷ 6 ∷ 6 ∷ 6 ∷ 6 ∷ 6  -- Acquire
+    ∷ 0 ∷ 0 ∷ 0 ∷ 0  -- Up
+    ∷ 0 ∷ 0 ∷ 0  -- UpFailed
+    ∷ 0 ∷ 0 ∷ 0 ∷ 0 ∷ 0  -- Release
+    ∷ 0 ∷ 0 ∷ 0  -- Close
+    ∷ 11 ∷ 7 ∷ 4  -- Cancel
+    ∷ 3 ∷ 3 ∷ 3 ∷ 3 ∷ 3 ∷ 3  -- Cancel, refused
+    ∷ 0 ∷ 0 ∷ 0 ∷ 0  -- Ended
+    ∷ 0 ∷ 0 ∷ 0 ∷ 0  -- Failed
+    ∷ 0 ∷ 0 ∷ []  -- Restart
+
+-- the room of an answer with a key of this kind
+abbrev pub room_of : Kind → ℕ → ℕ
+room_of Short answer = get_or SHORTS answer 0
+room_of Long answer = get_or LONGS answer 0
+
+-- one of each in turn
+abbrev by_turns : List ℕ → List ℕ → List ℕ
+by_turns [] longs = []
+by_turns (short ∷ shorts) [] = []
+by_turns (short ∷ shorts) (long ∷ longs) = short ∷ long ∷ by_turns shorts longs
+
+-- the room of each kind
 unfoldable pub ROOMS : List ℕ
-ROOMS = rooms REST KEYS
+ROOMS = by_turns SHORTS LONGS
 
 -- where rows with this room begin, and where the last one ends
 abbrev starts : ℕ → List ℕ → List ℕ
@@ -66,10 +105,10 @@ behind i j h le =
     let a = ap (λ (n : ℕ). get_or START n 0) e in
     omega (arith, there, a)
 
-end : get_or START 96 0 ≡ 642
+end : get_or START 96 0 ≡ 467
 end = refl
 
-pub start_before : (kind : ℕ) → kind ≤ 96 → get_or START kind 0 ≤ 642
+pub start_before : (kind : ℕ) → kind ≤ 96 → get_or START kind 0 ≤ 467
 start_before kind h = ⊎_elim
     (λ (few : kind < 96). let b = behind kind 96 few (omega arith) in let n = next kind few in let e = end in omega (arith, b, n, e))
     (λ (last : 96 ≤ kind). let is : kind ≡ 96 = omega (arith, h, last) in let a = ap (λ (n : ℕ). get_or START n 0) is in let e = end in omega (arith, a, e))
@@ -78,25 +117,47 @@ start_before kind h = ⊎_elim
 pub start_inside : (kind : ℕ) → kind < 96 → get_or START kind 0 + 1 ≤ get_or START (kind + 1) 0
 start_inside kind h = let n = next kind h in omega (arith, n)
 
-pub start_few : (kind : ℕ) → kind < 96 → get_or START kind 0 < 642
+pub start_few : (kind : ℕ) → kind < 96 → get_or START kind 0 < 467
 start_few kind h = let n = start_inside kind h in let last = start_before (kind + 1) (omega (arith, h)) in omega (arith, n, last)
 
--- how much room the row of an answer has, with keys of either kind
-rooms_at : (rests keys : List ℕ) (answer which : ℕ) → answer < length rests → length rests ≡ length keys → which < 2
-    → get_or (rooms rests keys) (2 * answer + which) 0 ≡ get_or rests answer 0 + get_or keys answer 0 * 3
-rooms_at [] keys answer which h e w = absurd (omega (arith, h))
-rooms_at (rest ∷ rests) [] answer which h e w = absurd (omega (arith, e))
-rooms_at (rest ∷ rests) (key ∷ keys) zero zero h e w = refl
-rooms_at (rest ∷ rests) (key ∷ keys) zero (suc zero) h e w = refl
-rooms_at (rest ∷ rests) (key ∷ keys) zero (suc (suc which)) h e w = absurd (omega (arith, w))
-rooms_at (rest ∷ rests) (key ∷ keys) (suc answer) which h e w =
-    let next : 2 * suc answer + which ≡ suc (suc (2 * answer + which)) = omega arith in
-    ap (λ (k : ℕ). get_or (rooms (rest ∷ rests) (key ∷ keys)) k 0) next
-    ∙ rooms_at rests keys answer which (omega (arith, h)) (omega (arith, e)) w
+-- where the room of an answer stands, with a key of either kind
+short_at : (shorts longs : List ℕ) (answer : ℕ) → length shorts ≡ length longs
+    → get_or (by_turns shorts longs) (2 * answer + 0) 0 ≡ get_or shorts answer 0
+short_at [] longs answer e = refl
+short_at (short ∷ shorts) [] answer e = absurd (omega (arith, e))
+short_at (short ∷ shorts) (long ∷ longs) zero e = refl
+short_at (short ∷ shorts) (long ∷ longs) (suc answer) e =
+    let next : 2 * suc answer + 0 ≡ suc (suc (2 * answer + 0)) = omega arith in
+    ap (λ (k : ℕ). get_or (by_turns (short ∷ shorts) (long ∷ longs)) k 0) next
+    ∙ short_at shorts longs answer (omega (arith, e))
 
-pub room_is : (answer which : ℕ) → answer < 48 → which < 2 → get_or ROOMS (2 * answer + which) 0 ≡ get_or REST answer 0 + get_or KEYS answer 0 * 3
+long_at : (shorts longs : List ℕ) (answer : ℕ) → length shorts ≡ length longs
+    → get_or (by_turns shorts longs) (2 * answer + 1) 0 ≡ get_or longs answer 0
+long_at [] [] answer e = refl
+long_at [] (long ∷ longs) answer e = absurd (omega (arith, e))
+long_at (short ∷ shorts) [] answer e = absurd (omega (arith, e))
+long_at (short ∷ shorts) (long ∷ longs) zero e = refl
+long_at (short ∷ shorts) (long ∷ longs) (suc answer) e =
+    let next : 2 * suc answer + 1 ≡ suc (suc (2 * answer + 1)) = omega arith in
+    ap (λ (k : ℕ). get_or (by_turns (short ∷ shorts) (long ∷ longs)) k 0) next
+    ∙ long_at shorts longs answer (omega (arith, e))
+
+pub room_is : (asked : Kind) (answer : ℕ) → get_or ROOMS (2 * answer + key_index asked) 0 ≡ room_of asked answer
 unfolding ROOMS
-room_is answer which h w = rooms_at REST KEYS answer which h refl w
+room_is Short answer = short_at SHORTS LONGS answer refl
+room_is Long answer = long_at SHORTS LONGS answer refl
+
+-- the room of a call whose kind fixes its one key
+pub own_room : (asked : Kind) (answer rest : ℕ) → room_of Short answer ≡ rest + 1 → room_of Long answer ≡ rest + 3
+    → room_of asked answer ≡ rest + key_width asked
+own_room Short answer rest short long = short
+own_room Long answer rest short long = long
+
+-- and of a call that has as much with either
+pub same_room : (asked : Kind) (answer room : ℕ) → room_of Short answer ≡ room → room_of Long answer ≡ room
+    → room_of asked answer ≡ room
+same_room Short answer room short long = short
+same_room Long answer room short long = long
 
 -- the row that begins at a place
 row_is : (places cells : List ℕ) (kind : ℕ) → suc kind < length places

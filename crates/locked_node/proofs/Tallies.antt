@@ -109,8 +109,8 @@ added_more from i old numbers now sum within s is = record {
 }
 
 -- then the tallies are added up
-pub added_all : (old other now : Tally) → length old.cells ≡ 654 → length other.cells ≡ 654
-    → AddedTo 0 654 old.cells other.cells now.cells → all_calls old + all_calls other < 2 ^ 128 → AddsUp old other now
+pub added_all : (old other now : Tally) → length old.cells ≡ 479 → length other.cells ≡ 479
+    → AddedTo 0 479 old.cells other.cells now.cells → all_calls old + all_calls other < 2 ^ 128 → AddsUp old other now
 added_all old other now long same s few = record {
   calls = counts;
   sums = λ kind p. ⊎_elim
@@ -122,14 +122,14 @@ added_all old other now long same s few = record {
   where
     each : (p : ℕ) → get_or now.cells p 0 ≡ (get_or old.cells p 0 + get_or other.cells p 0) % 2 ^ 128
     each p = ⊎_elim
-        (λ (h : p < 654). let e : 0 + p ≡ p = omega arith in
+        (λ (h : p < 479). let e : 0 + p ≡ p = omega arith in
         subst (λ (q : ℕ). get_or now.cells q 0 ≡ (get_or old.cells q 0 + get_or other.cells p 0) % 2 ^ 128) e (s.inside p h))
-        (λ (h : 654 ≤ p).
+        (λ (h : 479 ≤ p).
         let a = get_or_past old.cells p 0 (omega (arith, long, h)) in
         let b = get_or_past other.cells p 0 (omega (arith, same, h)) in
         let none : 0 ≡ get_or old.cells p 0 + get_or other.cells p 0 = omega (arith, a, b) in
         s.beside p (inr (omega (arith, h))) ∙ (a ∙ ap (λ (n : ℕ). n % 2 ^ 128) none))
-        (cases_lt p 654)
+        (cases_lt p 479)
 
     counts : (kind : ℕ) → calls_at now kind ≡ calls_at old kind + calls_at other kind
     counts kind = ⊎_elim
@@ -149,7 +149,7 @@ pub count_left : (tally : Tally) (kind i : ℕ) (numbers now : List ℕ) → kin
 count_left tally kind i numbers now h added = added.beside (get_or START kind 0) (inl (omega arith)) ∙ sym (calls_there tally kind h)
 
 -- the numbers of a call are added to the sums of its kind, which counts one call more
-pub counts_call : (old new : Tally) (more : List ℕ) (kind : ℕ) (call : Exchange) → length more ≡ 654 → kind < 96 → kind ≡ index_of (kind_of call)
+pub counts_call : (old new : Tally) (more : List ℕ) (kind : ℕ) (call : Exchange) → length more ≡ 479 → kind < 96 → kind ≡ index_of (kind_of call)
     → AddedTo (get_or START kind 0 + 1) (length (numbers_of call)) old.cells (numbers_of call) more
     → new.cells ≡ set more (get_or START kind 0) (get_or more (get_or START kind 0) 0 + 1)
     → Counts old call new
@@ -179,7 +179,7 @@ counts_call old new more kind call long h is added cells = record {
     at = get_or START kind 0
 
     fits : length numbers ≤ get_or ROOMS kind 0
-    fits = subst (λ (n : ℕ). length numbers ≤ get_or ROOMS n 0) (sym is) (narrow call (omega (arith, h, is)))
+    fits = subst (λ (n : ℕ). length numbers ≤ get_or ROOMS n 0) (sym is) (narrow call)
 
     -- one more in the count, the numbers behind it, and nothing else
     here : get_or new.cells at 0 ≡ get_or old.cells at 0 + 1

@@ -1,5 +1,5 @@
 -- A kind fixes how many numbers its calls have.
-use Rattle.std.proofs.Common.{◌≡◌, ℕ, ◌+◌, ◌*◌, ◌<◌, ◌≤◌, Bool, true, false, List, [], ◌∷◌, length, Ok, Err, refl, ap, ◌∙◌, arith}
+use Rattle.std.proofs.Common.{◌≡◌, ℕ, ◌+◌, ◌*◌, ◌≤◌, Bool, true, false, List, [], ◌∷◌, length, Ok, Err, refl, sym, ap, ◌∙◌, arith}
 use Rattle.std.specs.Prelude.{slice_index, ◌==◌, if◌then◌else◌}
 use Rattle.std.proofs.lemmas.List.{length-append}
 use Rattle.pg_ids.specs.AnyKey.{any_key, any_lowered, kind_of, short_of, peer_of, slot_of}
@@ -35,9 +35,9 @@ use Rattle.node_core.specs.declared.exchange.Order.TheVariants as order
 use Rattle.node_core.specs.declared.exchange.Exchange.{Exchange}
 use Rattle.node_core.specs.declared.exchange.Exchange.TheVariants.{Join, Leave, Acquire, Up, UpFailed, Release, Close, Cancel, Ended, Failed, Restart}
 use Rattle.locked_node.specs.declared.call_kind.TheConstants.{REST, KEYS}
-use Rattle.locked_node.specs.CallNumbers.{answer_of, answer_index, asked_of, index_of, key_index, key_width, key_numbers, key_number, packet_numbers, numbers_of}
+use Rattle.locked_node.specs.CallNumbers.{answer_of, answer_index, asked_of, index_of, key_width, key_numbers, key_number, packet_numbers, numbers_of}
 use Rattle.locked_node.specs.CallNumbers as counted
-use Rattle.locked_node.proofs.Cells.{ROOMS, room_is}
+use Rattle.locked_node.proofs.Cells.{ROOMS, room_of, room_is, own_room, same_room}
 
 -- how many numbers a key has
 key_wide : (k : AnyKey) → length (key_numbers k) ≡ key_width (kind_of k)
@@ -175,55 +175,105 @@ wide old new (Failed ticket failed.Condemned) step = refl
 wide old new (Restart boot restart.Restarted) step = refl
 wide old new call step = refl
 
--- and how many a call with its answer can have
-abbrev most : Exchange → ℕ
-most call =
-    slice_index REST (answer_index (answer_of call))
-    + slice_index KEYS (answer_index (answer_of call)) * key_width Long
+-- and for how many a call's kind has room
+abbrev room : Exchange → ℕ
+room call = room_of (asked_of call) (answer_index (answer_of call))
 
 le_same : (a b : ℕ) → a ≡ b → a ≤ b
 le_same a b e = omega (arith, e)
 
-fewer : (call : Exchange) → length (numbers_of call) ≤ most call
+fewer : (call : Exchange) → length (numbers_of call) ≤ room call
 fewer (Join database secret asked (Ok pass)) =
-    let k = key_most pass.key in omega (arith, k)
-fewer (Join database secret asked (Err join.Full)) = omega arith
-fewer (Join database secret asked (Err join.Exhausted)) = omega arith
+    let k = key_most pass.key in
+    let room = same_room asked 0 8 refl refl in
+    omega (arith, k, room)
+fewer (Join database secret asked (Err join.Full)) = le_same _ _ (sym (same_room asked 1 2 refl refl))
+fewer (Join database secret asked (Err join.Exhausted)) = le_same _ _ (sym (same_room asked 2 2 refl refl))
 fewer (Leave pass (leave.Holding again)) =
     let k = key_most pass.key in
     let other = key_most again.key in
     let joined = length-append (key_numbers pass.key) (key_numbers again.key) in
-    omega (arith, k, other, joined)
-fewer (Leave pass leave.Left) = let k = key_most pass.key in omega (arith, k)
-fewer (Leave pass leave.Stale) = let k = key_most pass.key in omega (arith, k)
-fewer (Leave pass leave.Exhausted) = let k = key_most pass.key in omega (arith, k)
-fewer (Acquire pass (acquire.Got lease)) = let k = key_most pass.key in omega (arith, k)
-fewer (Acquire pass (acquire.Open permit)) = let k = key_most pass.key in omega (arith, k)
-fewer (Acquire pass acquire.Waiting) = let k = key_most pass.key in omega (arith, k)
-fewer (Acquire pass acquire.Cancelled) = let k = key_most pass.key in omega (arith, k)
-fewer (Acquire pass acquire.Holding) = let k = key_most pass.key in omega (arith, k)
-fewer (Acquire pass acquire.Exhausted) = let k = key_most pass.key in omega (arith, k)
-fewer (Acquire pass acquire.Stale) = let k = key_most pass.key in omega (arith, k)
+    let room = same_room (kind_of pass.key) 4 12 refl refl in
+    omega (arith, k, other, joined, room)
+fewer (Leave pass leave.Left) =
+    let k = key_wide pass.key in
+    let room = own_room (kind_of pass.key) 3 3 refl refl in
+    omega (arith, k, room)
+fewer (Leave pass leave.Stale) =
+    let k = key_wide pass.key in
+    let room = own_room (kind_of pass.key) 5 3 refl refl in
+    omega (arith, k, room)
+fewer (Leave pass leave.Exhausted) =
+    let k = key_wide pass.key in
+    let room = own_room (kind_of pass.key) 6 3 refl refl in
+    omega (arith, k, room)
+fewer (Acquire pass (acquire.Got lease)) =
+    let k = key_wide pass.key in
+    let room = own_room (kind_of pass.key) 7 8 refl refl in
+    omega (arith, k, room)
+fewer (Acquire pass (acquire.Open permit)) =
+    let k = key_wide pass.key in
+    let room = own_room (kind_of pass.key) 8 8 refl refl in
+    omega (arith, k, room)
+fewer (Acquire pass acquire.Waiting) =
+    let k = key_wide pass.key in
+    let room = own_room (kind_of pass.key) 9 3 refl refl in
+    omega (arith, k, room)
+fewer (Acquire pass acquire.Cancelled) =
+    let k = key_wide pass.key in
+    let room = own_room (kind_of pass.key) 10 3 refl refl in
+    omega (arith, k, room)
+fewer (Acquire pass acquire.Holding) =
+    let k = key_wide pass.key in
+    let room = own_room (kind_of pass.key) 11 3 refl refl in
+    omega (arith, k, room)
+fewer (Acquire pass acquire.Stale) =
+    let k = key_wide pass.key in
+    let room = own_room (kind_of pass.key) 12 3 refl refl in
+    omega (arith, k, room)
+fewer (Acquire pass acquire.Exhausted) =
+    let k = key_wide pass.key in
+    let room = own_room (kind_of pass.key) 13 3 refl refl in
+    omega (arith, k, room)
 fewer (Cancel asked (order.Serve ticket database server)) =
-    let k = key_most asked in
+    let k = key_wide asked in
     let joined = length-append (key_numbers asked) (key_number server ∷ []) in
-    omega (arith, k, joined)
+    let room = own_room (kind_of asked) 29 8 refl refl in
+    omega (arith, k, joined, room)
 fewer (Cancel asked (order.Forward to packet)) =
     let k = key_most asked in
     let sent = packet_most packet in
     let joined = length-append (key_numbers asked) (packet_numbers packet) in
-    omega (arith, k, sent, joined)
-fewer (Cancel asked (order.Unwait slot)) = let k = key_most asked in omega (arith, k)
+    let room = same_room (kind_of asked) 30 7 refl refl in
+    omega (arith, k, sent, joined, room)
+fewer (Cancel asked (order.Unwait slot)) =
+    let k = key_wide asked in
+    let room = own_room (kind_of asked) 31 1 refl refl in
+    omega (arith, k, room)
 fewer (Cancel asked (order.Refused (cancel.Route lost.Spent))) =
-    let k = key_most asked in omega (arith, k)
+    let k = key_wide asked in
+    let room = own_room (kind_of asked) 32 0 refl refl in
+    omega (arith, k, room)
 fewer (Cancel asked (order.Refused (cancel.Route lost.Unknown))) =
-    let k = key_most asked in omega (arith, k)
+    let k = key_wide asked in
+    let room = own_room (kind_of asked) 33 0 refl refl in
+    omega (arith, k, room)
 fewer (Cancel asked (order.Refused (cancel.Route lost.NoPeer))) =
-    let k = key_most asked in omega (arith, k)
+    let k = key_wide asked in
+    let room = own_room (kind_of asked) 34 0 refl refl in
+    omega (arith, k, room)
 fewer (Cancel asked (order.Refused (cancel.Route lost.NoLink))) =
-    let k = key_most asked in omega (arith, k)
-fewer (Cancel asked (order.Refused cancel.Busy)) = let k = key_most asked in omega (arith, k)
-fewer (Cancel asked (order.Refused cancel.Exhausted)) = let k = key_most asked in omega (arith, k)
+    let k = key_wide asked in
+    let room = own_room (kind_of asked) 35 0 refl refl in
+    omega (arith, k, room)
+fewer (Cancel asked (order.Refused cancel.Busy)) =
+    let k = key_wide asked in
+    let room = own_room (kind_of asked) 36 0 refl refl in
+    omega (arith, k, room)
+fewer (Cancel asked (order.Refused cancel.Exhausted)) =
+    let k = key_wide asked in
+    let room = own_room (kind_of asked) 37 0 refl refl in
+    omega (arith, k, room)
 fewer (Up permit key (up.Up lease)) = le_same _ _ refl
 fewer (UpFailed permit failing.Freed) = le_same _ _ refl
 fewer (Release lease release.Idle) = le_same _ _ refl
@@ -233,15 +283,9 @@ fewer (Failed ticket failed.Condemned) = le_same _ _ refl
 fewer (Restart boot restart.Restarted) = le_same _ _ refl
 fewer call = le_same _ _ refl
 
-key_index_few : (asked : Kind) → key_index asked < 2
-key_index_few Short = omega arith
-key_index_few Long = omega arith
-
 -- no call has more numbers than there are sums of its kind
-pub narrow : (call : Exchange) → index_of (counted.kind_of call) < 96
-    → length (numbers_of call) ≤ slice_index ROOMS (index_of (counted.kind_of call))
-narrow call h =
+pub narrow : (call : Exchange) → length (numbers_of call) ≤ slice_index ROOMS (index_of (counted.kind_of call))
+narrow call =
     let some = fewer call in
-    let which = key_index_few (asked_of call) in
-    let room = room_is (answer_index (answer_of call)) (key_index (asked_of call)) (omega (arith, h, which)) which in
+    let room = room_is (asked_of call) (answer_index (answer_of call)) in
     omega (arith, some, room)

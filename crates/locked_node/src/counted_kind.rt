@@ -46,7 +46,7 @@ impl CountedKind {
     pub(crate) fn start(&self) -> usize
         ensures place { result ≡ slice_index START (index_of self.now) }
         ensures kind { index_of self.now < KINDS }
-        ensures within { result < 642 }
+        ensures within { result < 467 }
     {
         self.start
     }

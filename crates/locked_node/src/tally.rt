@@ -9,32 +9,35 @@ use crate::call_note::CallNote;
 use crate::numbers::WIDEST;
 
 // Where the cells of each kind begin, by the kind's place: one for the count of its calls, and then
-// one for each number that a call with its answer can have. Those of the last kind end at the end.
+// one for each number that a call of the kind can have. There are none for a long key where the
+// step names no key. With a short key, `Joined`, `LeaveHolding` and `Forwarded` have as many as with
+// a long one: their kind doesn't fix the key of the answer. The cells of the last kind end at the
+// end.
 const START: [usize; KINDS + 1] = [
     0, 9, 18, 21, 24, 27, // Join
-    30, 37, 44, 57, 70, 77, 84, 91, // Leave
-    98, 110, 122, 134, 146, 153, 160, 167, 174, 181, 188, 195, 202, 209, // Acquire
-    216, 228, 240, 252, 264, 271, 278, 285, // Up
-    292, 298, 304, 310, 316, 322, // UpFailed
-    328, 334, 340, 346, 352, 358, 364, 370, 376, 382, // Release
-    388, 394, 400, 406, 412, 418, // Close
-    424, 436, 448, 456, 464, 469, // Cancel
-    474, 478, 482, 486, 490, 494, 498, 502, 506, 510, 514, 518, // Cancel, refused
-    522, 529, 536, 543, 550, 557, 564, 571, // Ended
-    578, 585, 592, 599, 606, 613, 620, 627, // Failed
-    634, 636, 638, 640, // Restart
-    642, // the end
+    30, 35, 42, 55, 68, 73, 80, 85, // Leave
+    92, 102, 114, 124, 136, 141, 148, 153, 160, 165, 172, 177, 184, 189, // Acquire
+    196, 208, 209, 221, 222, 229, 230, 237, // Up
+    238, 244, 245, 251, 252, 258, // UpFailed
+    259, 265, 266, 272, 273, 279, 280, 286, 287, 293, // Release
+    294, 300, 301, 307, 308, 314, // Close
+    315, 325, 337, 345, 353, 356, // Cancel
+    361, 363, 367, 369, 373, 375, 379, 381, 385, 387, 391, 393, // Cancel, refused
+    397, 404, 405, 412, 413, 420, 421, 428, // Ended
+    429, 436, 437, 444, 445, 452, 453, 460, // Failed
+    461, 463, 464, 466, // Restart
+    467, // the end
 ];
 
 // Behind the last kind's cells there is room for the numbers of any call.
-const CELLS: usize = 642 + WIDEST;
+const CELLS: usize = 467 + WIDEST;
 
 // Where the cells of a kind begin.
 #[inline(always)]
 pub(crate) fn start_of(kind: usize) -> usize
     requires { kind < KINDS }
     ensures place { result ≡ slice_index START kind }
-    ensures within { result < 642 }
+    ensures within { result < 467 }
 {
     START[kind]
 }
@@ -93,8 +96,8 @@ impl Tally {
         self.cells[start_of(kind.index())]
     }
 
-    /// The sums of the numbers of the calls of this kind, by position, modulo 2^128: as many as a
-    /// call with this answer can have numbers.
+    /// The sums of the numbers of the calls of this kind, by position, modulo 2^128: at least as many
+    /// as a call of this kind has numbers.
     pub fn sums(&self, kind: CallKind) -> &[u128]
         ensures { result.now ≡ (row_at self.now (index_of kind)).sums }
     {

@@ -26,7 +26,7 @@ returns c = λ call is.
     let place = c.start-start.ensures.place in
     let numbers = c.as_slice.result.now in
     let now = c.add_all.new.cells in
-    let long : length now ≡ 654 = search rules in
+    let long : length now ≡ 479 = search rules in
     let added = subst (λ (n : ℕ). AddedTo (n + 1) (length numbers) c.args.self.now.cells numbers now) place c.add_all.ensures in
     counts_call c.args.self.now _ now kind call long c.start-start.ensures.kind (ap index_of is.kind)
     (subst (λ (ns : List ℕ). AddedTo (get_or START kind 0 + 1) (length ns) c.args.self.now.cells ns now) (c.as_slice.ensures.value ∙ is.numbers) added)

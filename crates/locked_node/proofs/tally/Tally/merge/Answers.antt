@@ -5,8 +5,8 @@ use Rattle.locked_node.proofs.tally.Tally.merge.Goals as goal
 
 pub returns : goal.returns
 returns c =
-    let long : length c.args.self.now.cells ≡ 654 = search rules in
-    let same : length c.args.other.now.cells ≡ 654 = search rules in
-    let ended : c.loop-i.i ≡ 654 = search rules in
+    let long : length c.args.self.now.cells ≡ 479 = search rules in
+    let same : length c.args.other.now.cells ≡ 479 = search rules in
+    let ended : c.loop-i.i ≡ 479 = search rules in
     added_all c.args.self.now c.args.other.now c.loop-i.self long same
     (subst (λ (n : ℕ). AddedTo 0 n c.args.self.now.cells c.args.other.now.cells c.loop-i.self.cells) ended c.loop-i.invariant) c.requires
