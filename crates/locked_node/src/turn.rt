@@ -30,7 +30,11 @@ impl Turn {
     {
         self.incarnation = core.incarnation();
         if let Woken::Nobody = self.woken {
-            self.woken = turn_at(core, database);
+            // Most calls wake nobody, and then nothing is written.
+            match turn_at(core, database) {
+                Woken::Nobody => {}
+                woken => self.woken = woken,
+            }
         }
     }
 }
