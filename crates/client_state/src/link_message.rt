@@ -1,5 +1,6 @@
 //! What a link's message means to a session, by its head and by its status.
 ghost use Rattle.std.specs.Prelude.{◌≡◌, ◌↔◌, ℕ, IsTrue, codes};
+ghost use Rattle.pg_frames.specs.FrameText.{is_type};
 ghost use Rattle.client_state.specs.Text.{is_one_of};
 ghost use Rattle.client_state.specs.LinkMessage.{link_message};
 ghost use Rattle.client_state.specs.declared.link_message.LinkMessage.{LinkMessage as MessageOf};
@@ -52,7 +53,8 @@ impl LinkMessage {
 #[inline(always)]
 #[tactic(auto, unfolding(crate::specs::LinkMessage::link_message))]
 pub fn is_passed_on(kind: u8) -> bool
-    ensures { (length : ℕ) → IsTrue result ↔ (link_message kind length ≡ MessageOf.PassOn) }
+    ensures passed { (length : ℕ) → IsTrue result ↔ (link_message kind length ≡ MessageOf.PassOn) }
+    ensures type_byte { IsTrue result → IsTrue (is_type kind) }
 {
     match kind {
         b'T' | b'D' | b'C' | b'I' | b'E' | b'N' | b'S' => true,
@@ -64,7 +66,8 @@ pub fn is_passed_on(kind: u8) -> bool
 #[inline(never)]
 #[tactic(auto, unfolding(crate::specs::LinkMessage::link_message))]
 fn is_other_passed_on(kind: u8) -> bool
-    ensures { IsTrue result ↔ IsTrue (is_one_of (codes "123nst") kind) }
+    ensures passed { IsTrue result ↔ IsTrue (is_one_of (codes "123nst") kind) }
+    ensures type_byte { IsTrue result → IsTrue (is_type kind) }
 {
     matches!(kind, b'1' | b'2' | b'3' | b'n' | b's' | b't')
 }

@@ -1,5 +1,5 @@
 -- A session of the console, message after message.
-use Rattle.std.proofs.Common.{◌≡◌, ◌⊎◌, inl, inr, ◌<◌, ◌+◌, Bool, true, false, ℕ, zero, suc, ◌≤◌, List, [], ◌∷◌, ◌++◌, Option, Some, None, refl, sym, ap, ◌∙◌, subst, append_assoc, append-nil, unwrap_or, length, take, get_or, add-one, arith}
+use Rattle.std.proofs.Common.{◌≡◌, inl, inr, ◌<◌, ◌+◌, Bool, true, false, ℕ, zero, suc, ◌≤◌, List, [], ◌∷◌, ◌++◌, Option, Some, None, refl, sym, ap, ◌∙◌, subst, append_assoc, append-nil, unwrap_or, length, take, get_or, add-one, arith}
 use Rattle.std.specs.Option.{is_some, IfSome}
 use Rattle.std.proofs.lemmas.List.{take_all}
 use Rattle.peer_forward.specs.Calls.{Call, Effect, Makes}
@@ -7,7 +7,7 @@ use Rattle.pg_frames.specs.declared.frame.Frame.{Frame}
 use Rattle.pg_frames.specs.declared.error.FrameError.{FrameError}
 use Rattle.pg_frames.specs.FrameText.{text, texts, IsFrame, BeginsNoFrame, HasFault}
 use Rattle.startup.specs.Replies.{Report, zero_ended}
-use Rattle.startup.specs.declared.error_code.ErrorCode.TheVariants.{ProtocolViolation, FeatureNotSupported}
+use Rattle.startup.specs.declared.error_code.ErrorCode.TheVariants.{ProtocolViolation}
 use Rattle.ini_config.specs.Node.{NodeSettings}
 use Rattle.node_core.specs.View.{NodeView}
 use Rattle.locked_node.specs.Lock.{CallerView}
@@ -15,7 +15,7 @@ use Rattle.console.specs.Rows.{Answers}
 use Rattle.node_threads.specs.StreamCalls.{given, SomeCalls, IsFailedRead, Read, Wrote, WroteSome}
 use Rattle.node_threads.specs.Asking.{SendsError}
 use Rattle.node_threads.specs.Words.{AreRead}
-use Rattle.node_threads.specs.ConsoleSession.{NeedsMore, ReadsOn, ReadsMessage, Parting, Faulty, Silent, NoMemory, Parts, Awaits, IsTextOf, IsReadAs, IsMoment, IsReply, EndsQuery, TakesQuery, EndsByMessage, Takes, Answered, IsAnswered, Answer, EndsConsole, Queries, GreetsConsole, ServesConsole}
+use Rattle.node_threads.specs.ConsoleSession.{NeedsMore, ReadsOn, Parting, Faulty, Silent, NoMemory, Parts, Awaits, IsTextOf, IsReadAs, IsMoment, IsReply, TakesQuery, Takes, Answered, IsAnswered, Answer, EndsConsole, Queries, GreetsConsole, ServesConsole}
 use Rattle.peer_forward.proofs.CallLemmas.{Makes-append}
 use Rattle.node_threads.proofs.ReadingLemmas.{fault_here}
 

@@ -1,5 +1,5 @@
 -- A reply that comes whole with one read.
-use Rattle.std.proofs.Common.{◌≡◌, ℕ, ◌+◌, ◌≤◌, List, [], ◌∷◌, ◌++◌, length, take, drop, Option, Some, None, IfSome, refl, sym, ap, ◌∙◌, subst, arith, append-nil, take-append-drop}
+use Rattle.std.proofs.Common.{◌≡◌, ⊎_elim, ℕ, ◌+◌, ◌≤◌, List, [], ◌∷◌, ◌++◌, length, take, drop, Option, Some, None, IfSome, refl, sym, ap, ◌∙◌, subst, arith, append-nil, take-append-drop}
 use Rattle.std.proofs.Math.Seq.{take-add}
 use Rattle.std.proofs.lemmas.List.{drop-drop, drop_all}
 use Rattle.peer_forward.specs.Calls.{Call, Effect, Makes}
@@ -17,7 +17,7 @@ use Rattle.node_threads.specs.StreamCalls.{SomeCalls, Read, IsFailedRead}
 use Rattle.startup.specs.declared.error_code.ErrorCode.TheVariants.{ConnectionFailure}
 use Rattle.node_threads.specs.Asking.{IsError}
 use Rattle.node_threads.specs.Replying.{ReplyEnd, Ready}
-use Rattle.node_threads.specs.Whole.{ArePassedOn}
+use Rattle.node_threads.specs.Whole.{ArePassedOn, BeginsReading}
 use Rattle.node_threads.specs.Progress.{HandedOut, IsWhole, handed_whole, Finishes, EndsHere, GoesOn, FinishesOpen}
 use Rattle.pg_frames.proofs.FlowLemmas.{no_head-short, has_none}
 use Rattle.peer_forward.proofs.CallLemmas.{Makes-append}
@@ -290,8 +290,34 @@ nothing_ends limit wrote gave wrote' gave' link link' client call reply made fai
   ),
 )
 
+-- so of a flow that is at its start
+pub at_start_goes_on : {L C : Type 0} (flow : Passage) (wrote gave : Effect L)
+    (wrote' gave' : Effect C) (link link' : L) (client client' : C) → flow ≡ start flow.limit
+    → SomeCalls wrote gave link link' (λ reads. SomeCalls wrote' gave' client client'
+    (λ tells. GoesOn flow.limit [] [] reads tells))
+    → SomeCalls wrote gave link link' (λ reads. SomeCalls wrote' gave' client client'
+    (λ tells. GoesOn flow.limit flow.bytes [] reads tells))
+at_start_goes_on flow wrote gave wrote' gave' link link' client client' begun =
+    subst (λ (xs : List ℕ). SomeCalls wrote gave link link'
+    (λ reads. SomeCalls wrote' gave' client client'
+    (λ tells. GoesOn flow.limit xs [] reads tells))) (sym (ap (λ p. p.bytes) begun))
+
+pub at_start_ends : {L C : Type 0} (flow : Passage) (wrote gave : Effect L)
+    (wrote' gave' : Effect C) (link link' : L) (client client' : C) (found : Option (Option Stayed))
+    → flow ≡ start flow.limit
+    → IfSome found (λ passed. IfSome passed (λ stayed. SomeCalls wrote gave link link'
+    (λ reads. SomeCalls wrote' gave' client client'
+    (λ tells. EndsHere flow.limit [] [] reads tells stayed))))
+    → IfSome found (λ passed. IfSome passed (λ stayed. SomeCalls wrote gave link link'
+    (λ reads. SomeCalls wrote' gave' client client'
+    (λ tells. EndsHere flow.limit flow.bytes [] reads tells stayed))))
+at_start_ends flow wrote gave wrote' gave' link link' client client' found begun =
+    subst (λ (xs : List ℕ). IfSome found (λ passed. IfSome passed
+    (λ stayed. SomeCalls wrote gave link link' (λ reads. SomeCalls wrote' gave' client client'
+    (λ tells. EndsHere flow.limit xs [] reads tells stayed))))) (sym (ap (λ p. p.bytes) begun))
+
 -- the rest of a reply, after the first bytes of it
-pub rest_goes_on : {L C : Type 0} (flow flow' : Passage) (wrote gave : Effect L)
+rest_goes_on : {L C : Type 0} (flow flow' : Passage) (wrote gave : Effect L)
     (wrote' gave' : Effect C) (link link' link'' : L) (client client' client'' : C)
     → flow ≡ start flow.limit
     → ((call : Call) × Makes wrote gave link (call ∷ []) link' × (bytes : List ℕ)
@@ -345,7 +371,7 @@ rest_end {L} {C} flow flow' wrote gave wrote' gave' link link' link'' client cli
     (first_ends flow.limit wrote gave wrote' gave' link link' link'' client client'' bytes
     first.0 stayed first.1 first.3 there)
 
-pub rest_ends : {L C : Type 0} (flow flow' : Passage) (wrote gave : Effect L)
+rest_ends : {L C : Type 0} (flow flow' : Passage) (wrote gave : Effect L)
     (wrote' gave' : Effect C) (link link' link'' : L) (client client' client'' : C)
     (found : Option Stayed) → flow ≡ start flow.limit
     → ((call : Call) × Makes wrote gave link (call ∷ []) link' × (bytes : List ℕ)
@@ -363,3 +389,52 @@ rest_ends flow flow' wrote gave wrote' gave' link link' link'' client client' cl
     (Some stayed) begun first same ends =
     rest_end flow flow' wrote gave wrote' gave' link link' link'' client client' client'' stayed
     begun first same ends
+
+-- and after its first bytes, or before them
+pub begun_goes_on : {L C : Type 0} (flow flow' : Passage) (wrote gave : Effect L)
+    (wrote' gave' : Effect C) (link link' link'' : L) (client client' client'' : C)
+    → BeginsReading wrote gave flow link flow' link' → client' ≡ client
+    → SomeCalls wrote gave link' link'' (λ reads. SomeCalls wrote' gave' client' client''
+    (λ tells. GoesOn flow'.limit flow'.bytes [] reads tells))
+    → SomeCalls wrote gave link link'' (λ reads. SomeCalls wrote' gave' client client''
+    (λ tells. GoesOn flow.limit flow.bytes [] reads tells))
+begun_goes_on {L} {C} flow flow' wrote gave wrote' gave' link link' link'' client client' client''
+    read same goes = ⊎_elim
+    (λ none.
+    let here = subst (λ (p : Passage). SomeCalls wrote gave link' link''
+    (λ reads. SomeCalls wrote' gave' client' client''
+    (λ tells. GoesOn p.limit p.bytes [] reads tells))) none.0 goes in
+    let there = subst (λ (l : L). SomeCalls wrote gave l link''
+    (λ reads. SomeCalls wrote' gave' client' client''
+    (λ tells. GoesOn flow.limit flow.bytes [] reads tells))) none.1 here in
+    subst (λ (c : C). SomeCalls wrote gave link link'' (λ reads. SomeCalls wrote' gave' c client''
+    (λ tells. GoesOn flow.limit flow.bytes [] reads tells))) same there)
+    (λ first. rest_goes_on flow flow' wrote gave wrote' gave' link link' link'' client client'
+    client'' first.0 (first.1, first.2, first.3, first.4, first.5) same goes)
+    read
+
+pub begun_ends : {L C : Type 0} (flow flow' : Passage) (wrote gave : Effect L)
+    (wrote' gave' : Effect C) (link link' link'' : L) (client client' client'' : C)
+    (found : Option Stayed)
+    → BeginsReading wrote gave flow link flow' link' → client' ≡ client
+    → IfSome found (λ stayed. SomeCalls wrote gave link' link''
+    (λ reads. SomeCalls wrote' gave' client' client''
+    (λ tells. EndsHere flow'.limit flow'.bytes [] reads tells stayed)))
+    → IfSome found (λ stayed. SomeCalls wrote gave link link''
+    (λ reads. SomeCalls wrote' gave' client client''
+    (λ tells. EndsHere flow.limit flow.bytes [] reads tells stayed)))
+begun_ends {L} {C} flow flow' wrote gave wrote' gave' link link' link'' client client' client''
+    found read same ends = ⊎_elim
+    (λ none.
+    let here = subst (λ (p : Passage). IfSome found (λ stayed. SomeCalls wrote gave link' link''
+    (λ reads. SomeCalls wrote' gave' client' client''
+    (λ tells. EndsHere p.limit p.bytes [] reads tells stayed)))) none.0 ends in
+    let there = subst (λ (l : L). IfSome found (λ stayed. SomeCalls wrote gave l link''
+    (λ reads. SomeCalls wrote' gave' client' client''
+    (λ tells. EndsHere flow.limit flow.bytes [] reads tells stayed)))) none.1 here in
+    subst (λ (c : C). IfSome found (λ stayed. SomeCalls wrote gave link link''
+    (λ reads. SomeCalls wrote' gave' c client''
+    (λ tells. EndsHere flow.limit flow.bytes [] reads tells stayed)))) same there)
+    (λ first. rest_ends flow flow' wrote gave wrote' gave' link link' link'' client client'
+    client'' found first.0 (first.1, first.2, first.3, first.4, first.5) same ends)
+    read

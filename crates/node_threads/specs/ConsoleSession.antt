@@ -8,7 +8,6 @@ use Rattle.pg_frames.specs.declared.frame.Frame.{Frame}
 use Rattle.pg_frames.specs.declared.error.FrameError.{FrameError}
 use Rattle.pg_frames.specs.FrameText.{text, texts, IsFrame, BeginsNoFrame, fault_at}
 use Rattle.startup.specs.Replies.{Report, login_reporting, zero_ended}
-use Rattle.startup.specs.declared.error_code.ErrorCode.{ErrorCode}
 use Rattle.startup.specs.declared.error_code.ErrorCode.TheVariants.{OutOfMemory, ProtocolViolation, FeatureNotSupported}
 use Rattle.client_state.specs.Text.{is_zero}
 use Rattle.ini_config.specs.Node.{NodeSettings}

@@ -1,14 +1,14 @@
 //! A stream of frames that comes in any pieces, and is passed on in pieces.
-ghost use Rattle.std.specs.Prelude.{◌≡◌, ◌↔◌, ◌+◌, ◌<◌, ◌≤◌, ◌++◌, [], ℕ, None, Some, IsTrue, length, take, drop, slice_index, IfOk, IfSome, IsOkUnless, MatchOption};
+ghost use Rattle.std.specs.Prelude.{◌≡◌, ◌↔◌, ◌+◌, ◌<◌, ◌≤◌, ◌++◌, ◌∷◌, [], ℕ, None, Some, IsTrue, length, take, drop, slice_index, IfOk, IfSome, IsOkUnless, MatchOption};
 ghost use Rattle.std.specs.Borrow.{sem};
 ghost use Rattle.std.specs.Io.BufRead.{Rests};
 ghost use Rattle.pg_frames.specs.contracts.flow.Flow.{the_row};
 ghost use Rattle.pg_frames.specs.declared.error.FrameError.{FrameError};
-ghost use Rattle.pg_frames.specs.FrameText.{BeginsNoFrame, HasFault};
+ghost use Rattle.pg_frames.specs.FrameText.{is_type, BeginsNoFrame, HasFault};
 ghost use Rattle.pg_frames.specs.Passage.{start, fed, forgotten, after, answer_of, BeginsNoHead, BeginsWith, HasNoNext, Hands};
 
 use crate::buffer::{Buffer, CAPACITY};
-use crate::header::{FIELD_LEN, HEADER_LEN, Header, header_at};
+use crate::header::{FIELD_LEN, HEADER_LEN, Header, header_at, header_of};
 use crate::scan::fault_in;
 use crate::{FrameError, MAX_MESSAGE, MessageLimit, Piece};
 use std::alloc::Global;
@@ -241,11 +241,37 @@ pub fn whole_head(limit: MessageLimit, bytes: &[u8]) -> Option<Header>
     }
 }
 
+/// The head of the frame of this type, if the bytes behind the type hold all of it.
+#[inline]
+pub fn whole_head_of(limit: MessageLimit, kind: u8, after: &[u8]) -> Option<Header>
+    requires { IsTrue (is_type kind) }
+    ensures none { result ≡ None → BeginsNoFrame limit (kind ∷ after.now) }
+    ensures some { IfSome result (λ head. BeginsWith limit (kind ∷ after.now) head
+        × (head.length ≤ length after.now)) }
+{
+    match head_of(limit, kind, after) {
+        Some(head) if head.length <= after.len() => Some(head),
+        _ => None,
+    }
+}
+
 // The head at the front of the bytes.
 fn head_in(limit: MessageLimit, bytes: &[u8]) -> Option<Header>
     ensures { MatchOption result (BeginsNoHead limit bytes.now) (BeginsWith limit bytes.now) }
 {
     match header_at(limit, bytes) {
+        Ok(found) => found,
+        Err(_) => None,
+    }
+}
+
+// The head of this type, if the bytes behind the type begin with its length field.
+fn head_of(limit: MessageLimit, kind: u8, after: &[u8]) -> Option<Header>
+    requires { IsTrue (is_type kind) }
+    ensures { MatchOption result (BeginsNoHead limit (kind ∷ after.now))
+        (BeginsWith limit (kind ∷ after.now)) }
+{
+    match header_of(limit, kind, after) {
         Ok(found) => found,
         Err(_) => None,
     }

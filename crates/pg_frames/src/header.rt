@@ -1,6 +1,6 @@
 //! The front of a frame: its type byte and its length field, judged as soon as they have come.
-ghost use Rattle.std.specs.Prelude.{◌≡◌, ◌<◌, IfErr, IfOk, IfNone, IfSome, OnOk, None, Some, length};
-ghost use Rattle.pg_frames.specs.FrameText.{fault_at};
+ghost use Rattle.std.specs.Prelude.{◌≡◌, ◌<◌, ◌∷◌, IsTrue, IfErr, IfOk, IfNone, IfSome, OnOk, None, Some, length};
+ghost use Rattle.pg_frames.specs.FrameText.{fault_at, is_type};
 ghost use Rattle.pg_frames.specs.Header.{IsHeader};
 
 use crate::{FrameError, MessageLimit};
@@ -35,6 +35,19 @@ pub fn header_at(limit: MessageLimit, bytes: &[u8]) -> Result<Option<Header>, Fr
     if !kind.is_ascii_alphanumeric() {
         return Err(FrameError::BadType);
     }
+    header_of(limit, *kind, after)
+}
+
+/// The header with this type, of whose frame these bytes follow, none where too few have come, or
+/// the fault there.
+#[tactic(auto, unfolding(crate::specs::FrameText::fault_at))]
+pub fn header_of(limit: MessageLimit, kind: u8, after: &[u8]) -> Result<Option<Header>, FrameError>
+    requires { IsTrue (is_type kind) }
+    ensures fault { IfErr result (λ fault. fault_at limit (kind ∷ after.now) ≡ Some fault) }
+    ensures no_fault { OnOk result (fault_at limit (kind ∷ after.now) ≡ None) }
+    ensures short { IfOk result (λ found. IfNone found (length after.now < 4)) }
+    ensures header { IfOk result (λ found. IfSome found (IsHeader limit (kind ∷ after.now))) }
+{
     if after.len() < FIELD_LEN {
         return Ok(None);
     }
@@ -45,8 +58,5 @@ pub fn header_at(limit: MessageLimit, bytes: &[u8]) -> Result<Option<Header>, Fr
     if length > limit.get() as usize {
         return Err(FrameError::TooLong);
     }
-    Ok(Some(Header {
-        kind: *kind,
-        length,
-    }))
+    Ok(Some(Header { kind, length }))
 }

@@ -19,7 +19,7 @@ mod stream;
 pub use body::Body;
 pub use cutter::Cutter;
 pub use error::FrameError;
-pub use flow::{Flow, whole_head};
+pub use flow::{Flow, whole_head, whole_head_of};
 pub use frame::Frame;
 pub use header::Header;
 pub use limit::{MAX_MESSAGE, MessageLimit};

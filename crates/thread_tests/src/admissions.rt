@@ -26,10 +26,17 @@ fn admission(alloc: Global, places: u16) -> Result<Admission, Fail> {
     Ok(Admission::new(alloc, &settings)?)
 }
 
+// The client leaves, as a session does.
+fn leave<R: Wait>(rt: &R, entrance: &Entrance<'_>) {
+    if !entrance.try_leave() {
+        entrance.leave(rt);
+    }
+}
+
 fn come_and_go<R: Wait>(rt: &R, entrance: &Entrance<'_>) {
     for _i in 0..TIMES {
         entrance.enter(rt);
-        entrance.leave(rt);
+        leave(rt, entrance);
     }
 }
 
@@ -53,7 +60,7 @@ fn come_one_by_one<R: Wait + Abort>(rt: &R, admission: &Admission, entrances: &[
     }
     assert_eq!(rt; admission.inside(PLAIN), entrances.len());
     for entrance in entrances {
-        entrance.leave(rt);
+        leave(rt, entrance);
     }
     assert_eq!(rt; admission.inside(PLAIN), 0);
 }
@@ -148,10 +155,12 @@ fn come_often<R: Wait + Clock>(rt: &R, entrances: &[Entrance<'_>], place: usize,
         entrance.asked();
         if waits.with_queue && turn % 8 == 0 {
             entrance.queue(rt);
-            entrance.catch_up(rt);
+            if entrance.is_queued() {
+                entrance.leave_queue(rt);
+            }
         }
         thread::sleep(rt, Duration::from_micros(INSIDE));
-        entrance.leave(rt);
+        leave(rt, entrance);
     }
 }
 
@@ -221,7 +230,7 @@ fn assert_let_in<R: Threads + Wait + Clock + Sync + Abort>(
         assert!(rt; !entrance.enter(rt));
     }
     for entrance in two {
-        entrance.leave(rt);
+        leave(rt, entrance);
     }
 }
 
@@ -245,7 +254,7 @@ fn wait_often<R: Wait + Clock>(rt: &R, entrance: &Entrance<'_>, waits: &Waits, d
     for _i in 0..50u32 {
         waits.enter(rt, entrance);
         entrance.asked();
-        entrance.leave(rt);
+        leave(rt, entrance);
     }
     done.store(true, Ordering::SeqCst);
 }

@@ -173,17 +173,15 @@ impl<'a> Entrance<'a> {
         }
     }
 
-    /// The client waits in the node's queue no longer, if it did.
+    /// Whether the client waits in the node's queue.
     #[inline(always)]
-    pub fn catch_up<R: Wait>(&self, rt: &R) {
-        if self.state.load(Ordering::SeqCst) == QUEUED {
-            self.leave_queue(rt);
-        }
+    pub fn is_queued(&self) -> bool {
+        self.state.load(Ordering::SeqCst) == QUEUED
     }
 
-    // The client waits in the node's queue no longer. Others are let in.
+    /// The client waits in the node's queue no longer. Others are let in.
     #[inline(never)]
-    fn leave_queue<R: Wait>(&self, rt: &R) {
+    pub fn leave_queue<R: Wait>(&self, rt: &R) {
         self.state.store(ASKED, Ordering::SeqCst);
         self.semaphore.unqueue(rt);
         for _ in rt.forever() {
@@ -195,18 +193,17 @@ impl<'a> Entrance<'a> {
         unreachable!()
     }
 
-    /// Lets the next client in, where this one is done.
+    /// The client, which is done, leaves if nobody waits. Returns whether it did.
     #[inline(always)]
-    pub fn leave<R: Wait>(&self, rt: &R) {
+    pub fn try_leave(&self) -> bool {
         self.asked();
-        if !self.semaphore.leave_at_once() {
-            self.leave_and_wake(rt);
-        }
+        self.semaphore.leave_at_once()
     }
 
-    // The same where others may wait.
+    /// The client, which is done, leaves, and the next one is let in.
     #[inline(never)]
-    fn leave_and_wake<R: Wait>(&self, rt: &R) {
+    pub fn leave<R: Wait>(&self, rt: &R) {
+        self.asked();
         if let Some(state) = self.semaphore.leave(rt) {
             state.wake_all();
         }

@@ -178,9 +178,13 @@ where
     };
     let database = session.database();
     let acquired = acquire(service, caller, entrance, pass, database);
-    entrance.catch_up(service.rt);
+    if entrance.is_queued() {
+        entrance.leave_queue(service.rt);
+    }
     let end = serve_acquired(service, caller, client, cutter, session, acquired, request);
-    entrance.leave(service.rt);
+    if !entrance.try_leave() {
+        entrance.leave(service.rt);
+    }
     end
 }
 

@@ -1,20 +1,19 @@
 //! A reply that comes whole with one read.
-ghost use Rattle.std.specs.Prelude.{◌≡◌, ◌≤◌, ◌<◌, ◌+◌, ◌∷◌, [], ℕ, List, length, vec_len, None, Some, IfSome, IsTrue};
-ghost use Rattle.peer_forward.specs.Calls.{Call, Makes};
+ghost use Rattle.std.specs.Prelude.{◌≡◌, ◌≤◌, ◌<◌, ◌+◌, [], ℕ, length, None, Some, IfSome, IsTrue};
 ghost use Rattle.pg_frames.specs.Passage.{start, fed, BeginsWith};
 ghost use Rattle.client_state.specs.Acts.{ready_text};
 ghost use Rattle.client_state.specs.LinkMessage.{link_message, status_of};
 ghost use Rattle.client_state.specs.declared.link_message.LinkMessage.TheVariants.{PassOn};
-ghost use Rattle.node_threads.specs.StreamCalls.{SomeCalls, Read};
+ghost use Rattle.node_threads.specs.StreamCalls.{SomeCalls};
 ghost use Rattle.node_threads.specs.Progress.{asking, in_transaction, EndsHere, GoesOn, LeavesBehind, FinishesIdle, FinishesOpen, IsWhole, IsKnown};
-ghost use Rattle.node_threads.specs.Whole.{ArePassedOn};
+ghost use Rattle.node_threads.specs.Whole.{ArePassedOn, BeginsReading};
 
 use crate::session::link::read_into;
 use crate::session::replies::{lost, pass_rest};
 use crate::{Link, Stayed};
 use client_state::{Client, Reply, is_passed_on};
 use peer_forward::{ReadCalls, WriteCalls, write_whole};
-use pg_frames::{Flow, Header, MessageLimit, whole_head};
+use pg_frames::{Flow, Header, MessageLimit, whole_head_of};
 use std::sync::Wait;
 
 // How many bytes a ReadyForQuery takes.
@@ -43,50 +42,45 @@ pub fn pass_reply<R: Wait, C: WriteCalls + ReadCalls, L: WriteCalls + ReadCalls>
     ensures leaves { IfSome result
         (λ stayed. LeavesBehind link.old.flow.limit stayed session.old session.new link.new.flow) }
 {
-    if !link.flow.is_at_start() {
-        return pass_rest(rt, session, client, link);
-    }
-    let room = match session.take_room() {
-        Ok(room) => room,
-        Err(_) => return pass_rest(rt, session, client, link),
-    };
-    match pass_first(session, client, link, room) {
+    match pass_first(session, client, link) {
         Some(stayed) => stayed,
         None => pass_rest(rt, session, client, link),
     }
 }
 
-// Reads a link once into this memory, and passes the reply on if it came whole. It returns what
-// `pass_reply` does, or nothing where what came is fed to the link's flow, and more is to come.
+// Reads a link once, and passes the reply on if it came whole. It returns what `pass_reply` does, or
+// nothing where more is to come: what came is fed to the link's flow. Nothing is read where some of
+// the reply is there, or memory to read into is refused.
 fn pass_first<C: WriteCalls + ReadCalls, L: WriteCalls + ReadCalls>(
     session: &mut Client,
     client: &mut C,
     link: &mut Link<L>,
-    room: Vec<u8>,
 ) -> Option<Option<Stayed>>
     requires session { session.old ≡ asking session.old.limit session.old.database }
-    requires at_start { link.old.flow ≡ start link.old.flow.limit }
-    requires some { 0 < vec_len room }
-    requires few { vec_len room ≤ 16384 }
     ensures goes_on { result ≡ Some None → SomeCalls L.wrote L.gave link.old.stream link.new.stream
         (λ reads. SomeCalls C.wrote C.gave client.old client.new
-        (λ tells. GoesOn link.old.flow.limit [] [] reads tells)) }
+        (λ tells. GoesOn link.old.flow.limit link.old.flow.bytes [] reads tells)) }
     ensures open { result ≡ Some None
         → session.new ≡ in_transaction session.old.limit session.old.database }
     ensures drained { result ≡ Some None → link.new.flow ≡ start link.old.flow.limit }
     ensures ends { IfSome result (λ found. IfSome found (λ stayed.
         SomeCalls L.wrote L.gave link.old.stream link.new.stream
         (λ reads. SomeCalls C.wrote C.gave client.old client.new
-        (λ tells. EndsHere link.old.flow.limit [] [] reads tells stayed)))) }
+        (λ tells. EndsHere link.old.flow.limit link.old.flow.bytes [] reads tells stayed)))) }
     ensures leaves { IfSome result (λ found. IfSome found
         (λ stayed. LeavesBehind link.old.flow.limit stayed session.old session.new link.new.flow)) }
-    ensures more { result ≡ None → (call : Call)
-        × Makes L.wrote L.gave link.old.stream (call ∷ []) link.new.stream
-        × (bytes : List ℕ) × Read bytes (call ∷ []) × (link.new.flow ≡ fed link.old.flow bytes) }
+    ensures more { result ≡ None → BeginsReading L.wrote L.gave link.old.flow link.old.stream
+        link.new.flow link.new.stream }
     ensures session { result ≡ None → session.new ≡ session.old }
     ensures client { result ≡ None → client.new ≡ client.old }
 {
-    let mut room = room;
+    if !link.flow.is_at_start() {
+        return None;
+    }
+    let mut room = match session.take_room() {
+        Ok(room) => room,
+        Err(_) => return None,
+    };
     let count = read_into(&mut link.stream, &mut room);
     if count == 0 {
         return Some(Some(Stayed::End(lost(session))));
@@ -171,10 +165,12 @@ fn passed_head(limit: MessageLimit, bytes: &[u8]) -> Option<Header>
         × (link_message head.kind head.length ≡ PassOn)) }
 {
     // Most types are passed on, and the type is judged in fewer steps than the whole head.
-    if !is_passed_on(*bytes.first()?) {
-        return None;
+    let (kind, after) = bytes.split_first()?;
+    if is_passed_on(*kind) {
+        whole_head_of(limit, *kind, after)
+    } else {
+        None
     }
-    whole_head(limit, bytes)
 }
 
 // The status of a ReadyForQuery that these bytes are, if it is known.

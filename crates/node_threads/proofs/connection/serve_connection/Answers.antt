@@ -1,4 +1,4 @@
-use Rattle.std.proofs.Common.{◌≡◌, ◌∙◌, inl, inr, rules, ℕ, List, true, false, Option, ap, sym, subst}
+use Rattle.std.proofs.Common.{◌≡◌, ◌∙◌, inl, inr, rules, ℕ, List, ap, subst}
 use Rattle.pg_ids.specs.declared.any_key.Kind.{Kind}
 use Rattle.startup.specs.Replies.{Report}
 use Rattle.ini_config.specs.Node.{NodeSettings}

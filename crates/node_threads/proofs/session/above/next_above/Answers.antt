@@ -1,4 +1,3 @@
-use Rattle.std.proofs.Common.{refl}
 use Rattle.node_threads.proofs.AboveLemmas.{found_between}
 use Rattle.node_threads.proofs.session.above.next_above.Goals as goal
 

@@ -1,4 +1,4 @@
-use Rattle.std.proofs.Common.{◌≡◌, slice_get, Some}
+use Rattle.std.proofs.Common.{◌≡◌, slice_get}
 use Rattle.std.specs.Arc.{arc_value}
 use Rattle.std.specs.Option.{ForSome}
 use Rattle.node_threads.proofs.ConsoleLemmas.{Answering}
