@@ -7,19 +7,15 @@ import sys
 import time
 
 from hard.others import Others
-from hard.trial import LIBC, Pooler, Postgres, scenario
+from hard.trial import Pooler, Postgres, enter_network, scenario
 from hard.wire import LIMIT, Lost, frame, outcome, query_frame, wait_until
-
-CLONE_NEWNET = 0x40000000
 
 
 def enter_small_network(t):
     """A network namespace whose packets have 1,500 bytes, as on Ethernet. On loopback's own 65,536 large
     pieces pass at once."""
-    if LIBC.unshare(CLONE_NEWNET) == 0:
-        done = subprocess.run(["ip", "link", "set", "dev", "lo", "mtu", "1500", "up"], check=False)
-        if done.returncode == 0:
-            return t.note("in a network namespace with packets of 1,500 bytes")
+    if enter_network("mtu", "1500"):
+        return t.note("in a network namespace with packets of 1,500 bytes")
     t.note("no network namespace can be made: on loopback as it is")
 
 

@@ -5,7 +5,7 @@ import time
 from hard.fake import FOREVER, DeadHost, FakeServer
 from hard.others import Others
 from hard.trial import Pooler, Postgres, scenario
-from hard.wire import error_frame, frame, outcome, row_frames
+from hard.wire import error_frame, frame, outcome, row_frames, wait_until
 
 NOTIFICATION = frame(b"A", b"\0\0\0\1channel\0text\0")
 SAYS_ENDED = error_frame("57P01", "terminating connection due to administrator command", "FATAL")
@@ -34,6 +34,36 @@ def judge_idle(t, act):
     came = [outcome(lambda client=client: client.read_reply()[0][0]) for client in clients]
     wrong = [text for number, text in enumerate(came) if text != f"ok:own {number}"]
     t.check(not wrong, "sessions that ended", f"{len(wrong)} of 16" + (f": {wrong[0]}" if wrong else ""), "0")
+
+
+@scenario("slow-login", limit=40)
+def slow_login(t):
+    """a client that waited for a server connection opens one slowly: the others go on as quickly as before"""
+    slow = threading.Event()
+
+    def log_in(backend):
+        if slow.is_set():
+            time.sleep(4)
+        backend.send(backend.greeting())
+
+    server = FakeServer(t.port(), on_login=log_in)
+    pooler = Pooler(t, {"shop": server.port}, pool=2)
+    holder, leaver, waiter = (pooler.client() for _ in range(3))
+    holder.query("begin")
+    leaver.query("begin")
+    waiter.start("select 'waited'")
+    wait_until(lambda: any(row[2] == "waiting" for row in pooler.show("CLIENTS")), 5)
+    slow.set()
+    leaver.vanish()
+    wait_until(lambda: len(server.backends) == 3, 5)
+    holder.query("commit")
+    begun = time.monotonic()
+    for _ in range(50):
+        holder.value("select 'quick'")
+    took = time.monotonic() - begun
+    t.check(took < 0.5, "50 queries of another client meanwhile", f"{took:.2f} s", "within 0.5 s")
+    came = outcome(lambda: waiter.read_reply(10)[0][0])
+    t.check(came == "ok:waited", "the client itself", came, "ok:waited")
 
 
 @scenario("restart-idle", limit=40)

@@ -32,6 +32,17 @@ def scenario(name, limit=60, slow=False):
     return add
 
 
+CLONE_NEWNET = 0x40000000
+
+
+def enter_network(*settings):
+    """A network namespace of the scenario's own, whose loopback has these settings. Returns whether
+    there is one: it takes root."""
+    if LIBC.unshare(CLONE_NEWNET) != 0:
+        return False
+    return subprocess.run(["ip", "link", "set", "dev", "lo", *settings, "up"], check=False).returncode == 0
+
+
 def bind_to_parent():
     """The process ends with the one that starts it."""
     LIBC.prctl(1, signal.SIGKILL, 0, 0, 0)

@@ -3,7 +3,7 @@ import socket
 import time
 
 from hard.fake import FakeServer
-from hard.trial import Pooler, Postgres, scenario
+from hard.trial import Pooler, Postgres, enter_network, scenario
 from hard.wire import (Client, Late, Lost, Refused, connect, frame, outcome, query_frame, read_end, reset, startup,
                        wait_until)
 
@@ -42,6 +42,52 @@ def vanish_running(t):
                                   " and pid <> pg_backend_pid()")[0][0] == "0", 8)
     rows = server.ask("select count(*) from t")[0][0]
     t.check(rows == "0", "rows of those who left", rows, "0")
+
+
+TCP_REPAIR = 19
+
+
+def vanish_silently(stream):
+    """The other side isn't told that the connection is over, as if this machine were gone."""
+    stream.setsockopt(socket.IPPROTO_TCP, TCP_REPAIR, 1)
+    stream.close()
+
+
+def send_keepalives_soon():
+    for name, value in (("time", 1), ("intvl", 1), ("probes", 2)):
+        with open(f"/proc/sys/net/ipv4/tcp_keepalive_{name}", "w") as file:
+            file.write(str(value))
+
+
+@scenario("vanish-silently", limit=60)
+def silent_death(t):
+    """a server or a client is gone without a word: keepalives end its connection"""
+    if not enter_network():
+        return t.note("no network namespace can be made: not tried")
+    send_keepalives_soon()
+    server = FakeServer(t.port())
+    pooler = Pooler(t, {"shop": server.port}, pool=1)
+    client = pooler.client()
+    client.start("select pg_sleep(60)")
+    wait_until(lambda: server.is_running("select pg_sleep(60)"), 5)
+    vanish_silently(server.backends[-1].stream)
+    begun = time.monotonic()
+    came = outcome(client.read_reply, 15)
+    took = time.monotonic() - begun
+    t.check("FATAL 08006" in came and took < 10, "a client whose server is gone", f"{came} after {took:.1f} s",
+            "FATAL 08006 within 10 s")
+    for texts in (["begin"], ["begin", "select pg_sleep(60)"]):
+        client, after = pooler.client(), pooler.client()
+        client.query(texts[0])
+        for text in texts[1:]:
+            client.start(text)
+        time.sleep(0.3)
+        vanish_silently(client.stream)
+        begun = time.monotonic()
+        came = outcome(after.value, "select 'next'", 15)
+        took = time.monotonic() - begun
+        t.check(came == "ok:next" and took < 10, f"the next client after one that is gone with {texts[-1]!r}",
+                f"{came} after {took:.1f} s", "served within 10 s")
 
 
 @scenario("vanish-waiting", limit=60)

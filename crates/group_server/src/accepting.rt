@@ -4,6 +4,7 @@ use crate::crew::Crew;
 use crate::doorway::Doorway;
 use crate::ending::end;
 use crate::guests::Newcomer;
+use crate::keepalive::keep_alive;
 use crate::limits::{ALONE_MILLIS, FIRST_PACKETS_MILLIS, NEWCOMER_AGE_MILLIS};
 use crate::log::{Event, Value};
 use crate::{Connection, Deadline, Host, Log, Machine, Serving};
@@ -111,6 +112,7 @@ impl<M: Machine> Acceptor<M> {
         serves: Serves,
     ) -> io::Result<()> {
         connection.socket().set_nodelay(true)?;
+        keep_alive(connection.descriptor());
         let mut serves = serves;
         let calling = match node.take(host, alloc) {
             Some(calling) => calling,

@@ -21,6 +21,7 @@ mod first_packet;
 mod group;
 mod guests;
 mod host;
+mod keepalive;
 mod last_words;
 mod limits;
 mod link_stream;

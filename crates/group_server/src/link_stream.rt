@@ -2,6 +2,7 @@
 ghost use Rattle.std.specs.Io.{ReadsAtMost, WritesAtMost};
 
 use crate::error_kind::{Cause, with_error, with_kind};
+use crate::keepalive::keep_alive;
 use crate::limits::{LOOK_MILLIS, WRITE_MILLIS};
 use crate::looks::Looks;
 use crate::poll::{is_ended, is_quiet, wait_both};
@@ -54,6 +55,7 @@ impl<M: Machine> LinkStream<M> {
         database: Option<DatabaseNo>,
     ) -> io::Result<LinkStream<M>> {
         socket.set_nodelay(true)?;
+        keep_alive(socket.as_raw_fd());
         socket.set_read_timeout(Some(Duration::from_millis(LOOK_MILLIS)))?;
         socket.set_write_timeout(Some(Duration::from_millis(WRITE_MILLIS)))?;
         let inside = Inside {

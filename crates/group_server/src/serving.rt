@@ -125,10 +125,17 @@ impl<M: Machine> Serving<M> {
         }
     }
 
-    /// Keeps a caller for the next connection. One that can't be kept is made anew then. It isn't
-    /// inlined, so that a connection's stack has no room for a caller that is dropped.
+    /// Keeps a caller for the next connection, or for the next cancel request if none is kept for
+    /// that. One that can't be kept is made anew then. It isn't inlined, so that a connection's
+    /// stack has no room for a caller that is dropped.
     #[inline(never)]
     pub fn give_back<R: Wait>(&self, rt: &R, calling: Box<Calling<LinkStream<M>>>) {
-        let _ = self.free.lock(rt).push(calling);
+        let has_reserve = !self.reserve.lock(rt).is_empty();
+        let kept = if has_reserve {
+            &self.free
+        } else {
+            &self.reserve
+        };
+        let _ = kept.lock(rt).push(calling);
     }
 }

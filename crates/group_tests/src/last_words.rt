@@ -10,7 +10,9 @@ const NOTICE: &[u8] = b"N\0\0\0\x0aSLOG\0\0";
 
 const ERROR: &[u8] = b"E\0\0\0\x13SFATAL\0C57P01\0\0";
 
-// Among the first bytes of these no error is found before one is whole.
+const SECOND: &[u8] = b"E\0\0\0\x13SFATAL\0C08006\0\0";
+
+// Among the first bytes of these no error is found before one is whole, and then always that one.
 fn assert_found_whole(rt: &impl Abort, bytes: &[u8], whole: usize) {
     for end in 0..=bytes.len() {
         let found = find_error(bytes.split_at(end.min(bytes.len())).0);
@@ -22,7 +24,7 @@ fn assert_found_whole(rt: &impl Abort, bytes: &[u8], whole: usize) {
 #[test]
 fn the_error_is_found(rt: HostRuntime) -> Result<(), Fail> {
     let mut bytes = Vec::new(rt.alloc());
-    for message in [STATUS, NOTICE, ERROR, NOTICE] {
+    for message in [STATUS, NOTICE, ERROR, SECOND] {
         bytes.extend_from_slice(message)?;
     }
     let whole = STATUS.len() + NOTICE.len() + ERROR.len();

@@ -56,7 +56,7 @@ fn two_come_and_go<R: Threads + Wait + Sync>(rt: &R, one: &Entrance<'_>, other: 
 fn come_one_by_one<R: Wait + Abort>(rt: &R, admission: &Admission, entrances: &[Entrance<'_>]) {
     for (before, entrance) in entrances.iter().enumerate() {
         assert_eq!(rt; admission.inside(PLAIN), before);
-        entrance.enter(rt);
+        assert_eq!(rt; entrance.enter(rt), before == 2);
     }
     assert_eq!(rt; admission.inside(PLAIN), entrances.len());
     for entrance in entrances {
@@ -89,7 +89,7 @@ fn nobody_is_left_inside(rt: HostRuntime) -> Result<(), Fail> {
 }
 
 // After how many milliseconds a client comes in that isn't let in before.
-const TIMEOUT: u64 = 20;
+const TIMEOUT: u64 = 200;
 
 // How often each of eight clients comes under load.
 const TURNS: u32 = 200;
@@ -152,12 +152,11 @@ fn come_often<R: Wait + Clock>(rt: &R, entrances: &[Entrance<'_>], place: usize,
         } else {
             waits.enter(rt, entrance);
         }
-        entrance.asked();
+        entrance.asked(rt, false);
         if waits.with_queue && turn % 8 == 0 {
             entrance.queue(rt);
-            if entrance.is_queued() {
-                entrance.leave_queue(rt);
-            }
+            entrance.asked(rt, true);
+            entrance.asked(rt, false);
         }
         thread::sleep(rt, Duration::from_micros(INSIDE));
         leave(rt, entrance);
@@ -253,7 +252,7 @@ fn whoever_waits_is_let_in(rt: HostRuntime) -> Result<(), Fail> {
 fn wait_often<R: Wait + Clock>(rt: &R, entrance: &Entrance<'_>, waits: &Waits, done: &AtomicBool) {
     for _i in 0..50u32 {
         waits.enter(rt, entrance);
-        entrance.asked();
+        entrance.asked(rt, false);
         leave(rt, entrance);
     }
     done.store(true, Ordering::SeqCst);
@@ -302,5 +301,148 @@ fn whoever_is_told_to_ask_asks(rt: HostRuntime) -> Result<(), Fail> {
     waits.assert_early(&rt);
     keeper.leave(&rt);
     assert_eq!(rt; admission.inside(PLAIN), 0);
+    Ok(())
+}
+
+// While a client waits in the node's queue nobody is let in at once. Others are when it asks again and
+// needn't wait.
+#[test]
+fn whoever_waits_no_longer_lets_others_in(rt: HostRuntime) -> Result<(), Fail> {
+    let alloc = rt.alloc();
+    let admission = admission(alloc, 2)?;
+    let opens = Entrance::new(&rt, alloc, &admission, SlotNo(0), PLAIN)?;
+    let other = Entrance::new(&rt, alloc, &admission, SlotNo(1), PLAIN)?;
+    assert!(rt; opens.try_enter());
+    opens.queue(&rt);
+    assert!(rt; !other.try_enter());
+    opens.asked(&rt, true);
+    assert!(rt; !other.try_enter());
+    opens.asked(&rt, false);
+    assert!(rt; other.try_enter());
+    leave(&rt, &other);
+    opens.queue(&rt);
+    assert!(rt; !other.try_enter());
+    leave(&rt, &opens);
+    assert!(rt; other.try_enter());
+    leave(&rt, &other);
+    assert_eq!(rt; admission.inside(PLAIN), 0);
+    Ok(())
+}
+
+// Four clients at one place: one that is inside, one that waits for all that follows, one that is
+// made to ask, leaves and comes again, and one that came before it did so.
+#[derive(Clone, Copy)]
+struct Line<'a> {
+    admission: &'a Admission,
+    keeper: &'a Entrance<'a>,
+    first: &'a Entrance<'a>,
+    again: &'a Entrance<'a>,
+    between: &'a Entrance<'a>,
+    // How many of the last two were let in, and how often the one that came again was the first.
+    let_in: &'a AtomicU64,
+    wrong: &'a AtomicU64,
+}
+
+// Time for others to come.
+fn pause<R: Wait + Clock>(rt: &R, steps: u64) {
+    thread::sleep(rt, Duration::from_millis(steps.saturating_mul(5)));
+}
+
+fn enter_and_leave<R: Wait>(rt: &R, entrance: &Entrance<'_>) {
+    entrance.enter(rt);
+    leave(rt, entrance);
+}
+
+// The client that came again.
+fn come_again<R: Wait + Clock>(rt: &R, line: Line<'_>) {
+    pause(rt, 1);
+    enter_and_leave(rt, line.again);
+    pause(rt, 2);
+    line.again.enter(rt);
+    if line.let_in.fetch_add(1, Ordering::SeqCst) == 0 {
+        line.wrong.fetch_add(1, Ordering::SeqCst);
+    }
+    leave(rt, line.again);
+}
+
+fn come_between<R: Wait + Clock>(rt: &R, line: Line<'_>) {
+    pause(rt, 3);
+    line.between.enter(rt);
+    line.let_in.fetch_add(1, Ordering::SeqCst);
+    leave(rt, line.between);
+}
+
+// The client that is inside goes when all others wait.
+fn tell_and_go<R: Wait + Clock>(rt: &R, line: Line<'_>) {
+    pause(rt, 2);
+    line.admission.tell_to_ask(rt, SlotNo(2));
+    pause(rt, 4);
+    leave(rt, line.keeper);
+}
+
+fn the_last_two<R: Threads + Wait + Clock + Sync>(rt: &R, line: Line<'_>) {
+    thread::join(
+        rt,
+        ||
+            requires { IsSync R.row }
+        { come_again(rt, line) },
+        ||
+            requires { IsSync R.row }
+        { come_between(rt, line) },
+    );
+}
+
+fn the_first_two<R: Threads + Wait + Clock + Sync>(rt: &R, line: Line<'_>) {
+    thread::join(
+        rt,
+        ||
+            requires { IsSync R.row }
+        { tell_and_go(rt, line) },
+        ||
+            requires { IsSync R.row }
+        { enter_and_leave(rt, line.first) },
+    );
+}
+
+fn all_four<R: Threads + Wait + Clock + Sync>(rt: &R, line: Line<'_>) {
+    thread::join(
+        rt,
+        ||
+            requires { IsSync R.row }
+        { the_first_two(rt, line) },
+        ||
+            requires { IsSync R.row }
+        { the_last_two(rt, line) },
+    );
+}
+
+// Whoever comes again waits behind those that came before, also where its earlier wait ended early.
+// A thread can be late, so this is tried ten times.
+#[test]
+fn whoever_comes_again_waits_again(rt: HostRuntime) -> Result<(), Fail> {
+    let alloc = rt.alloc();
+    let admission = admission(alloc, 1)?;
+    let keeper = Entrance::new(&rt, alloc, &admission, SlotNo(0), PLAIN)?;
+    let first = Entrance::new(&rt, alloc, &admission, SlotNo(1), PLAIN)?;
+    let again = Entrance::new(&rt, alloc, &admission, SlotNo(2), PLAIN)?;
+    let between = Entrance::new(&rt, alloc, &admission, SlotNo(3), PLAIN)?;
+    let let_in = AtomicU64::new(0);
+    let wrong = AtomicU64::new(0);
+    let line = Line {
+        admission: &admission,
+        keeper: &keeper,
+        first: &first,
+        again: &again,
+        between: &between,
+        let_in: &let_in,
+        wrong: &wrong,
+    };
+    for _i in 0..10u32 {
+        let_in.store(0, Ordering::SeqCst);
+        line.keeper.enter(&rt);
+        all_four(&rt, line);
+        assert_eq!(rt; admission.inside(PLAIN), 0);
+    }
+    assert!(rt; wrong.load(Ordering::SeqCst) < 5);
     Ok(())
 }

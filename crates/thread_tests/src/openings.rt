@@ -59,7 +59,7 @@ fn assert_over<R: Wait + Abort>(rt: &R, alloc: Global, turns: &'static [Turn]) {
     let mut cutter = Cutter::new(alloc);
     let opened = open(rt, alloc, &mut client, &mut cutter);
     assert!(rt; matches!(opened, Opened::Over));
-    assert!(rt; client.is_done());
+    assert!(rt; client.is_done() && !client.has_strayed());
 }
 
 #[test]

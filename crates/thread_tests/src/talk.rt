@@ -23,11 +23,21 @@ pub(crate) struct Talk {
     turns: &'static [Turn],
     // What is left to take of a turn that began.
     takes: &'static [u8],
+    // Whether it was written what isn't its turn, and isn't the error of out of memory.
+    has_strayed: bool,
 }
 
 impl Talk {
     pub(crate) fn new(turns: &'static [Turn]) -> Talk {
-        Talk { turns, takes: b"" }
+        Talk {
+            turns,
+            takes: b"",
+            has_strayed: false,
+        }
+    }
+
+    pub(crate) fn has_strayed(&self) -> bool {
+        self.has_strayed
     }
 
     // Whether all its turns were taken.
@@ -61,12 +71,18 @@ impl Talk {
         if self.takes.is_empty() {
             match self.turns.first() {
                 Some(Turn::TakesError(fields)) => {
+                    if !is_error(bytes, fields) {
+                        return false;
+                    }
                     self.turns = self.turns.split_at(1).1;
-                    return is_error(bytes, fields);
+                    return true;
                 }
                 Some(Turn::TakesLength(length)) => {
+                    if bytes.len() != *length {
+                        return false;
+                    }
                     self.turns = self.turns.split_at(1).1;
-                    return bytes.len() == *length;
+                    return true;
                 }
                 _ => {}
             }
@@ -123,10 +139,12 @@ impl Read for Talk {
 impl Write for Talk {
     fn write(&mut self, bytes: &[u8]) -> io::Result<usize> {
         if self.take(bytes) {
-            Ok(bytes.len())
-        } else {
-            Err(io::Error::from(ErrorKind::BrokenPipe))
+            return Ok(bytes.len());
         }
+        if !is_out_of_memory(bytes) {
+            self.has_strayed = true;
+        }
+        Err(io::Error::from(ErrorKind::BrokenPipe))
     }
 
     fn flush(&mut self) -> io::Result<()> {

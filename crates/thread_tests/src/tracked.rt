@@ -110,14 +110,20 @@ impl Talk {
         if self.takes.is_empty()
             && let Some(Turn::TakesError(fields)) = self.turns.first()
         {
+            if !is_error(bytes, fields) {
+                return false;
+            }
             self.turns = self.turns.split_at(1).1;
-            return is_error(bytes, fields);
+            return true;
         }
         if self.takes.is_empty()
             && let Some(Turn::TakesLength(length)) = self.turns.first()
         {
+            if bytes.len() != *length {
+                return false;
+            }
             self.turns = self.turns.split_at(1).1;
-            return bytes.len() == *length;
+            return true;
         }
         for byte in bytes {
             if !self.take_byte(*byte) {

@@ -259,8 +259,8 @@ fn cancelled_of<R: Threads + Wait + Clock + Sync + Abort>(
     calls_of(third.caller(), CallAnswer::CancelNoLink)
 }
 
-// Requests for a client that waits to be let in find it waiting. If it weren't told to ask, those
-// of the first 20 milliseconds would find it without a link: some six each time.
+// Requests for a client that waits to be let in find it waiting. If it weren't told to ask, all
+// twenty would find it without a link.
 #[test]
 fn waits_are_cancelled(rt: HostRuntime) -> Result<(), Fail> {
     let mut early = 0u128;
@@ -280,7 +280,7 @@ fn visited_for<R: Wait + Clock>(rt: &R, scene: Scene<'_>, calling: &mut Calling<
 }
 
 // After a client has waited in the node's queue others are let in at once. Of a hundred that come,
-// one after another, each would wait for 20 milliseconds otherwise.
+// one after another, each would wait for 200 milliseconds otherwise.
 fn come_later<R: Threads + Wait + Clock + Sync + Abort>(
     rt: &R,
     scene: Scene<'_>,

@@ -5,9 +5,9 @@
 //! has asked again: each hand-over would wait until a thread has woken up. So clients wait here
 //! first, where whoever is done wakes the next one, and those that were let in ask in any order.
 //! While one of them waits in the node's queue all the same, nobody is let in. A client that was
-//! not let in within 20 milliseconds asks all the same; so does one at once that is made to, by a
+//! not let in within 200 milliseconds asks all the same; so does one at once that is made to, by a
 //! cancel request for it or by the console. No claim of a node rests on this.
-use crate::node::semaphore::{ADMITTED, ASKED, QUEUED, Semaphore, State, TOLD, WAITING, exchange};
+use crate::node::semaphore::{ADMITTED, ASKED, QUEUED, Semaphore, State, TOLD, exchange};
 use ini_config::Settings;
 use pg_ids::{DatabaseNo, SlotNo};
 use std::alloc::{AllocError, Global};
@@ -16,9 +16,10 @@ use std::sync::{Arc, Mutex, Wait};
 use std::time::Duration;
 
 // How many milliseconds a client waits to be let in.
-const TIMEOUT: u64 = 20;
+const TIMEOUT: u64 = 200;
 
-// How many milliseconds, and how many times, whoever told a client to ask waits until it has asked.
+// How many milliseconds whoever told a client to ask waits until it has asked, and how many times;
+// how many times it tries to tell one whose state changes meanwhile.
 const ASKING: u64 = 20;
 
 const TRIES: u64 = 5;
@@ -130,37 +131,46 @@ impl<'a> Entrance<'a> {
         self.semaphore.come_at_once()
     }
 
-    /// Waits until the client may ask for a link, for 20 milliseconds at most. Returns whether it
+    /// Waits until the client may ask for a link, for 200 milliseconds at most. Returns whether it
     /// had to wait.
     #[inline(never)]
     pub fn enter<R: Wait>(&self, rt: &R) -> bool {
-        if self.semaphore.come(rt, &self.state) {
+        let Some(wait) = self.semaphore.come(rt, &self.state) else {
             return false;
-        }
+        };
         let limit = Duration::from_millis(TIMEOUT);
-        self.state.park_timeout(rt, WAITING as u32, limit);
-        if exchange(&self.state, WAITING, ADMITTED)
-            || exchange(&self.state, WAITING | TOLD, ADMITTED | TOLD)
-        {
+        self.state.park_timeout(rt, low_half(wait), limit);
+        let found = self.state.fetch_or(ADMITTED, Ordering::SeqCst);
+        if found & ADMITTED == 0 {
             self.semaphore.enter(rt);
         }
         true
     }
 
-    /// The client has asked for a link. Whoever told it to is woken.
+    /// Whether [`Entrance::asked`] is to be called once the client has asked: it was let in after it
+    /// waited, or waits in the node's queue.
     #[inline(always)]
-    pub fn asked(&self) {
-        if self.state.load(Ordering::SeqCst) != ASKED {
-            self.tell_asked();
+    pub fn needs_asked(&self) -> bool {
+        self.state.load(Ordering::SeqCst) != ASKED
+    }
+
+    /// The client has asked for a link, and has to wait for it in the node's queue or not. Whoever
+    /// told it to ask is woken. If it waited there and doesn't any more, others are let in.
+    #[inline(never)]
+    pub fn asked<R: Wait>(&self, rt: &R, is_waiting: bool) {
+        self.tell_asked();
+        if self.is_queued() && !is_waiting {
+            self.leave_queue(rt);
         }
     }
 
     #[inline(never)]
     fn tell_asked(&self) {
-        if exchange(&self.state, ADMITTED, ASKED) {
+        if has_asked(self.state.load(Ordering::SeqCst)) {
             return;
         }
-        if exchange(&self.state, ADMITTED | TOLD, ASKED) {
+        let found = self.state.swap(ASKED, Ordering::SeqCst);
+        if found & TOLD != 0 {
             self.state.wake_all();
         }
     }
@@ -173,15 +183,14 @@ impl<'a> Entrance<'a> {
         }
     }
 
-    /// Whether the client waits in the node's queue.
-    #[inline(always)]
-    pub fn is_queued(&self) -> bool {
+    // Whether the client waits in the node's queue.
+    fn is_queued(&self) -> bool {
         self.state.load(Ordering::SeqCst) == QUEUED
     }
 
-    /// The client waits in the node's queue no longer. Others are let in.
+    // The client waits in the node's queue no longer. Others are let in.
     #[inline(never)]
-    pub fn leave_queue<R: Wait>(&self, rt: &R) {
+    fn leave_queue<R: Wait>(&self, rt: &R) {
         self.state.store(ASKED, Ordering::SeqCst);
         self.semaphore.unqueue(rt);
         for _ in rt.forever() {
@@ -193,17 +202,17 @@ impl<'a> Entrance<'a> {
         unreachable!()
     }
 
-    /// The client, which is done, leaves if nobody waits. Returns whether it did.
+    /// The client, which is done, leaves if nobody waits and nobody has to be told. Returns whether it
+    /// did.
     #[inline(always)]
     pub fn try_leave(&self) -> bool {
-        self.asked();
-        self.semaphore.leave_at_once()
+        !self.needs_asked() && self.semaphore.leave_at_once()
     }
 
     /// The client, which is done, leaves, and the next one is let in.
     #[inline(never)]
     pub fn leave<R: Wait>(&self, rt: &R) {
-        self.asked();
+        self.asked(rt, false);
         if let Some(state) = self.semaphore.leave(rt) {
             state.wake_all();
         }
@@ -213,11 +222,30 @@ impl<'a> Entrance<'a> {
 // Tells a client to ask at once, if it waits to be let in or was let in and hasn't asked. Returns
 // whether it is about to ask.
 fn tell(state: &AtomicU64) -> bool {
-    if exchange(state, WAITING, WAITING | TOLD) {
-        state.wake_all();
-        return true;
+    for _ in 0..TRIES {
+        let found = state.load(Ordering::SeqCst);
+        if has_asked(found) {
+            return false;
+        }
+        if found & TOLD != 0 {
+            return true;
+        }
+        if exchange(state, found, found | TOLD) {
+            state.wake_all();
+            return true;
+        }
     }
-    exchange(state, ADMITTED, ADMITTED | TOLD) || state.load(Ordering::SeqCst) & TOLD != 0
+    false
+}
+
+// Whether a client in this state has asked, or has no request.
+fn has_asked(state: u64) -> bool {
+    state & ASKED != 0
+}
+
+// What is compared of a state before a thread sleeps.
+fn low_half(state: u64) -> u32 {
+    (state % (1 << 32)) as u32
 }
 
 // Waits until a client that has to ask has asked.
@@ -227,10 +255,6 @@ fn await_asked<R: Wait>(rt: &R, state: &AtomicU64) {
         if found & TOLD == 0 {
             return;
         }
-        state.park_timeout(
-            rt,
-            (found % (1 << 32)) as u32,
-            Duration::from_millis(ASKING),
-        );
+        state.park_timeout(rt, low_half(found), Duration::from_millis(ASKING));
     }
 }

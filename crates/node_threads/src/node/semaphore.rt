@@ -6,18 +6,20 @@ use std::collections::VecDeque;
 use std::sync::atomic::{AtomicU64, Ordering};
 use std::sync::{Arc, Mutex, Wait};
 
-// The state of a client: it waits to be let in; it was let in after it waited, and hasn't asked for
-// a link yet; it has asked, or has no request; it waits in the node's queue.
-pub(crate) const WAITING: u64 = 0;
-
+// The state of a client. While it waits to be let in, it is a multiple of `WAIT`, another one for
+// each wait. Beside that: it was let in, and hasn't asked for a link yet.
 pub(crate) const ADMITTED: u64 = 1;
 
+// It has asked, or has no request.
 pub(crate) const ASKED: u64 = 2;
 
+// It waits in the node's queue. This has the bit of `ASKED`, too.
 pub(crate) const QUEUED: u64 = 3;
 
-// Beside the first two: it has to ask at once, and somebody waits until it has.
+// Beside the number of a wait: it has to ask at once, and somebody waits until it has.
 pub(crate) const TOLD: u64 = 4;
+
+const WAIT: u64 = 8;
 
 // Beside the number of those inside, where only whoever holds the lock of the queue may change that.
 const LOCKED: u64 = 1 << 32;
@@ -43,9 +45,12 @@ struct Queue {
     is_locked: bool,
     // How many of those inside wait in the node's queue.
     queued: usize,
-    // The clients that wait to be let in, in the order in which they came, and some that no longer
-    // do.
-    waiting: VecDeque<State>,
+    // The state of the client that waits next.
+    next_wait: u64,
+    // The clients that wait to be let in, in the order in which they came, with their states
+    // meanwhile, and some that no longer do. A client that waits again has another state, so what
+    // is left of its earlier wait stays one of these.
+    waiting: VecDeque<(State, u64)>,
 }
 
 impl Semaphore {
@@ -61,6 +66,7 @@ impl Semaphore {
             queue: Mutex::new(Queue {
                 is_locked: false,
                 queued: 0,
+                next_wait: 0,
                 waiting: VecDeque::new(alloc),
             }),
         }
@@ -85,18 +91,22 @@ impl Semaphore {
         0 < found && found < LOCKED && exchange(&self.inside, found, found - 1)
     }
 
-    /// A client comes. Returns whether it is inside, or has to wait. Where memory for waiting is
-    /// refused it needn't.
-    pub(crate) fn come<R: Wait>(&self, rt: &R, state: &State) -> bool {
+    /// A client comes. Returns its state while it waits, or none if it is inside. Where memory for
+    /// waiting is refused it needn't wait.
+    pub(crate) fn come<R: Wait>(&self, rt: &R, state: &State) -> Option<u64> {
         let mut queue = self.queue.lock(rt);
         self.begin(&mut queue);
-        let must_wait = !self.is_open(&queue) && queue.push(state);
-        if !must_wait {
+        let wait = if self.is_open(&queue) {
+            None
+        } else {
+            queue.push(state)
+        };
+        if wait.is_none() {
             state.store(ADMITTED, Ordering::SeqCst);
             self.add_one();
         }
         self.end(&mut queue);
-        !must_wait
+        wait
     }
 
     /// A client that waited too long comes in.
@@ -174,10 +184,10 @@ impl Semaphore {
             return None;
         }
         for _ in 0..queue.waiting.len() {
-            let Some(state) = queue.waiting.pop_front() else {
+            let Some((state, wait)) = queue.waiting.pop_front() else {
                 break;
             };
-            if exchange(&state, WAITING, ADMITTED) {
+            if exchange(&state, wait, wait | ADMITTED) {
                 self.add_one();
                 return Some(state);
             }
@@ -187,21 +197,24 @@ impl Semaphore {
 }
 
 impl Queue {
-    // A client waits from now on. Returns whether it does: not where memory was refused.
-    fn push(&mut self, state: &State) -> bool {
+    // A client waits from now on. Returns its state meanwhile, or none where memory was refused.
+    fn push(&mut self, state: &State) -> Option<u64> {
         self.forget_gone();
-        state.store(WAITING, Ordering::SeqCst);
-        match Arc::try_clone(state) {
-            Ok(waiting) => self.waiting.push_back(waiting).is_ok(),
-            Err(_) => false,
+        let wait = self.next_wait;
+        let waiting = Arc::try_clone(state).ok()?;
+        if self.waiting.push_back((waiting, wait)).is_err() {
+            return None;
         }
+        self.next_wait = wait.wrapping_add(WAIT);
+        state.store(wait, Ordering::SeqCst);
+        Some(wait)
     }
 
     // Forgets those at the front that wait no longer.
     fn forget_gone(&mut self) {
         for _ in 0..self.waiting.len() {
             match self.waiting.front() {
-                Some(state) if state.load(Ordering::SeqCst) != WAITING => {}
+                Some(first) if first.0.load(Ordering::SeqCst) != first.1 => {}
                 _ => return,
             }
             self.waiting.pop_front();

@@ -178,9 +178,6 @@ where
     };
     let database = session.database();
     let acquired = acquire(service, caller, entrance, pass, database);
-    if entrance.is_queued() {
-        entrance.leave_queue(service.rt);
-    }
     let end = serve_acquired(service, caller, client, cutter, session, acquired, request);
     if !entrance.try_leave() {
         entrance.leave(service.rt);

@@ -81,7 +81,9 @@ fn ask<R: Wait, O: Opener, G: Gate>(
     ensures answer { IfSome result (λ acquired. IsAnswer pass.now acquired caller.new) }
 {
     let answer = service.shared.acquire(service.rt, caller, pass);
-    entrance.asked();
+    if entrance.needs_asked() {
+        entrance.asked(service.rt, matches!(&answer, AcquireReply::Waiting));
+    }
     match answer {
         AcquireReply::Got(lease) => take(service, caller, database, lease),
         AcquireReply::Open(permit) => {
