@@ -329,6 +329,59 @@ fn whoever_waits_no_longer_lets_others_in(rt: HostRuntime) -> Result<(), Fail> {
     Ok(())
 }
 
+fn ask_after_a_while<R: Wait + Clock>(rt: &R, entrance: &Entrance<'_>) {
+    pause(rt, 4);
+    entrance.asked(rt, false);
+}
+
+// Counts a wait that ends long before the timeout.
+fn enter_soon<R: Wait + Clock>(rt: &R, entrance: &Entrance<'_>, soon: &AtomicU64) {
+    let before = rt.monotonic().unwrap_or(Duration::ZERO);
+    entrance.enter(rt);
+    let after = rt.monotonic().unwrap_or(Duration::MAX);
+    if after.saturating_sub(before) < Duration::from_millis(TIMEOUT / 4) {
+        soon.fetch_add(1, Ordering::SeqCst);
+    }
+}
+
+fn wait_for_the_queue<R: Threads + Wait + Clock + Sync>(
+    rt: &R,
+    queued: &Entrance<'_>,
+    other: &Entrance<'_>,
+    soon: &AtomicU64,
+) {
+    thread::join(
+        rt,
+        ||
+            requires { IsSync R.row }
+        { ask_after_a_while(rt, queued) },
+        ||
+            requires { IsSync R.row }
+        { enter_soon(rt, other, soon) },
+    );
+}
+
+// A client that waits since another does in the node's queue is let in when that one needn't any more,
+// and not by the timeout. A thread can be late, so this is tried ten times.
+#[test]
+fn whoever_waits_for_the_queue_is_let_in(rt: HostRuntime) -> Result<(), Fail> {
+    let alloc = rt.alloc();
+    let admission = admission(alloc, 2)?;
+    let queued = Entrance::new(&rt, alloc, &admission, SlotNo(0), PLAIN)?;
+    let other = Entrance::new(&rt, alloc, &admission, SlotNo(1), PLAIN)?;
+    let soon = AtomicU64::new(0);
+    for _i in 0..10u32 {
+        assert!(rt; queued.try_enter());
+        queued.queue(&rt);
+        wait_for_the_queue(&rt, &queued, &other, &soon);
+        leave(&rt, &other);
+        leave(&rt, &queued);
+        assert_eq!(rt; admission.inside(PLAIN), 0);
+    }
+    assert!(rt; soon.load(Ordering::SeqCst) > 5);
+    Ok(())
+}
+
 // Four clients at one place: one that is inside, one that waits for all that follows, one that is
 // made to ask, leaves and comes again, and one that came before it did so.
 #[derive(Clone, Copy)]

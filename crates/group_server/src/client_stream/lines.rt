@@ -61,10 +61,7 @@ impl<'a, M: Machine> ClientStream<'a, M> {
     }
 
     // Where the client is.
-    fn client(&self) -> Value<'static> {
-        match self.connection.socket().peer_addr() {
-            Ok(address) => Value::Peer(address),
-            Err(_) => Value::Text("-"),
-        }
+    fn client(&self) -> Value<'_> {
+        Value::Peer(self.connection.socket())
     }
 }

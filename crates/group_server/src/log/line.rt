@@ -4,7 +4,7 @@ use crate::log::event::{Event, Level};
 use jiff::Timestamp;
 use std::alloc::{AllocError, Global};
 use std::io;
-use std::net::SocketAddr;
+use std::net::TcpStream;
 use std::time::Clock;
 
 /// A value of a line.
@@ -18,8 +18,8 @@ pub enum Value<'a> {
     Number(u64),
     /// A host and a port.
     Address(&'a str, u16),
-    /// The other side of a connection.
-    Peer(SocketAddr),
+    /// The address of a connection's other side.
+    Peer(&'a TcpStream),
     /// Why a call failed.
     Error(&'a io::Error),
 }
@@ -107,7 +107,10 @@ fn put_value(alloc: Global, text: &mut String, value: Value<'_>) -> Result<(), A
         Value::Address(host, port) => {
             put_text(text, format!(in alloc; "{host}:{port}")?.as_str())
         }
-        Value::Peer(address) => put_text(text, format!(in alloc; "{address}")?.as_str()),
+        Value::Peer(socket) => match socket.peer_addr() {
+            Ok(address) => put_text(text, format!(in alloc; "{address}")?.as_str()),
+            Err(_) => put_text(text, "-"),
+        },
         Value::Error(error) => put_text(text, format!(in alloc; "{error}")?.as_str()),
     }
 }

@@ -102,9 +102,14 @@ impl Log {
         let Ok(now) = rt.monotonic() else {
             return;
         };
-        if self.queue.lock(rt).may_write(event, now) {
-            let line = line_of(rt, self.alloc, node, event, names, fields);
-            self.queue.lock(rt).push(event, line.ok());
+        let verdict = self.queue.lock(rt).judge(event, now);
+        match verdict {
+            Verdict::Write => {
+                let line = line_of(rt, self.alloc, node, event, names, fields);
+                self.queue.lock(rt).push(event, line.ok());
+            }
+            Verdict::BeginToLeaveOut => {}
+            Verdict::LeaveOut => return,
         }
         self.filled.notify_one();
     }
@@ -174,9 +179,20 @@ impl Log {
     }
 }
 
+// What becomes of a line.
+#[derive(Clone, Copy)]
+enum Verdict {
+    // It is written.
+    Write,
+    // It is left out, the first of its kind: whoever writes the lines wakes up within a second.
+    BeginToLeaveOut,
+    // It is left out, as one before it.
+    LeaveOut,
+}
+
 impl Queue {
-    // Whether a line of this kind may be written now. Then it counts as written.
-    fn may_write(&mut self, event: Event, now: Duration) -> bool {
+    // What becomes of a line of this kind now. It counts as written or as left out.
+    fn judge(&mut self, event: Event, now: Duration) -> Verdict {
         let counts = &mut self.counts[event.place()];
         counts.total = counts.total.saturating_add(1);
         if counts.is_over(now) {
@@ -185,10 +201,14 @@ impl Queue {
         }
         if counts.given < event.limit() {
             counts.given += 1;
-            return true;
+            return Verdict::Write;
         }
         counts.left_out = counts.left_out.saturating_add(1);
-        false
+        if counts.left_out == 1 {
+            Verdict::BeginToLeaveOut
+        } else {
+            Verdict::LeaveOut
+        }
     }
 
     // Puts a line at the end, if there was memory for it and there is room. It counts as left out

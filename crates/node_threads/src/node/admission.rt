@@ -138,13 +138,24 @@ impl<'a> Entrance<'a> {
         let Some(wait) = self.semaphore.come(rt, &self.state) else {
             return false;
         };
-        let limit = Duration::from_millis(TIMEOUT);
-        self.state.park_timeout(rt, low_half(wait), limit);
+        self.sleep(rt, wait);
         let found = self.state.fetch_or(ADMITTED, Ordering::SeqCst);
         if found & ADMITTED == 0 {
             self.semaphore.enter(rt);
         }
         true
+    }
+
+    // Sleeps until the client has another state, or too long. A call that was to wake it from an
+    // earlier wait can come late, so it goes to sleep once more.
+    fn sleep<R: Wait>(&self, rt: &R, wait: u64) {
+        for _ in 0..2u32 {
+            if self.state.load(Ordering::SeqCst) != wait {
+                return;
+            }
+            let limit = Duration::from_millis(TIMEOUT / 2);
+            self.state.park_timeout(rt, low_half(wait), limit);
+        }
     }
 
     /// Whether [`Entrance::asked`] is to be called once the client has asked: it was let in after it

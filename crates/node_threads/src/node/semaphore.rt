@@ -96,7 +96,8 @@ impl Semaphore {
     pub(crate) fn come<R: Wait>(&self, rt: &R, state: &State) -> Option<u64> {
         let mut queue = self.queue.lock(rt);
         self.begin(&mut queue);
-        let wait = if self.is_open(&queue) {
+        queue.forget_gone();
+        let wait = if self.is_open(&queue) && queue.waiting.is_empty() {
             None
         } else {
             queue.push(state)
@@ -199,7 +200,6 @@ impl Semaphore {
 impl Queue {
     // A client waits from now on. Returns its state meanwhile, or none where memory was refused.
     fn push(&mut self, state: &State) -> Option<u64> {
-        self.forget_gone();
         let wait = self.next_wait;
         let waiting = Arc::try_clone(state).ok()?;
         if self.waiting.push_back((waiting, wait)).is_err() {
