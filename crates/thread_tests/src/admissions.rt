@@ -55,14 +55,14 @@ fn two_come_and_go<R: Threads + Wait + Sync>(rt: &R, one: &Entrance<'_>, other: 
 // The first two are let in at once, and the third by the timeout.
 fn come_one_by_one<R: Wait + Abort>(rt: &R, admission: &Admission, entrances: &[Entrance<'_>]) {
     for (before, entrance) in entrances.iter().enumerate() {
-        assert_eq!(rt; admission.inside(PLAIN), before);
+        assert_eq!(rt; admission.used(PLAIN), before);
         assert_eq!(rt; entrance.enter(rt), before == 2);
     }
-    assert_eq!(rt; admission.inside(PLAIN), entrances.len());
+    assert_eq!(rt; admission.used(PLAIN), entrances.len());
     for entrance in entrances {
         leave(rt, entrance);
     }
-    assert_eq!(rt; admission.inside(PLAIN), 0);
+    assert_eq!(rt; admission.used(PLAIN), 0);
 }
 
 #[test]
@@ -84,7 +84,7 @@ fn nobody_is_left_inside(rt: HostRuntime) -> Result<(), Fail> {
     let one = Entrance::new(&rt, alloc, &admission, SlotNo(0), PLAIN)?;
     let other = Entrance::new(&rt, alloc, &admission, SlotNo(1), PLAIN)?;
     two_come_and_go(&rt, &one, &other);
-    assert_eq!(rt; admission.inside(PLAIN), 0);
+    assert_eq!(rt; admission.used(PLAIN), 0);
     Ok(())
 }
 
@@ -223,7 +223,7 @@ fn assert_let_in<R: Threads + Wait + Clock + Sync + Abort>(
     let waits = Waits::new(with_queue);
     by_eight(rt, entrances, &waits);
     waits.assert_early(rt);
-    assert_eq!(rt; admission.inside(PLAIN), 0);
+    assert_eq!(rt; admission.used(PLAIN), 0);
     let two = entrances.split_at(entrances.len().min(2)).0;
     for entrance in two {
         assert!(rt; !entrance.enter(rt));
@@ -300,7 +300,7 @@ fn whoever_is_told_to_ask_asks(rt: HostRuntime) -> Result<(), Fail> {
     wait_and_tell(&rt, &admission, &entrance, &waits);
     waits.assert_early(&rt);
     keeper.leave(&rt);
-    assert_eq!(rt; admission.inside(PLAIN), 0);
+    assert_eq!(rt; admission.used(PLAIN), 0);
     Ok(())
 }
 
@@ -325,7 +325,7 @@ fn whoever_waits_no_longer_lets_others_in(rt: HostRuntime) -> Result<(), Fail> {
     leave(&rt, &opens);
     assert!(rt; other.try_enter());
     leave(&rt, &other);
-    assert_eq!(rt; admission.inside(PLAIN), 0);
+    assert_eq!(rt; admission.used(PLAIN), 0);
     Ok(())
 }
 
@@ -376,7 +376,7 @@ fn whoever_waits_for_the_queue_is_let_in(rt: HostRuntime) -> Result<(), Fail> {
         wait_for_the_queue(&rt, &queued, &other, &soon);
         leave(&rt, &other);
         leave(&rt, &queued);
-        assert_eq!(rt; admission.inside(PLAIN), 0);
+        assert_eq!(rt; admission.used(PLAIN), 0);
     }
     assert!(rt; soon.load(Ordering::SeqCst) > 5);
     Ok(())
@@ -494,7 +494,7 @@ fn whoever_comes_again_waits_again(rt: HostRuntime) -> Result<(), Fail> {
         let_in.store(0, Ordering::SeqCst);
         line.keeper.enter(&rt);
         all_four(&rt, line);
-        assert_eq!(rt; admission.inside(PLAIN), 0);
+        assert_eq!(rt; admission.used(PLAIN), 0);
     }
     assert!(rt; wrong.load(Ordering::SeqCst) < 5);
     Ok(())

@@ -1,12 +1,11 @@
-//! A semaphore before each database of a node: as many clients ask for a link at a time as it has
-//! places.
+//! A semaphore before each database of a node: it has as many permits as the pool has places, and
+//! a client needs one to ask for a link.
 //!
-//! A node's queue gives a freed link to the client that waits first, and to nobody before that one
-//! has asked again: each hand-over would wait until a thread has woken up. So clients wait here
-//! first, where whoever is done wakes the next one, and those that were let in ask in any order.
-//! While one of them waits in the node's queue all the same, nobody is let in. A client that was
-//! not let in within 200 milliseconds asks all the same; so does one at once that is made to, by a
-//! cancel request for it or by the console. No claim of a node rests on this.
+//! A node's queue reserves a released link for the client that waits first, so the link would be
+//! unused until that client's thread has woken up. So clients wait here, where a client that
+//! finishes wakes the next one, and those with a permit ask in any order. While one of them waits
+//! in the node's queue all the same, no permit is given. A client without a permit asks after 200
+//! milliseconds, or at once for a cancel request or the console. No contract depends on this.
 use crate::node::semaphore::{ADMITTED, ASKED, QUEUED, Semaphore, State, TOLD, exchange};
 use ini_config::Settings;
 use pg_ids::{DatabaseNo, SlotNo};
@@ -15,23 +14,23 @@ use std::sync::atomic::{AtomicU64, Ordering};
 use std::sync::{Arc, Mutex, Wait};
 use std::time::Duration;
 
-// How many milliseconds a client waits to be let in.
+// How many milliseconds a client waits for a permit.
 const TIMEOUT: u64 = 200;
 
-// How many milliseconds whoever told a client to ask waits until it has asked, and how many times;
-// how many times it tries to tell one whose state changes meanwhile.
+// A thread that tells a client to ask waits this many milliseconds until it has asked, at most
+// `TRIES` times, and tries as often to tell a client whose state changes meanwhile.
 const ASKING: u64 = 20;
 
 const TRIES: u64 = 5;
 
-/// The semaphores before a node's databases, and its clients by their slots.
+/// The semaphores before a node's databases, and the states of its clients by slot.
 #[derive(Drop)]
 pub struct Admission {
     semaphores: Vec<Semaphore>,
     clients: Mutex<Vec<Option<State>>>,
 }
 
-/// A client's way through the semaphore before its database.
+/// A client's access to the semaphore before its database.
 #[derive(Drop)]
 pub struct Entrance<'a> {
     semaphore: &'a Semaphore,
@@ -39,7 +38,7 @@ pub struct Entrance<'a> {
 }
 
 impl Admission {
-    /// Nobody is inside, and nobody waits.
+    /// Semaphores for the databases of these settings, with all permits free.
     pub fn new(alloc: Global, settings: &Settings) -> Result<Admission, AllocError> {
         let mut semaphores = Vec::new(alloc);
         for place in 0..settings.database_count() {
@@ -57,16 +56,16 @@ impl Admission {
         })
     }
 
-    /// How many clients are inside at a database at this moment.
-    pub fn inside(&self, database: DatabaseNo) -> usize {
+    /// Returns how many permits of a database are in use.
+    pub fn used(&self, database: DatabaseNo) -> usize {
         match self.semaphores.get(database.get() as usize) {
-            Some(semaphore) => semaphore.inside() as usize,
+            Some(semaphore) => semaphore.used() as usize,
             None => 0,
         }
     }
 
-    /// Tells the client of a slot to ask for a link at once, if it waits here, and waits until it
-    /// has asked, for 100 milliseconds at most.
+    /// Makes the client of a slot ask for a link at once, if it waits for a permit, and waits until
+    /// it has asked, for 100 milliseconds at most.
     pub fn tell_to_ask<R: Wait>(&self, rt: &R, slot: SlotNo) {
         if let Some(state) = self.client(rt, slot) {
             if tell(&state) {
@@ -75,8 +74,8 @@ impl Admission {
         }
     }
 
-    /// Tells all clients that wait here to ask for a link at once, and waits until they have asked,
-    /// for 100 milliseconds at most each.
+    /// Makes all clients that wait for a permit ask for a link at once, one after another, and
+    /// waits until each has asked, for 100 milliseconds at most.
     pub fn tell_all_to_ask<R: Wait>(&self, rt: &R) {
         for slot in 0..=u16::MAX {
             if slot as usize >= self.clients.lock(rt).len() {
@@ -86,19 +85,19 @@ impl Admission {
         }
     }
 
-    // The state of the client of a slot.
+    // Returns the state of the client of a slot.
     fn client<R: Wait>(&self, rt: &R, slot: SlotNo) -> Option<State> {
         let clients = self.clients.lock(rt);
         let state = clients.get(slot.get() as usize)?.as_ref()?;
         Arc::try_clone(state).ok()
     }
 
-    /// The session of the client of a slot ends.
+    /// Removes the client of a slot, whose session ends.
     pub fn forget<R: Wait>(&self, rt: &R, slot: SlotNo) {
         self.set_client(rt, slot, None);
     }
 
-    // The client of a slot has this state from now on.
+    // Sets the state of the client of a slot.
     fn set_client<R: Wait>(&self, rt: &R, slot: SlotNo, state: Option<State>) {
         let mut clients = self.clients.lock(rt);
         if let Some(client) = clients.get_mut(slot.get() as usize) {
@@ -108,7 +107,7 @@ impl Admission {
 }
 
 impl<'a> Entrance<'a> {
-    /// The way of the client of a slot to a database, if the node has that.
+    /// The access of the client of a slot to a database, if the node has that database.
     pub fn new<R: Wait>(
         rt: &R,
         alloc: Global,
@@ -125,29 +124,29 @@ impl<'a> Entrance<'a> {
         Ok(Entrance { semaphore, state })
     }
 
-    /// Returns whether the client may ask for a link at once: there is room, and nobody waits.
+    /// Acquires a permit if one is free and nobody waits. Returns whether it did.
     #[inline(always)]
     pub fn try_enter(&self) -> bool {
-        self.semaphore.come_at_once()
+        self.semaphore.try_acquire()
     }
 
-    /// Waits until the client may ask for a link, for 200 milliseconds at most. Returns whether it
-    /// had to wait.
+    /// Acquires a permit; waits for it for 200 milliseconds at most, and then goes on with one
+    /// beyond the limit. Returns whether it waited.
     #[inline(never)]
     pub fn enter<R: Wait>(&self, rt: &R) -> bool {
-        let Some(wait) = self.semaphore.come(rt, &self.state) else {
+        let Some(wait) = self.semaphore.acquire(rt, &self.state) else {
             return false;
         };
         self.sleep(rt, wait);
         let found = self.state.fetch_or(ADMITTED, Ordering::SeqCst);
         if found & ADMITTED == 0 {
-            self.semaphore.enter(rt);
+            self.semaphore.acquire_late(rt);
         }
         true
     }
 
-    // Sleeps until the client has another state, or too long. A call that was to wake it from an
-    // earlier wait can come late, so it goes to sleep once more.
+    // Sleeps until the client's state changes or the time is over. A late wake-up of an earlier
+    // wait may end the first sleep, so there is a second.
     fn sleep<R: Wait>(&self, rt: &R, wait: u64) {
         for _ in 0..2u32 {
             if self.state.load(Ordering::SeqCst) != wait {
@@ -158,15 +157,16 @@ impl<'a> Entrance<'a> {
         }
     }
 
-    /// Whether [`Entrance::asked`] is to be called once the client has asked: it was let in after it
-    /// waited, or waits in the node's queue.
+    /// Returns whether [`Entrance::asked`] must be called once the client has asked: it waited for
+    /// its permit, or waits in the node's queue.
     #[inline(always)]
     pub fn needs_asked(&self) -> bool {
         self.state.load(Ordering::SeqCst) != ASKED
     }
 
-    /// The client has asked for a link, and has to wait for it in the node's queue or not. Whoever
-    /// told it to ask is woken. If it waited there and doesn't any more, others are let in.
+    /// Records that the client has asked for a link, and whether it must wait in the node's queue.
+    /// Wakes the threads that made it ask. If its wait in that queue has ended, gives others
+    /// permits.
     #[inline(never)]
     pub fn asked<R: Wait>(&self, rt: &R, is_waiting: bool) {
         self.tell_asked();
@@ -186,24 +186,24 @@ impl<'a> Entrance<'a> {
         }
     }
 
-    /// The client, which has asked, waits in the node's queue: nobody is let in until it has caught
-    /// up.
+    /// Records that the client, which has asked, waits in the node's queue: no permit is given
+    /// until its wait has ended.
     pub fn queue<R: Wait>(&self, rt: &R) {
         if exchange(&self.state, ASKED, QUEUED) {
-            self.semaphore.queue(rt);
+            self.semaphore.begin_node_wait(rt);
         }
     }
 
-    // Whether the client waits in the node's queue.
+    // Returns whether the client waits in the node's queue.
     fn is_queued(&self) -> bool {
         self.state.load(Ordering::SeqCst) == QUEUED
     }
 
-    // The client waits in the node's queue no longer. Others are let in.
+    // Ends the client's wait in the node's queue, and gives others permits.
     #[inline(never)]
     fn leave_queue<R: Wait>(&self, rt: &R) {
         self.state.store(ASKED, Ordering::SeqCst);
-        self.semaphore.unqueue(rt);
+        self.semaphore.end_node_wait(rt);
         for _ in rt.forever() {
             match self.semaphore.admit_next(rt) {
                 Some(state) => state.wake_all(),
@@ -213,25 +213,25 @@ impl<'a> Entrance<'a> {
         unreachable!()
     }
 
-    /// The client, which is done, leaves if nobody waits and nobody has to be told. Returns whether it
-    /// did.
+    /// Releases the client's permit if nobody waits for it or for the client to ask. Returns
+    /// whether it did.
     #[inline(always)]
     pub fn try_leave(&self) -> bool {
-        !self.needs_asked() && self.semaphore.leave_at_once()
+        !self.needs_asked() && self.semaphore.try_release()
     }
 
-    /// The client, which is done, leaves, and the next one is let in.
+    /// Releases the client's permit, and wakes the next client.
     #[inline(never)]
     pub fn leave<R: Wait>(&self, rt: &R) {
         self.asked(rt, false);
-        if let Some(state) = self.semaphore.leave(rt) {
+        if let Some(state) = self.semaphore.release(rt) {
             state.wake_all();
         }
     }
 }
 
-// Tells a client to ask at once, if it waits to be let in or was let in and hasn't asked. Returns
-// whether it is about to ask.
+// Makes a client ask at once, if it waits for a permit or has one and hasn't asked. Returns whether
+// it will ask.
 fn tell(state: &AtomicU64) -> bool {
     for _ in 0..TRIES {
         let found = state.load(Ordering::SeqCst);
@@ -249,17 +249,17 @@ fn tell(state: &AtomicU64) -> bool {
     false
 }
 
-// Whether a client in this state has asked, or has no request.
+// Returns whether a client in this state has asked, or has no request.
 fn has_asked(state: u64) -> bool {
     state & ASKED != 0
 }
 
-// What is compared of a state before a thread sleeps.
+// The half of a state that is compared before a thread sleeps.
 fn low_half(state: u64) -> u32 {
     (state % (1 << 32)) as u32
 }
 
-// Waits until a client that has to ask has asked.
+// Waits until a client that must ask has asked.
 fn await_asked<R: Wait>(rt: &R, state: &AtomicU64) {
     for _ in 0..TRIES {
         let found = state.load(Ordering::SeqCst);

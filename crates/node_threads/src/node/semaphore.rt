@@ -6,55 +6,55 @@ use std::collections::VecDeque;
 use std::sync::atomic::{AtomicU64, Ordering};
 use std::sync::{Arc, Mutex, Wait};
 
-// The state of a client. While it waits to be let in, it is a multiple of `WAIT`, another one for
-// each wait. Beside that: it was let in, and hasn't asked for a link yet.
+// The state of a client. While it waits for a permit, it is a multiple of `WAIT`, a different one
+// for each wait, to which `ADMITTED` and `TOLD` may be added. `ADMITTED`: it was given a permit,
+// and hasn't asked the node for a link yet.
 pub(crate) const ADMITTED: u64 = 1;
 
 // It has asked, or has no request.
 pub(crate) const ASKED: u64 = 2;
 
-// It waits in the node's queue. This has the bit of `ASKED`, too.
+// It waits in the node's queue. This includes the bit of `ASKED`.
 pub(crate) const QUEUED: u64 = 3;
 
-// Beside the number of a wait: it has to ask at once, and somebody waits until it has.
+// It must ask at once, and another thread waits until it has.
 pub(crate) const TOLD: u64 = 4;
 
 const WAIT: u64 = 8;
 
-// Beside the number of those inside, where only whoever holds the lock of the queue may change that.
+// Added to the number of permits in use while only the holder of the queue's lock may change it.
 const LOCKED: u64 = 1 << 32;
 
-/// The state of a client, which it shares with whoever lets it in.
+/// The state of a client, shared with the threads that give it a permit.
 pub(crate) type State = Arc<AtomicU64, Global>;
 
-/// The semaphore before a database. As long as nobody waits, a client comes in and leaves by one
-/// atomic step and takes no lock.
+/// The semaphore before a database. As long as nobody waits, a permit is acquired and released by
+/// one atomic operation, without a lock.
 #[derive(Drop)]
 pub(crate) struct Semaphore {
-    // How many may be inside.
+    // The number of permits.
     permits: u64,
-    // How many are inside. Those that timed out are too, so there may be more than permits.
-    inside: AtomicU64,
+    // How many are in use. Clients that timed out count too, so it may exceed `permits`.
+    used: AtomicU64,
     queue: Mutex<Queue>,
 }
 
-// Those that wait.
+// The clients that wait.
 #[derive(Drop)]
 struct Queue {
-    // Whether `LOCKED` is beside the number of those inside.
+    // Whether `LOCKED` is added to the number of permits in use.
     is_locked: bool,
-    // How many of those inside wait in the node's queue.
+    // How many clients with a permit wait in the node's queue.
     queued: usize,
-    // The state of the client that waits next.
+    // The state of the next client that waits.
     next_wait: u64,
-    // The clients that wait to be let in, in the order in which they came, with their states
-    // meanwhile, and some that no longer do. A client that waits again has another state, so what
-    // is left of its earlier wait stays one of these.
+    // The clients that wait, in order, each with its state during this wait. An entry whose client
+    // has another state by now is left from a wait that has ended.
     waiting: VecDeque<(State, u64)>,
 }
 
 impl Semaphore {
-    /// Nobody is inside, and nobody waits.
+    /// A semaphore with all permits free.
     pub(crate) fn new(alloc: Global, settings: &Settings, database: DatabaseNo) -> Semaphore {
         let permits = match settings.database(database) {
             Some(entry) => u64::from(entry.pool_size),
@@ -62,7 +62,7 @@ impl Semaphore {
         };
         Semaphore {
             permits,
-            inside: AtomicU64::new(0),
+            used: AtomicU64::new(0),
             queue: Mutex::new(Queue {
                 is_locked: false,
                 queued: 0,
@@ -72,28 +72,28 @@ impl Semaphore {
         }
     }
 
-    /// How many are inside.
-    pub(crate) fn inside(&self) -> u64 {
-        self.inside.load(Ordering::SeqCst) % LOCKED
+    /// Returns how many permits are in use.
+    pub(crate) fn used(&self) -> u64 {
+        self.used.load(Ordering::SeqCst) % LOCKED
     }
 
-    /// A client comes in, if there is room and nobody waits. Returns whether it is inside.
+    /// Acquires a permit if one is free and nobody waits. Returns whether it did.
     #[inline(always)]
-    pub(crate) fn come_at_once(&self) -> bool {
-        let found = self.inside.load(Ordering::SeqCst);
-        found < self.permits && exchange(&self.inside, found, found + 1)
+    pub(crate) fn try_acquire(&self) -> bool {
+        let found = self.used.load(Ordering::SeqCst);
+        found < self.permits && exchange(&self.used, found, found + 1)
     }
 
-    /// One of those inside is done, if nobody waits. Returns whether it is outside.
+    /// Releases a permit if nobody waits. Returns whether it did.
     #[inline(always)]
-    pub(crate) fn leave_at_once(&self) -> bool {
-        let found = self.inside.load(Ordering::SeqCst);
-        0 < found && found < LOCKED && exchange(&self.inside, found, found - 1)
+    pub(crate) fn try_release(&self) -> bool {
+        let found = self.used.load(Ordering::SeqCst);
+        0 < found && found < LOCKED && exchange(&self.used, found, found - 1)
     }
 
-    /// A client comes. Returns its state while it waits, or none if it is inside. Where memory for
-    /// waiting is refused it needn't wait.
-    pub(crate) fn come<R: Wait>(&self, rt: &R, state: &State) -> Option<u64> {
+    /// Acquires a permit, or adds the client to the queue and returns its state while it waits. If
+    /// memory for the queue is refused, the client gets a permit without waiting.
+    pub(crate) fn acquire<R: Wait>(&self, rt: &R, state: &State) -> Option<u64> {
         let mut queue = self.queue.lock(rt);
         self.begin(&mut queue);
         queue.forget_gone();
@@ -110,27 +110,27 @@ impl Semaphore {
         wait
     }
 
-    /// A client that waited too long comes in.
-    pub(crate) fn enter<R: Wait>(&self, rt: &R) {
+    /// Gives a client that has timed out a permit beyond the limit.
+    pub(crate) fn acquire_late<R: Wait>(&self, rt: &R) {
         let mut queue = self.queue.lock(rt);
         self.begin(&mut queue);
         self.add_one();
         self.end(&mut queue);
     }
 
-    /// One of those inside is done. Returns the state of the client that is let in, if one is.
-    pub(crate) fn leave<R: Wait>(&self, rt: &R) -> Option<State> {
+    /// Releases a permit. Returns the state of the client that gets it, if one does.
+    pub(crate) fn release<R: Wait>(&self, rt: &R) -> Option<State> {
         let mut queue = self.queue.lock(rt);
         self.begin(&mut queue);
-        if self.inside() > 0 {
-            self.inside.fetch_sub(1, Ordering::SeqCst);
+        if self.used() > 0 {
+            self.used.fetch_sub(1, Ordering::SeqCst);
         }
         let next = self.next(&mut queue);
         self.end(&mut queue);
         next
     }
 
-    /// Lets in the client that waits first, if one may come in, and returns its state.
+    /// Gives the first client that waits a permit, if one is free, and returns its state.
     pub(crate) fn admit_next<R: Wait>(&self, rt: &R) -> Option<State> {
         let mut queue = self.queue.lock(rt);
         self.begin(&mut queue);
@@ -139,47 +139,47 @@ impl Semaphore {
         next
     }
 
-    /// One of those inside waits in the node's queue: nobody is let in.
-    pub(crate) fn queue<R: Wait>(&self, rt: &R) {
+    /// Begins a wait in the node's queue: nobody is given a permit meanwhile.
+    pub(crate) fn begin_node_wait<R: Wait>(&self, rt: &R) {
         let mut queue = self.queue.lock(rt);
         self.begin(&mut queue);
         queue.queued = queue.queued.saturating_add(1);
     }
 
-    /// One of those inside waits in the node's queue no longer.
-    pub(crate) fn unqueue<R: Wait>(&self, rt: &R) {
+    /// Ends a wait in the node's queue.
+    pub(crate) fn end_node_wait<R: Wait>(&self, rt: &R) {
         let mut queue = self.queue.lock(rt);
         queue.queued = queue.queued.saturating_sub(1);
         self.end(&mut queue);
     }
 
-    // From now on nobody comes in or leaves without the lock.
+    // Stops `try_acquire` and `try_release`: from now on a change needs the queue's lock.
     fn begin(&self, queue: &mut Queue) {
         if !queue.is_locked {
             queue.is_locked = true;
-            self.inside.fetch_add(LOCKED, Ordering::SeqCst);
+            self.used.fetch_add(LOCKED, Ordering::SeqCst);
         }
     }
 
-    // The lock is about to be given back. Where nobody waits, it isn't needed any more.
+    // Called before the queue's lock is released: if nobody waits, changes no longer need it.
     fn end(&self, queue: &mut Queue) {
         if queue.is_locked && queue.queued == 0 && queue.waiting.is_empty() {
             queue.is_locked = false;
-            self.inside.fetch_sub(LOCKED, Ordering::SeqCst);
+            self.used.fetch_sub(LOCKED, Ordering::SeqCst);
         }
     }
 
-    // Whether a client may come in.
+    // Returns whether a permit may be given.
     fn is_open(&self, queue: &Queue) -> bool {
-        queue.queued == 0 && self.inside() < self.permits
+        queue.queued == 0 && self.used() < self.permits
     }
 
-    // One more is inside.
+    // Counts one more permit as used.
     fn add_one(&self) {
-        self.inside.fetch_add(1, Ordering::SeqCst);
+        self.used.fetch_add(1, Ordering::SeqCst);
     }
 
-    // Lets in the client that waits first, if one may come in, and returns its state.
+    // Gives the first client that waits a permit, if one is free, and returns its state.
     fn next(&self, queue: &mut Queue) -> Option<State> {
         if !self.is_open(queue) {
             return None;
@@ -198,7 +198,7 @@ impl Semaphore {
 }
 
 impl Queue {
-    // A client waits from now on. Returns its state meanwhile, or none where memory was refused.
+    // Adds a client to the queue. Returns its state while it waits, or none if memory is refused.
     fn push(&mut self, state: &State) -> Option<u64> {
         let wait = self.next_wait;
         let waiting = Arc::try_clone(state).ok()?;
@@ -210,7 +210,7 @@ impl Queue {
         Some(wait)
     }
 
-    // Forgets those at the front that wait no longer.
+    // Removes entries at the front whose waits have ended.
     fn forget_gone(&mut self) {
         for _ in 0..self.waiting.len() {
             match self.waiting.front() {
@@ -222,8 +222,7 @@ impl Queue {
     }
 }
 
-/// A client's state, or a number of clients, becomes another, if it is still as it was found.
-/// Returns whether it was.
+/// Replaces a value that is still as it was found. Returns whether it was.
 #[inline(always)]
 pub(crate) fn exchange(state: &AtomicU64, found: u64, new: u64) -> bool {
     state
