@@ -49,10 +49,13 @@ pair_of name value = if is_empty name || is_empty value then Err BadLine else Ok
 abbrev pub is_key_byte : ℕ → Bool
 is_key_byte b = is_ascii_alphanumeric b || (b == 95)
 
+-- one decimal digit or more
+abbrev pub is_digits : List ℕ → Bool
+is_digits bs = not (is_empty bs) && list_all is_ascii_digit bs
+
 -- decimal digits, without leading zeros
 abbrev pub is_number : List ℕ → Bool
-is_number bs = not (is_empty bs) && list_all is_ascii_digit bs
-    && not ((slice_index bs 0 == 48) && nat_lt 1 (length bs))
+is_number bs = is_digits bs && not ((slice_index bs 0 == 48) && nat_lt 1 (length bs))
 
 -- the number that the text is, within its range
 unfoldable pub number_in : ℕ → ℕ → List ℕ → Result ℕ IniCode

@@ -8,38 +8,30 @@ use thiserror::Error;
 /// What is wrong with a line of a settings file, or with the file as a whole (own).
 /// It is written as its number and its name.
 #[derive(Clone, Copy, Debug, PartialEq, Eq, Error)]
+#[error("{} {}", self.number(), self.name())]
 pub enum IniCode {
     /// The line has no form of the grammar, holds a zero byte or is longer than 8,000 bytes.
-    #[error("20 BadLine")]
     BadLine,
     /// The section is none of `pgbouncer`, `databases` and `peers`.
-    #[error("21 UnknownSection")]
     UnknownSection,
     /// The section has no such key, or its entries no such name.
-    #[error("22 UnknownKey")]
     UnknownKey,
     /// No decimal number without leading zeros.
-    #[error("23 BadNumber")]
     BadNumber,
     /// A number outside its range, or one entry too many.
-    #[error("24 OutOfRange")]
     OutOfRange,
     /// A section, key or name for the second time.
-    #[error("25 Repeated")]
     Repeated,
     /// A required key or name isn't there.
-    #[error("26 Missing")]
     Missing,
     /// A feature of PgBouncer that pgpeer doesn't have.
-    #[error("27 NotInProfile")]
     NotInProfile,
     /// Memory ran out.
-    #[error("28 Memory")]
     Memory,
 }
 
 impl IniCode {
-    ghost use Rattle.ini_config.specs.Codes.{ini_number};
+    ghost use Rattle.ini_config.specs.Codes.{ini_name, ini_number};
 
     /// The number of the refusal, 20 to 28.
     pub const fn number(self) -> u8
@@ -55,6 +47,23 @@ impl IniCode {
             IniCode::Missing => 26,
             IniCode::NotInProfile => 27,
             IniCode::Memory => 28,
+        }
+    }
+
+    /// The name of the refusal, as `BadLine`.
+    pub const fn name(self) -> &'static str
+        ensures { result.now ≡ ini_name self }
+    {
+        match self {
+            IniCode::BadLine => "BadLine",
+            IniCode::UnknownSection => "UnknownSection",
+            IniCode::UnknownKey => "UnknownKey",
+            IniCode::BadNumber => "BadNumber",
+            IniCode::OutOfRange => "OutOfRange",
+            IniCode::Repeated => "Repeated",
+            IniCode::Missing => "Missing",
+            IniCode::NotInProfile => "NotInProfile",
+            IniCode::Memory => "Memory",
         }
     }
 }
@@ -101,23 +110,20 @@ impl IniError {
 
 /// Why settings are no group (own). It is written as its number and its name.
 #[derive(Clone, Copy, Debug, PartialEq, Eq, Error)]
+#[error("{} {}", self.number(), self.name())]
 pub enum GroupError {
     /// Two nodes have one peer number.
-    #[error("40 SamePeer")]
     SamePeer,
     /// A node doesn't list another node of the group.
-    #[error("41 MissingPeer")]
     MissingPeer,
     /// One of two nodes or more has the peer number 0.
-    #[error("42 NoPeering")]
     NoPeering,
     /// Memory ran out.
-    #[error("43 Memory")]
     Memory,
 }
 
 impl GroupError {
-    ghost use Rattle.ini_config.specs.Codes.{group_number};
+    ghost use Rattle.ini_config.specs.Codes.{group_name, group_number};
 
     /// The number of the refusal, 40 to 43.
     pub const fn number(self) -> u8
@@ -128,6 +134,18 @@ impl GroupError {
             GroupError::MissingPeer => 41,
             GroupError::NoPeering => 42,
             GroupError::Memory => 43,
+        }
+    }
+
+    /// The name of the refusal, as `SamePeer`.
+    pub const fn name(self) -> &'static str
+        ensures { result.now ≡ group_name self }
+    {
+        match self {
+            GroupError::SamePeer => "SamePeer",
+            GroupError::MissingPeer => "MissingPeer",
+            GroupError::NoPeering => "NoPeering",
+            GroupError::Memory => "Memory",
         }
     }
 }

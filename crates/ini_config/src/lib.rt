@@ -22,4 +22,4 @@ pub use node_group::Group;
 pub use node_settings::{Database, Peer, Settings};
 pub use pg_ids::DatabaseNo;
 pub use read::read_settings;
-pub use text::{number_in, trimmed};
+pub use text::{is_digits, number_in, trimmed, value_of};

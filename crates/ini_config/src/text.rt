@@ -4,7 +4,7 @@ ghost use Rattle.std.specs.List.{list_all};
 ghost use Rattle.std.specs.Char.{is_ascii_digit};
 ghost use Rattle.std.specs.Option.{SomeIff};
 ghost use Rattle.std.specs.Str.Parse.{digits_value};
-ghost use Rattle.ini_config.specs.Text.{is_blank, trim_front, trim_back, trimmed, words, number_in, is_number, cut_at_equals, pair_of};
+ghost use Rattle.ini_config.specs.Text.{is_blank, trim_front, trim_back, trimmed, words, number_in, is_number, is_digits, cut_at_equals, pair_of};
 ghost use Rattle.ini_config.specs.Reads.{Answers};
 
 use crate::fault::IniCode;
@@ -89,9 +89,14 @@ fn blank_place(bytes: &[u8]) -> Option<usize>
 fn is_number(text: &str) -> bool
     ensures { result ≡ is_number text.now }
 {
-    !text.is_empty()
-        && all_digits(text.as_bytes())
-        && !(text.as_bytes()[0] == b'0' && text.len() > 1)
+    is_digits(text) && !(text.as_bytes()[0] == b'0' && text.len() > 1)
+}
+
+/// Whether the text is one decimal digit or more.
+pub fn is_digits(text: &str) -> bool
+    ensures { result ≡ is_digits text.now }
+{
+    !text.is_empty() && all_digits(text.as_bytes())
 }
 
 fn all_digits(bytes: &[u8]) -> bool
@@ -100,12 +105,12 @@ fn all_digits(bytes: &[u8]) -> bool
     bytes.iter().all(u8::is_ascii_digit)
 }
 
-// The value of the digits, where it isn't too large.
-fn value_of(text: &str) -> Option<u32>
-    requires { IsTrue (is_number text.now) }
-    ensures { SomeIff result (digits_value 10 text.now < 2 ^ 32) (digits_value 10 text.now) }
+/// The value of decimal digits, if it is below 2^32. Zeros may lead.
+pub fn value_of(digits: &str) -> Option<u32>
+    requires { IsTrue (is_digits digits.now) }
+    ensures { SomeIff result (digits_value 10 digits.now < 2 ^ 32) (digits_value 10 digits.now) }
 {
-    text.parse().ok()
+    digits.parse().ok()
 }
 
 /// Parses a number from `low` to `high`: decimal digits, without leading zeros. Fails with
