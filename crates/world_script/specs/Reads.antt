@@ -1,5 +1,5 @@
 -- What a reader of scripts returns if memory runs out (internal).
-use Rattle.std.specs.Prelude.{ℕ, ◌+◌, ◌≡◌, List, Result, Ok, Err, Option, Some, None, ⊤, false, true, ◌++◌}
+use Rattle.std.specs.Prelude.{ℕ, ◌+◌, ◌≡◌, List, Result, Ok, Err, Option, Some, None, ⊤, false, true, ◌++◌, codes}
 use Rattle.world_script.specs.Script.{is_fault, node_in, event_in}
 use Rattle.world_script.specs.declared.fault.LineFault.{LineFault}
 use Rattle.world_script.specs.declared.fault.LineFault.TheVariants.{Form, Memory}
@@ -11,9 +11,16 @@ use Rattle.world_script.specs.declared.script.Script.{Script}
 use Rattle.world_script.specs.declared.draft.Draft.{Draft}
 use Rattle.world_script.specs.declared.statement.Statement.{Statement}
 
--- the number of a fault of form among all refusals (own)
+-- a fault of form by its number among all refusals, and by its name (own)
+abbrev pub bad_script : ℕ
+bad_script = 80
+
+abbrev pub bad_script_name : List ℕ
+bad_script_name = codes "BadScript"
+
+-- the number of a refusal; out of memory has none
 abbrev pub script_number : ScriptError → Option ℕ
-script_number (script.Bad line) = Some 80
+script_number (script.Bad line) = Some bad_script
 script_number script.Memory = None
 
 -- a reader returned what is said, or a fault of form where nothing is said; or memory ran out

@@ -1,11 +1,11 @@
 -- Words, numbers and keys of a script (own grammar).
 use Rattle.std.specs.Prelude.{ℕ, ◌^◌, Bool, ◌&&◌, ◌==◌, nat_lt, nat_le, if◌then◌else◌, List, [], length, codes, Option, Some, None}
-use Rattle.std.specs.Char.{is_ascii_digit}
-use Rattle.std.specs.List.{slice_split, list_all}
+use Rattle.std.specs.List.{slice_split}
 use Rattle.std.specs.Result.{result_ok}
 use Rattle.std.specs.Str.{bytes_eq}
 use Rattle.std.specs.Str.Parse.{digits_value}
 use Rattle.hex.specs.Hex.{decode_of, decode_sized}
+use Rattle.ini_config.specs.Text.{is_digits}
 
 -- a value is needed before what follows it
 infixl 10 ◌>>=◌
@@ -19,7 +19,7 @@ words line = slice_split (λ byte. byte == 32) line
 
 -- 1 to 10 decimal digits; zeros may lead
 abbrev pub is_numeral : List ℕ → Bool
-is_numeral word = nat_lt 0 (length word) && nat_le (length word) 10 && list_all is_ascii_digit word
+is_numeral word = nat_le (length word) 10 && is_digits word
 
 -- a number, below 2^32
 unfoldable pub number_of : List ℕ → Option ℕ

@@ -6,11 +6,17 @@ ghost use Rattle.world_script.specs.declared.fault.LineFault.TheVariants.{Memory
 use std::alloc::{AllocError, AllocFailed};
 use thiserror::Error;
 
+/// The number of a fault of form among all refusals.
+pub const BAD_SCRIPT: u8 = 80;
+
+/// The name of a fault of form.
+pub const BAD_SCRIPT_NAME: &str = "BadScript";
+
 /// Why a script is refused. A fault of form is written as its line, its number and its name.
 #[derive(Clone, Copy, Debug, PartialEq, Eq, Error)]
 pub enum ScriptError {
     /// The first fault of form.
-    #[error("{line}: 80 BadScript")]
+    #[error("{line}: {BAD_SCRIPT} {BAD_SCRIPT_NAME}")]
     Bad {
         /// Its line, from 1.
         line: usize,
@@ -26,7 +32,7 @@ impl ScriptError {
         ensures { result ≡ script_number self }
     {
         match self {
-            ScriptError::Bad { .. } => Some(80),
+            ScriptError::Bad { .. } => Some(BAD_SCRIPT),
             ScriptError::Memory => None,
         }
     }

@@ -13,6 +13,6 @@ mod script;
 mod statement;
 mod word;
 
-pub use fault::ScriptError;
+pub use fault::{BAD_SCRIPT, BAD_SCRIPT_NAME, ScriptError};
 pub use outcome::write_outcome;
 pub use script::{Script, read_script};

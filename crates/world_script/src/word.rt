@@ -1,14 +1,11 @@
 //! Words of a script: numbers and bytes.
-ghost use Rattle.std.specs.Prelude.{◌≡◌, ◌<◌, ◌≤◌, ◌^◌, IsTrue, IfOk, IfSome, map};
-ghost use Rattle.std.specs.Char.{is_ascii_digit};
-ghost use Rattle.std.specs.List.{list_all};
-ghost use Rattle.std.specs.Option.{SomeIff};
-ghost use Rattle.std.specs.Str.Parse.{digits_value};
+ghost use Rattle.std.specs.Prelude.{◌≡◌, ◌≤◌, IfOk, IfSome, map};
 ghost use Rattle.world_script.specs.Reads.{Finds};
 ghost use Rattle.world_script.specs.Words.{words, is_numeral, number_of, number_from, node_number, key_of, bytes_of};
 
 use crate::fault::LineFault;
 use hex::{FromHex, FromHexError};
+use ini_config::{is_digits, value_of};
 use pg_ids::{PeerNo, ServerKey};
 use std::alloc::{AllocError, Global};
 use world::Bytes;
@@ -41,21 +38,7 @@ pub(crate) fn number(word: &str) -> Option<u32>
 fn is_numeral(word: &str) -> bool
     ensures { result ≡ is_numeral word.now }
 {
-    !word.is_empty() && word.len() <= MAX_DIGITS && all_digits(word.as_bytes())
-}
-
-fn all_digits(bytes: &[u8]) -> bool
-    ensures { result ≡ list_all is_ascii_digit bytes.now }
-{
-    bytes.iter().all(u8::is_ascii_digit)
-}
-
-// The value of the digits, where it isn't too large.
-fn value_of(word: &str) -> Option<u32>
-    requires { IsTrue (is_numeral word.now) }
-    ensures { SomeIff result (digits_value 10 word.now < 2 ^ 32) (digits_value 10 word.now) }
-{
-    word.parse().ok()
+    word.len() <= MAX_DIGITS && is_digits(word)
 }
 
 /// A number from `low` to `high`.
