@@ -1,7 +1,7 @@
 -- What `check --all` writes of each fault: the line of the fault and a sentence (own).
 use Rattle.std.specs.Prelude.{ℕ, List, ◌++◌, codes, flat_map}
 use Rattle.std.specs.Fmt.{decimal}
-use Rattle.ini_config.specs.Codes.{ini_number, group_number}
+use Rattle.ini_config.specs.Codes.{ini_number, ini_name, group_number, group_name}
 use Rattle.ini_config.specs.Faults.{Subject, Line, SectionNamed, KeyNamed, EntryNamed, LineFault}
 use Rattle.ini_config.specs.declared.fault.IniCode.{IniCode}
 use Rattle.ini_config.specs.declared.fault.IniCode.TheVariants as ini
@@ -9,7 +9,6 @@ use Rattle.ini_config.specs.declared.fault.GroupError.{GroupError}
 use Rattle.ini_config.specs.declared.fault.GroupError.TheVariants as group
 use Rattle.ini_config.specs.declared.faults.WholeFault.{WholeFault}
 use Rattle.ini_config.specs.declared.faults.WholeFault.TheVariants as whole
-use Rattle.answer.specs.Texts.{ini_name, group_name}
 
 -- what is wrong with a line, a section or a key of [pgbouncer]
 abbrev pub line_words : IniCode → List ℕ

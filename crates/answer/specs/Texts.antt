@@ -2,11 +2,7 @@
 use Rattle.std.specs.Prelude.{ℕ, List, [], ◌++◌, Option, Some, None, codes, string_bytes}
 use Rattle.std.specs.Fmt.{decimal}
 use Rattle.hex.specs.Hex.{encode_lower}
-use Rattle.ini_config.specs.Codes.{ini_number, group_number}
-use Rattle.ini_config.specs.declared.fault.IniCode.{IniCode}
-use Rattle.ini_config.specs.declared.fault.IniCode.TheVariants as ini
-use Rattle.ini_config.specs.declared.fault.GroupError.{GroupError}
-use Rattle.ini_config.specs.declared.fault.GroupError.TheVariants as group
+use Rattle.ini_config.specs.Codes.{ini_number, ini_name, group_number, group_name}
 use Rattle.pg_ids.specs.AnyKey.{short_of, long_part_of}
 use Rattle.pg_ids.specs.declared.{any_key.AnyKey.AnyKey, client_key.ClientKey.ClientKey}
 use Rattle.pg_ids.specs.declared.long_part.LongPart.{LongPart}
@@ -16,6 +12,7 @@ use Rattle.lease.specs.declared.ticket.TicketRecord.{TicketRecord}
 use Rattle.node_core.specs.Refusals.{cancel_number}
 use Rattle.node_core.specs.declared.exchange.Order.{Order}
 use Rattle.node_core.specs.declared.exchange.Order.TheVariants.{Serve, Forward, Unwait, Refused}
+use Rattle.world_script.specs.Reads.{bad_script, bad_script_name}
 use Rattle.answer.specs.declared.fault.Fault.{Fault}
 use Rattle.answer.specs.declared.fault.Fault.TheVariants.{Usage, InFile, InScript, Explained, OfGroup, Unread, Packet, NotACancel, Unexpected, Memory}
 use Rattle.answer.specs.declared.fault.Reply.{Reply}
@@ -66,25 +63,6 @@ group_text count = codes "group of " ++ decimal count ++ codes " nodes\n"
 
 -- ---- faults
 
--- the name of a refusal of a settings file
-abbrev pub ini_name : IniCode → List ℕ
-ini_name ini.BadLine = codes "BadLine"
-ini_name ini.UnknownSection = codes "UnknownSection"
-ini_name ini.UnknownKey = codes "UnknownKey"
-ini_name ini.BadNumber = codes "BadNumber"
-ini_name ini.OutOfRange = codes "OutOfRange"
-ini_name ini.Repeated = codes "Repeated"
-ini_name ini.Missing = codes "Missing"
-ini_name ini.NotInProfile = codes "NotInProfile"
-ini_name ini.Memory = codes "Memory"
-
--- the name of a refusal of a group
-abbrev pub group_name : GroupError → List ℕ
-group_name group.SamePeer = codes "SamePeer"
-group_name group.MissingPeer = codes "MissingPeer"
-group_name group.NoPeering = codes "NoPeering"
-group_name group.Memory = codes "Memory"
-
 -- a number and a name
 abbrev pub numbered : ℕ → List ℕ → List ℕ
 numbered number name = decimal number ++ codes " " ++ name ++ codes "\n"
@@ -104,7 +82,8 @@ fault_text (InFile file error) =
     string_bytes file ++ codes ":" ++ decimal error.line ++ codes ": "
     ++ numbered (ini_number error.code) (ini_name error.code)
 fault_text (InScript file line) =
-    string_bytes file ++ codes ":" ++ decimal line ++ codes ": " ++ numbered 80 (codes "BadScript")
+    string_bytes file ++ codes ":" ++ decimal line ++ codes ": "
+    ++ numbered bad_script bad_script_name
 fault_text (Explained text) = string_bytes text
 fault_text (OfGroup error) = numbered (group_number error) (group_name error)
 fault_text (Unread file reason) = string_bytes file ++ codes ": " ++ string_bytes reason

@@ -4,7 +4,6 @@ ghost use Rattle.std.specs.Fmt.{decimal};
 ghost use Rattle.ini_config.specs.Surveyed.{line_faults_seen, line_fault_seen, subject_seen};
 ghost use Rattle.answer.specs.Explained.{entry_words, explained, faults_text, group_fault_text, group_sentence, line_text, line_words, sentence, whole_code, whole_sentence, whole_text};
 
-use crate::fault::{group_name, ini_name};
 use ini_config::{Faults, GroupError, IniCode, LineFault, Subject, WholeFault};
 use std::alloc::{AllocError, Global};
 
@@ -58,7 +57,7 @@ fn append_whole(
 pub(crate) fn group_fault_text(alloc: Global, error: GroupError) -> Result<String, AllocError>
     ensures { IfOk result (λ text. string_bytes text ≡ group_fault_text error) }
 {
-    let start = group_start(alloc, error.number(), group_name(error))?;
+    let start = group_start(alloc, error.number(), error.name())?;
     sentence_line(alloc, start.as_str(), group_sentence(error))
 }
 
@@ -85,7 +84,7 @@ fn explained(
 ) -> Result<String, AllocError>
     ensures { IfOk result (λ text. string_bytes text ≡ explained file.now line code words.now) }
 {
-    let start = line_start(alloc, file, line, code.number(), ini_name(code))?;
+    let start = line_start(alloc, file, line, code.number(), code.name())?;
     sentence_line(alloc, start.as_str(), words)
 }
 

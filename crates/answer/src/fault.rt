@@ -1,13 +1,14 @@
 //! Why the program answers nothing.
 ghost use Rattle.std.specs.Prelude.{◌≡◌, ◌++◌, IfOk, codes, string_bytes};
 ghost use Rattle.std.specs.Fmt.{decimal};
-ghost use Rattle.ini_config.specs.Codes.{ini_number};
+ghost use Rattle.ini_config.specs.Codes.{ini_name, ini_number};
 ghost use Rattle.answer.specs.Statuses.{status_of};
-ghost use Rattle.answer.specs.Texts.{fault_text, group_name, ini_name, numbered, reply_text};
+ghost use Rattle.answer.specs.Texts.{fault_text, numbered, reply_text};
 ghost use Rattle.answer.specs.declared.fault.Fault.TheVariants.{Memory};
 
 use ini_config::{GroupError, IniCode, IniError};
 use std::alloc::{AllocError, Global};
+use world_script::{BAD_SCRIPT, BAD_SCRIPT_NAME};
 
 /// Why there is no answer.
 #[derive(Debug, Drop)]
@@ -87,9 +88,9 @@ impl Fault {
             Fault::Usage(text) | Fault::Explained(text) => String::from_str(alloc, text.as_str()),
             Fault::InFile { file, error } => in_file_text(alloc, file.as_str(), *error),
             Fault::InScript { file, line } => {
-                in_line_text(alloc, file.as_str(), *line, BAD_SCRIPT, "BadScript")
+                in_line_text(alloc, file.as_str(), *line, BAD_SCRIPT, BAD_SCRIPT_NAME)
             }
-            Fault::OfGroup(error) => numbered(alloc, error.number(), group_name(*error)),
+            Fault::OfGroup(error) => numbered(alloc, error.number(), error.name()),
             Fault::Unread { file, reason } => unread_text(alloc, file.as_str(), reason.as_str()),
             Fault::Packet(number) => format!(in alloc; "packet {number}\n"),
             Fault::NotACancel => String::from_str(alloc, "not a cancel\n"),
@@ -103,12 +104,9 @@ fn in_file_text(alloc: Global, file: &str, error: IniError) -> Result<String, Al
     ensures { IfOk result (λ text. string_bytes text ≡ file.now ++ codes ":" ++ decimal error.line
         ++ codes ": " ++ numbered (ini_number error.code) (ini_name error.code)) }
 {
-    let number = error.code.number();
-    in_line_text(alloc, file, error.line, number, ini_name(error.code))
+    let code = error.code;
+    in_line_text(alloc, file, error.line, code.number(), code.name())
 }
-
-// The number of what is no script.
-const BAD_SCRIPT: u8 = 80;
 
 // The fault that a line of a file has.
 fn in_line_text(
@@ -135,35 +133,6 @@ fn numbered(alloc: Global, number: u8, name: &str) -> Result<String, AllocError>
     ensures { IfOk result (λ text. string_bytes text ≡ numbered number name.now) }
 {
     format!(in alloc; "{number} {name}\n")
-}
-
-/// The name of a refusal of a settings file.
-pub(crate) fn ini_name(code: IniCode) -> &'static str
-    ensures { result.now ≡ ini_name code }
-{
-    match code {
-        IniCode::BadLine => "BadLine",
-        IniCode::UnknownSection => "UnknownSection",
-        IniCode::UnknownKey => "UnknownKey",
-        IniCode::BadNumber => "BadNumber",
-        IniCode::OutOfRange => "OutOfRange",
-        IniCode::Repeated => "Repeated",
-        IniCode::Missing => "Missing",
-        IniCode::NotInProfile => "NotInProfile",
-        IniCode::Memory => "Memory",
-    }
-}
-
-/// The name of a refusal of a group.
-pub(crate) fn group_name(error: GroupError) -> &'static str
-    ensures { result.now ≡ group_name error }
-{
-    match error {
-        GroupError::SamePeer => "SamePeer",
-        GroupError::MissingPeer => "MissingPeer",
-        GroupError::NoPeering => "NoPeering",
-        GroupError::Memory => "Memory",
-    }
 }
 
 impl Reply {
