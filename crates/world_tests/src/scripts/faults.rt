@@ -101,11 +101,21 @@ fn most_bytes(rt: HostRuntime) -> Result<(), Fail> {
 }
 
 #[test]
-fn text_of_a_fault(rt: HostRuntime) -> Result<(), Fail> {
-    let fault = ScriptError::Bad { line: 2 };
-    assert_eq!(rt; fault.number(), Some(80));
-    assert_eq!(rt; ScriptError::Memory.number(), None);
+fn texts_of_faults(rt: HostRuntime) -> Result<(), Fail> {
+    let bad = ScriptError::Bad { line: 2 };
+    expect_text(&rt, bad, Some(80), "2: 80 BadScript")?;
+    expect_text(&rt, ScriptError::Memory, None, "out of memory")
+}
+
+// The fault has this number, and is written as this text.
+fn expect_text(
+    rt: &(impl Abort + Alloc<A = Global>),
+    fault: ScriptError,
+    number: Option<u8>,
+    text: &str,
+) -> Result<(), Fail> {
     let written = format!(in rt.alloc(); "{fault}")?;
-    assert_eq!(rt; written.as_str(), "2: 80 BadScript");
+    assert_eq!(rt; fault.number(), number);
+    assert_eq!(rt; written.as_str(), text);
     Ok(())
 }
