@@ -18,12 +18,13 @@ no_row = record { calls = 0; sums = [] }
 -- how many sums each answer has room for: with a short key, or with no key
 abbrev SHORTS : List ℕ
 SHORTS =
-    8 ∷ 2 ∷ 2  -- Join
+    9 ∷ 5  -- AcquireGot, ReleasedIdle
+    ∷ 8 ∷ 2 ∷ 2  -- Join
     ∷ 4 ∷ 12 ∷ 4 ∷ 4  -- Leave
-    ∷ 9 ∷ 9 ∷ 4 ∷ 4 ∷ 4 ∷ 4 ∷ 4  -- Acquire
+    ∷ 9 ∷ 4 ∷ 4 ∷ 4 ∷ 4 ∷ 4  -- Acquire
     ∷ 11 ∷ 11 ∷ 6 ∷ 6  -- Up
     ∷ 5 ∷ 5 ∷ 5  -- UpFailed
-    ∷ 5 ∷ 5 ∷ 5 ∷ 5 ∷ 5  -- Release
+    ∷ 5 ∷ 5 ∷ 5 ∷ 5  -- Release
     ∷ 5 ∷ 5 ∷ 5  -- Close
     ∷ 9 ∷ 7 ∷ 2  -- Cancel
     ∷ 1 ∷ 1 ∷ 1 ∷ 1 ∷ 1 ∷ 1  -- Cancel, refused
@@ -34,12 +35,13 @@ SHORTS =
 -- and with a long key
 abbrev LONGS : List ℕ
 LONGS =
-    8 ∷ 2 ∷ 2  -- Join
+    11 ∷ 0  -- AcquireGot, ReleasedIdle
+    ∷ 8 ∷ 2 ∷ 2  -- Join
     ∷ 6 ∷ 12 ∷ 6 ∷ 6  -- Leave
-    ∷ 11 ∷ 11 ∷ 6 ∷ 6 ∷ 6 ∷ 6 ∷ 6  -- Acquire
+    ∷ 11 ∷ 6 ∷ 6 ∷ 6 ∷ 6 ∷ 6  -- Acquire
     ∷ 0 ∷ 0 ∷ 0 ∷ 0  -- Up
     ∷ 0 ∷ 0 ∷ 0  -- UpFailed
-    ∷ 0 ∷ 0 ∷ 0 ∷ 0 ∷ 0  -- Release
+    ∷ 0 ∷ 0 ∷ 0 ∷ 0  -- Release
     ∷ 0 ∷ 0 ∷ 0  -- Close
     ∷ 11 ∷ 7 ∷ 4  -- Cancel
     ∷ 3 ∷ 3 ∷ 3 ∷ 3 ∷ 3 ∷ 3  -- Cancel, refused

@@ -185,55 +185,55 @@ le_same a b e = omega (arith, e)
 fewer : (call : Exchange) → length (numbers_of call) ≤ room call
 fewer (Join database secret asked (Ok pass)) =
     let k = key_most pass.key in
-    let room = same_room asked 0 8 refl refl in
+    let room = same_room asked 2 8 refl refl in
     omega (arith, k, room)
-fewer (Join database secret asked (Err join.Full)) = le_same _ _ (sym (same_room asked 1 2 refl refl))
-fewer (Join database secret asked (Err join.Exhausted)) = le_same _ _ (sym (same_room asked 2 2 refl refl))
+fewer (Join database secret asked (Err join.Full)) = le_same _ _ (sym (same_room asked 3 2 refl refl))
+fewer (Join database secret asked (Err join.Exhausted)) = le_same _ _ (sym (same_room asked 4 2 refl refl))
 fewer (Leave pass (leave.Holding again)) =
     let k = key_most pass.key in
     let other = key_most again.key in
     let joined = length-append (key_numbers pass.key) (key_numbers again.key) in
-    let room = same_room (kind_of pass.key) 4 12 refl refl in
+    let room = same_room (kind_of pass.key) 6 12 refl refl in
     omega (arith, k, other, joined, room)
 fewer (Leave pass leave.Left) =
     let k = key_wide pass.key in
-    let room = own_room (kind_of pass.key) 3 3 refl refl in
+    let room = own_room (kind_of pass.key) 5 3 refl refl in
     omega (arith, k, room)
 fewer (Leave pass leave.Stale) =
     let k = key_wide pass.key in
-    let room = own_room (kind_of pass.key) 5 3 refl refl in
+    let room = own_room (kind_of pass.key) 7 3 refl refl in
     omega (arith, k, room)
 fewer (Leave pass leave.Exhausted) =
     let k = key_wide pass.key in
-    let room = own_room (kind_of pass.key) 6 3 refl refl in
+    let room = own_room (kind_of pass.key) 8 3 refl refl in
     omega (arith, k, room)
 fewer (Acquire pass (acquire.Got lease)) =
     let k = key_wide pass.key in
-    let room = own_room (kind_of pass.key) 7 8 refl refl in
+    let room = own_room (kind_of pass.key) 0 8 refl refl in
     omega (arith, k, room)
 fewer (Acquire pass (acquire.Open permit)) =
     let k = key_wide pass.key in
-    let room = own_room (kind_of pass.key) 8 8 refl refl in
+    let room = own_room (kind_of pass.key) 9 8 refl refl in
     omega (arith, k, room)
 fewer (Acquire pass acquire.Waiting) =
     let k = key_wide pass.key in
-    let room = own_room (kind_of pass.key) 9 3 refl refl in
+    let room = own_room (kind_of pass.key) 10 3 refl refl in
     omega (arith, k, room)
 fewer (Acquire pass acquire.Cancelled) =
     let k = key_wide pass.key in
-    let room = own_room (kind_of pass.key) 10 3 refl refl in
+    let room = own_room (kind_of pass.key) 11 3 refl refl in
     omega (arith, k, room)
 fewer (Acquire pass acquire.Holding) =
     let k = key_wide pass.key in
-    let room = own_room (kind_of pass.key) 11 3 refl refl in
+    let room = own_room (kind_of pass.key) 12 3 refl refl in
     omega (arith, k, room)
 fewer (Acquire pass acquire.Stale) =
     let k = key_wide pass.key in
-    let room = own_room (kind_of pass.key) 12 3 refl refl in
+    let room = own_room (kind_of pass.key) 13 3 refl refl in
     omega (arith, k, room)
 fewer (Acquire pass acquire.Exhausted) =
     let k = key_wide pass.key in
-    let room = own_room (kind_of pass.key) 13 3 refl refl in
+    let room = own_room (kind_of pass.key) 14 3 refl refl in
     omega (arith, k, room)
 fewer (Cancel asked (order.Serve ticket database server)) =
     let k = key_wide asked in

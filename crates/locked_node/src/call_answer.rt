@@ -3,8 +3,14 @@
 pub const ANSWERS: usize = 48;
 
 /// A step with the name of its answer.
+// Each transaction gets `AcquireGot` and `ReleasedIdle`: they come first, and so their cells lie side
+// by side in a tally.
 #[derive(Clone, Copy, Debug, PartialEq, Eq, Hash)]
 pub enum CallAnswer {
+    /// A client got an idle link, or its own quarantined one.
+    AcquireGot,
+    /// A link was given back, free for others.
+    ReleasedIdle,
     /// A client got a slot.
     Joined,
     /// No slot was free.
@@ -19,8 +25,6 @@ pub enum CallAnswer {
     LeaveStale,
     /// No leaving was possible any more.
     LeaveExhausted,
-    /// A client got an idle link, or its own quarantined one.
-    AcquireGot,
     /// A client may open a link.
     AcquireOpen,
     /// A client has to wait for a link.
@@ -47,8 +51,6 @@ pub enum CallAnswer {
     UpFailedStale,
     /// No place could be freed any more.
     UpFailedExhausted,
-    /// A link was given back, free for others.
-    ReleasedIdle,
     /// A link was given back while a cancel request for it was on its way.
     ReleasedQuarantined,
     /// A link was given back and closed, since a cancel request for it had failed.

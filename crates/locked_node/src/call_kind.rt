@@ -10,12 +10,13 @@ pub const KINDS: usize = 96;
 
 // How many numbers a call with each answer has besides its keys', by the answer's place.
 const REST: [usize; ANSWERS] = [
+    8, 5, // AcquireGot, ReleasedIdle
     5, 2, 2, // Join
     3, 6, 3, 3, // Leave
-    8, 8, 3, 3, 3, 3, 3, // Acquire
+    8, 3, 3, 3, 3, 3, // Acquire
     11, 11, 6, 6, // Up
     5, 5, 5, // UpFailed
-    5, 5, 5, 5, 5, // Release
+    5, 5, 5, 5, // Release
     5, 5, 5, // Close
     8, 1, 1, 0, 0, 0, 0, 0, 0, // Cancel
     6, 6, 6, 6, // Ended
@@ -25,12 +26,13 @@ const REST: [usize; ANSWERS] = [
 
 // How many keys of clients it has.
 const KEYS: [usize; ANSWERS] = [
+    1, 0, // AcquireGot, ReleasedIdle
     1, 0, 0, // Join
     1, 2, 1, 1, // Leave
-    1, 1, 1, 1, 1, 1, 1, // Acquire
+    1, 1, 1, 1, 1, 1, // Acquire
     0, 0, 0, 0, // Up
     0, 0, 0, // UpFailed
-    0, 0, 0, 0, 0, // Release
+    0, 0, 0, 0, // Release
     0, 0, 0, // Close
     1, 2, 1, 1, 1, 1, 1, 1, 1, // Cancel
     0, 0, 0, 0, // Ended

@@ -17,9 +17,10 @@ const PART: u128 = 1 << 64;
 pub struct Caller<S> {
     pub(crate) seat: Place<S>,
     pub(crate) allowance: u128,
-    pub(crate) tally: Tally,
-    // What was noted of its last call.
+    // What was noted of its last call. The tally begins with the cells of the usual calls, so these
+    // lie beside the note.
     pub(crate) note: CallNote,
+    pub(crate) tally: Tally,
 }
 
 impl<S> Model for Caller<S> {
