@@ -59,8 +59,7 @@ impl<S: Drop> Journal<S> {
         // As many numbers and incarnations were given as the calls say, at least.
         ensures numbers { CountsWithin (calls_at self.now.log.totals) self.now.view }
     {
-        self.core.incarnation();
-        &self.core
+        whole_node(&self.core)
     }
 
     /// How many calls there were, those of the tail among them.
@@ -108,9 +107,8 @@ impl<S: Drop> Journal<S> {
             (database_of self.old.view (C.exchange (C.handed call) result)) note.new.turn
             self.new.view }
     {
-        self.core.incarnation();
         let details = call.details();
-        let database = call.database(&self.core);
+        let database = call.database(whole_node(&self.core));
         let reply = call.make(&mut self.core);
         C::record(&details, &reply, &mut self.log, note);
         self.log.count(note);
@@ -131,4 +129,15 @@ impl<S: Drop> Journal<S> {
         }
         self.make(call, &mut CallNote::new())
     }
+}
+
+// The node. The view of each node is whole, but in this crate only a clause of a method says so. So
+// one is called for its clause alone.
+#[inline(always)]
+fn whole_node<S: Drop>(core: &NodeCore<S>) -> &NodeCore<S>
+    ensures same { result.now ≡ core.now }
+    ensures whole { IsView core.now.view }
+{
+    core.incarnation();
+    core
 }
