@@ -113,14 +113,13 @@ impl Client {
         // What is gathered has a limit.
         ensures gathered { length self.now.gathered ≤ self.now.limit }
     {
-        let _gathered = &self.gathered;
         match self.stage {
             Stage::NoLease | Stage::Leased => true,
             Stage::Asking => false,
         }
     }
 
-    /// Whether a lease is held: from `Need` on, until `Release`, `Close` or `drop_request`.
+    /// Whether the session holds a lease.
     pub fn holds_lease(&self) -> bool
         ensures { result ≡ self.now.leased }
     {
@@ -130,8 +129,9 @@ impl Client {
         }
     }
 
-    /// What to do with the client's next frame. A request counts as outstanding from then on. Where
-    /// memory was refused, the session ends without an error.
+    /// What to do with the client's next frame. A request counts as outstanding from then on. The
+    /// contract also allows the end of the session without an error, which comes where memory is
+    /// refused.
     pub fn on_client(&mut self, frame: &Frame) -> Act
         requires { self.old.outstanding ≡ 0 }
         ensures { ActsOnClient self.old frame.now result self.new }
@@ -144,8 +144,8 @@ impl Client {
         }
     }
 
-    /// How many bytes the messages of an extended query had together that ended the session, since
-    /// they were more than its limit.
+    /// How many bytes the messages of an extended query had that ended the session by their length.
+    /// The contract says only that this is above the limit.
     pub fn refused_group(&self) -> Option<usize>
         ensures { IfSome result (λ bytes. self.now.limit < bytes) }
     {
@@ -250,15 +250,15 @@ impl Client {
         }
     }
 
-    /// Keeps this memory, to be read into.
+    /// Takes memory that `take_room` may hand out next.
     pub fn keep_room(&mut self, room: Vec<u8>)
         ensures { self.new ≡ self.old }
     {
         self.room = room;
     }
 
-    /// Hands out the request that is whole in the first bytes of this memory, of which nothing was
-    /// gathered. It counts as outstanding from then on.
+    /// Hands out the first bytes of this memory as a request, which counts as outstanding from then
+    /// on. What is gathered stays.
     pub fn ask(&mut self, memory: Vec<u8>, len: usize) -> Request
         requires within { len ≤ vec_len memory }
         requires free { self.old.outstanding ≡ 0 }
@@ -269,7 +269,8 @@ impl Client {
         Request::front(memory, len)
     }
 
-    /// Keeps the memory of a request that was handed out for the next one, unless it is large.
+    /// Takes back a request that was handed out. Its memory may be used again, by `take_room` or for
+    /// what is gathered next.
     pub fn recycle(&mut self, request: Request)
         ensures { self.new ≡ self.old }
     {
