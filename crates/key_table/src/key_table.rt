@@ -118,8 +118,9 @@ impl KeyTable {
     }
 }
 
-// Stores the entry in the next slot. The slab tells a key's range only as it gives the key, so
-// where a slot is left, the key after is given too, and taken back.
+// Stores the entry in the next slot. If a slot is left, it also inserts a dummy entry there and
+// removes it again: `IsTable` says that the next key is within the capacity and free, and the slab's
+// contracts say this of a key only once `insert_reserved` has returned it.
 fn fill_next(live: &mut Slab<Entry>, entry: Entry)
     requires table { IsTable live.old }
     requires room { HasRoomFor live.old 1 }

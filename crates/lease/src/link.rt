@@ -127,9 +127,9 @@ impl<S> Link<S, Held> {
         stream
     }
 
-    /// Spends the lease without a step, as `close` does: where a journal or a caller has used up
-    /// its calls, at a desk that is a list, and for what the command `decide` holds at its end.
-    /// Returns its stream.
+    /// Does the same as `close`. The name marks where no step of a node takes the lease: where a
+    /// journal or a caller has used up its calls, where a desk is a list, where `world` keeps only
+    /// the record of a lease that it was handed, and where the command `decide` ends.
     pub fn forfeit(self) -> S
         ensures { result ≡ self.stream }
     {

@@ -17,14 +17,16 @@ impl<R> Model for Token<R> {
 }
 
 impl<R> Token<R> {
-    /// The token with this record. A node's step makes it.
+    /// A token with this record. The steps of a node make tokens, and so does `world`, for each step
+    /// that takes one.
     pub const fn new(details: R) -> Token<R>
         ensures { result ≡ details }
     {
         Token { details }
     }
 
-    /// Spends the token in a step of a node. Returns its record.
+    /// Spends the token, and returns its record. The steps of a node spend tokens, and so does
+    /// `world`, which keeps only their records.
     pub fn spend(self) -> R
         ensures { result ≡ self }
     {
@@ -32,9 +34,9 @@ impl<R> Token<R> {
         details
     }
 
-    /// Spends the token without a step, as `spend` does: where a journal or a caller has used up
-    /// its calls, at a desk that is a list, and for what the command `decide` holds at its end.
-    /// Returns its record.
+    /// Does the same as `spend`. The name marks where no step of a node takes the token: where a
+    /// journal or a caller has used up its calls, where a desk is a list, and where the command
+    /// `decide` ends.
     pub fn forfeit(self) -> R
         ensures { result ≡ self }
     {

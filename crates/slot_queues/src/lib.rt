@@ -1,5 +1,5 @@
-//! Queues of slots, first in first out, in which no step's work grows with how many wait: a slot
-//! leaves the middle of its queue as fast as the end. No memory is taken once they are there.
+//! Queues of slots, first in first out. `first`, `push` and `remove` touch a few entries of two
+//! arrays, however many slots wait; `clear` writes every entry. Only `new` allocates.
 #![tactic(auto)]
 
 mod slot_queues;
