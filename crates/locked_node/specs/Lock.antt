@@ -346,9 +346,10 @@ pub record IsWhole (caller : CallerView) (journal : JournalView) : Type 0 where
   pub placed : Placed calls caller.places caller.made
   pub in_order : AllPairs (λ one later. one < later) caller.places → calls ≡ caller.made
 
--- The journal of a caller's lock, also where others have calls and allowance: the calls of all
--- callers led from the node as it was to the journal's view, and this caller's are at their places.
--- The journal's totals are those that it began with and those of these calls.
+-- What a caller knows of its lock's journal, also where others have calls and allowance: some calls
+-- lead from the node as it was to the journal's view, and this caller's are among them, at their
+-- places. The journal's totals are those that it began with and those of these calls. Who made the
+-- other calls it doesn't say.
 pub record IsOfLock (caller : CallerView) (journal : JournalView) : Type 0 where
   pub calls : List Exchange
   pub replay : Replay caller.start.view calls journal.view

@@ -108,9 +108,9 @@ impl<S: Drop> Shared<S> {
     }
 
     /// The journal, at the end, and `None` if the lock is taken, which a lock that somebody owns
-    /// never is. It is the journal of this lock: the calls of all callers led from the node as it
-    /// was to the node's state, and this caller's are among them. If all callers were joined to
-    /// this one, there is a journal, and its totals are this caller's.
+    /// never is. Some calls lead from the node as it was to the journal's state, this caller's among
+    /// them at their places, and they leave this caller's allowance. If all callers were joined to
+    /// this one, there is a journal, its totals are this caller's, and the calls are this caller's.
     pub fn into_journal(self, caller: Caller<S>) -> Option<Journal<S>>
         requires own { caller.lock ≡ self }
         ensures own { IfSome result (λ journal. IsOfLock caller (journal_view journal)) }
