@@ -1,7 +1,8 @@
 -- Whom a call wakes (own): the client whose wait it cancels, everybody at a new start, and
 -- otherwise the slot whose turn it is after the call at the database where the call may have
 -- changed that.
-use Rattle.std.specs.Prelude.{ℕ, ◌≡◌, ◌<◌, Option, Some, None, length, slice_get}
+use Rattle.std.specs.Prelude.{ℕ, ◌≡◌, ◌<◌, Option, Some, None, [], ◌∷◌, length, slice_get}
+use Rattle.atomic_table.specs.Table.{Me}
 use Rattle.pg_ids.specs.AnyKey.{slot_of}
 use Rattle.lease.specs.declared.pass.PassRecord.{PassRecord}
 use Rattle.link_pool.specs.Turns.{IsTurn}
@@ -13,6 +14,8 @@ use Rattle.node_core.specs.declared.exchange.Exchange.{Exchange}
 use Rattle.node_core.specs.declared.exchange.Exchange.TheVariants as call
 use Rattle.node_core.specs.declared.exchange.Order.{Order}
 use Rattle.node_core.specs.declared.exchange.Order.TheVariants as order
+use Rattle.locked_node.specs.Journal.{JournalView}
+use Rattle.locked_node.specs.declared.rule.Share.{Share}
 use Rattle.locked_node.specs.declared.turn.Turn.{Turn}
 use Rattle.locked_node.specs.declared.turn.Woken.{Woken}
 use Rattle.locked_node.specs.declared.turn.Woken.TheVariants.{Nobody, One, All}
@@ -86,3 +89,12 @@ WokenFirst All database woken v = woken ≡ All
 pub record Wakes (first : Woken) (database : Option ℕ) (turn : Turn) (v : NodeView) : Type 0 where
   pub incarnation : turn.incarnation ≡ v.links.incarnation
   pub woken : WokenFirst first database turn.woken v
+
+-- whom a call wakes that was made on the journal of a seat
+pub record WakesAfter (before : Me JournalView Share) (call : Exchange) (turn : Turn)
+    (after : Me JournalView Share) : Type 0 where
+  pub old : JournalView
+  pub new : JournalView
+  pub held : before.1 ≡ (0, old) ∷ []
+  pub holds : after.1 ≡ (0, new) ∷ []
+  pub wakes : Wakes (woken_by call) (database_of old.view call) turn new.view

@@ -27,6 +27,7 @@ impl<S: Drop> Locked<S> {
     ghost use Rattle.locked_node.specs.Journal.{CALL_LIMIT};
     ghost use Rattle.locked_node.specs.Totals.{IsCountOf, calls_at, all_calls};
     ghost use Rattle.locked_node.specs.Lock.{Somewhere};
+    ghost use Rattle.locked_node.specs.Waking.{Wakes, woken_by, database_of};
 
     /// Makes a call of any step, where one is left. Notes what of it is counted, and whose turn it
     /// is then.
@@ -37,6 +38,9 @@ impl<S: Drop> Locked<S> {
         ensures step { JournalStep self.old (C.exchange (C.handed call) result) self.new }
         ensures streams { Somewhere (C.streams call result) }
         ensures count { IsCountOf (C.exchange (C.handed call) result) note.new }
+        ensures turn { Wakes (woken_by (C.exchange (C.handed call) result))
+            (database_of self.old.view (C.exchange (C.handed call) result)) note.new.turn
+            self.new.view }
     {
         self.journal.make(call, note)
     }

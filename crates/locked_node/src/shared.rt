@@ -3,6 +3,7 @@ ghost use Rattle.std.specs.Prelude.{◌≡◌, ◌<◌, [], length, None};
 ghost use Rattle.locked_node.specs.Lock.{Takes, Holds, IsFound, IsCopy, Calls, Called, Given, Returned, stake};
 ghost use Rattle.locked_node.specs.Journal.{CountsWithin};
 ghost use Rattle.locked_node.specs.Replay.{fixed_of};
+ghost use Rattle.locked_node.specs.Waking.{WakesAfter};
 ghost use Rattle.node_core.specs.View.{IsView};
 
 use crate::call::Call;
@@ -272,6 +273,8 @@ impl<S: Drop> Shared<S> {
         ensures calls { Calls seat.old.me (C.exchange (C.handed call) result) seat.new.me }
         ensures streams { Somewhere (C.streams call result) }
         ensures count { IsCountOf (C.exchange (C.handed call) result) note.new }
+        ensures turn { WakesAfter seat.old.me (C.exchange (C.handed call) result) note.new.turn
+            seat.new.me }
     {
         seat.slot_mut(&self.table.shared, 0).make(call, note)
     }
