@@ -1,11 +1,11 @@
-//! The connections that a listener accepts.
-use crate::client_stream::{ClientStream, Entry, Serves};
-use crate::crew::Crew;
-use crate::doorway::Doorway;
+//! Accepts the connections of a listener and serves them.
+use crate::accept_threads::AcceptThreads;
+use crate::client_stream::{ClientStream, ConnectionContext, Serves};
+use crate::connection_limit::ConnectionLimit;
+use crate::connections::PendingId;
 use crate::ending::end;
-use crate::guests::Newcomer;
 use crate::keepalive::keep_alive;
-use crate::limits::{ALONE_MILLIS, FIRST_PACKETS_MILLIS, NEWCOMER_AGE_MILLIS};
+use crate::limits::{ALONE_MILLIS, EVICTION_AGE_MILLIS, FIRST_PACKETS_MILLIS};
 use crate::log::{Event, Value};
 use crate::{Connection, Deadline, Host, Log, Machine, Serving};
 use libc::net as c;
@@ -18,32 +18,32 @@ use std::sync::{Arc, Mutex};
 use std::time::Duration;
 use std::{io, thread};
 
-// How many milliseconds pass after a fault until a connection is accepted or a thread is started
-// again. The fault would come again at once if no descriptor or no thread is left.
-const REST: u64 = 10;
+// How many milliseconds pass after an error until accepting a connection or starting a thread is
+// tried again. Without a pause it would fail again at once if no descriptor or thread is left.
+const RETRY_MILLIS: u64 = 10;
 
-// How large the stack of a thread is that serves connections.
+// The stack size of a thread that serves connections.
 const STACK: usize = 1 << 20;
 
 /// A listener, and the nodes that serve its connections in turn. The thread that accepts a
-/// connection serves it, and waits for another one after that: so no thread is started for each
-/// connection, and none has to be woken up by another.
+/// connection serves it, and then waits for the next one: so no thread is started for each
+/// connection, and none has to wake another.
 #[derive(Drop)]
 pub struct Acceptor<M: Machine> {
     listener: TcpListener,
     nodes: Vec<Arc<Serving<M>, Global>>,
     front: Mutex<Front>,
-    doorway: Arc<Doorway, Global>,
+    limit: Arc<ConnectionLimit, Global>,
     log: Arc<Log, Global>,
-    crew: Crew,
+    threads: AcceptThreads,
 }
 
 impl<M: Machine> Acceptor<M> {
-    /// A listener at which no thread waits yet.
+    /// Returns an acceptor without threads.
     pub fn new(
         listener: TcpListener,
         nodes: Vec<Arc<Serving<M>, Global>>,
-        doorway: Arc<Doorway, Global>,
+        limit: Arc<ConnectionLimit, Global>,
         log: Arc<Log, Global>,
     ) -> Acceptor<M> {
         let front = Mutex::new(Front::new(nodes.len().max(1)));
@@ -51,23 +51,23 @@ impl<M: Machine> Acceptor<M> {
             listener,
             nodes,
             front,
-            doorway,
+            limit,
             log,
-            crew: Crew::new(),
+            threads: AcceptThreads::new(),
         }
     }
 
-    /// Accepts no connection any more: those that come from now on are refused. The group drains.
+    /// Stops accepting connections: later ones are refused.
     pub fn close(&self) {
-        self.crew.dismiss();
+        self.threads.shut_down();
         c::shutdown(self.listener.as_raw_fd(), c::SHUT_RD);
     }
 
-    // Serves a connection to its end, or closes it. If no other thread can wait for connections
-    // meanwhile, it is served only if it is a cancel request.
+    // Serves a connection to its end, or closes it. If no other thread waits for connections
+    // meanwhile, only a cancel request is served.
     fn serve(&self, host: &M, alloc: Global, socket: TcpStream) {
         let place = self.front.lock(host).deal();
-        let serves = if self.crew.leave(host) {
+        let serves = if self.threads.stop_waiting(host) {
             Serves::All
         } else {
             Serves::Cancels
@@ -77,7 +77,7 @@ impl<M: Machine> Acceptor<M> {
         }
     }
 
-    // Serves a connection at the node at this place, if there is room for it.
+    // Serves a connection at the node at this place, if the limit admits it.
     fn try_serve(
         &self,
         host: &M,
@@ -89,26 +89,26 @@ impl<M: Machine> Acceptor<M> {
         let Some(node) = self.nodes.get(place) else {
             return Ok(());
         };
-        let Some(newcomer) = self.doorway.arrive(host, socket.as_raw_fd()) else {
+        let Some(pending) = self.limit.admit(host, socket.as_raw_fd()) else {
             return Err(io::Error::new(ErrorKind::QuotaExceeded, "too many connections"));
         };
         let connection = Connection::metered(socket, node.meter());
-        let served = self.serve_newcomer(host, alloc, node, &connection, newcomer, serves);
-        self.doorway.go(host, newcomer);
+        let served = self.serve_admitted(host, alloc, node, &connection, pending, serves);
+        self.limit.closing(host, pending);
         drop(connection);
-        self.doorway.leave(host);
+        self.limit.closed(host);
         served
     }
 
-    // Serves a connection that has come in. Where no caller of the node can be made, it is served
-    // only if it is a cancel request.
-    fn serve_newcomer(
+    // Serves an admitted connection. If no caller of the node can be made, only a cancel request is
+    // served.
+    fn serve_admitted(
         &self,
         host: &M,
         alloc: Global,
         node: &Serving<M>,
         connection: &Connection,
-        newcomer: Newcomer,
+        pending: PendingId,
         serves: Serves,
     ) -> io::Result<()> {
         connection.socket().set_nodelay(true)?;
@@ -121,58 +121,58 @@ impl<M: Machine> Acceptor<M> {
                 node.take_reserved(host).ok_or(io::Error::from(AllocError))?
             }
         };
-        // A caller is given back where there is no time: dropping it here would need room for its
-        // totals on the stack of each connection.
-        let deadline = match Deadline::after(host, time_of(serves)) {
+        // On an error the caller is given back: dropping it here would need stack space for its
+        // totals in each connection's thread.
+        let deadline = match Deadline::after(host, first_packets_millis(serves)) {
             Ok(deadline) => deadline,
             Err(error) => {
                 node.give_back(host, calling);
                 return Err(error);
             }
         };
-        let entry = Entry {
-            doorway: &self.doorway,
-            newcomer,
+        let context = ConnectionContext {
+            limit: &self.limit,
+            pending,
             serves,
             deadline,
             log: &self.log,
             node: node.number(),
         };
-        let mut client = ClientStream::new(host, alloc, connection, entry);
+        let mut client = ClientStream::new(host, alloc, connection, context);
         node.serve(host, alloc, calling, connection, &mut client);
         end(host, connection, &mut client);
         Ok(())
     }
 
-    // Writes to the log why something can't be done.
+    // Logs an error.
     fn write_error(&self, host: &M, event: Event, error: &io::Error) {
         self.log
             .write(host, None, event, &[("error", Value::Error(error))]);
     }
 }
 
-// How many milliseconds the first packets of a connection may take.
-fn time_of(serves: Serves) -> u64 {
+// Returns the time limit for the first packets of a connection.
+fn first_packets_millis(serves: Serves) -> u64 {
     match serves {
         Serves::All => FIRST_PACKETS_MILLIS,
         Serves::Cancels => ALONE_MILLIS,
     }
 }
 
-/// Sees to it that threads wait for connections at a listener, as long as threads can be started.
-/// It returns when the listener is closed.
+/// Starts threads that wait for connections, whenever too few wait. Returns when the acceptor is
+/// closed.
 pub fn keep_accepting<H: Host>(host: &H, alloc: Global, acceptor: &Arc<Acceptor<H>, Global>) {
     for _ in host.forever() {
-        if !acceptor.crew.wait_until_few(host) {
+        if !acceptor.threads.wait_until_needed(host) {
             return;
         }
         for node in &acceptor.nodes {
-            node.stock(host, alloc, acceptor.crew.fewest());
+            node.stock(host, alloc, acceptor.threads.min_waiting());
         }
         if let Err(error) = start(host, alloc, acceptor) {
             acceptor.write_error(host, Event::ThreadFailed, &error);
-            acceptor.doorway.make_room(host, NEWCOMER_AGE_MILLIS);
-            thread::sleep(host, Duration::from_millis(REST));
+            acceptor.limit.evict(host, EVICTION_AGE_MILLIS);
+            thread::sleep(host, Duration::from_millis(RETRY_MILLIS));
         }
     }
 }
@@ -181,36 +181,36 @@ pub fn keep_accepting<H: Host>(host: &H, alloc: Global, acceptor: &Arc<Acceptor<
 fn start<H: Host>(host: &H, alloc: Global, acceptor: &Arc<Acceptor<H>, Global>) -> io::Result<()> {
     let own = *host;
     let theirs = Arc::try_clone(acceptor).map_err(io::Error::from)?;
-    acceptor.crew.begin_start();
+    acceptor.threads.begin_start();
     let started = thread::Builder::new()
         .stack_size(STACK)
         .spawn(host, move || accept(&own, alloc, &theirs));
     match started {
         Ok(_) => Ok(()),
         Err(error) => {
-            acceptor.crew.fail_start();
+            acceptor.threads.fail_start();
             Err(error)
         }
     }
 }
 
-// Accepts connections and serves each to its end, until enough other threads wait for them, or the
-// group drains. Another fault of accept is passed over.
+// Accepts connections and serves each to its end. Returns when enough other threads wait, or when
+// the acceptor is closed. Other errors are logged.
 fn accept<M: Machine>(host: &M, alloc: Global, acceptor: &Acceptor<M>) {
-    acceptor.crew.start();
+    acceptor.threads.finish_start();
     for socket in acceptor.listener.incoming() {
         match socket {
             Ok(socket) => {
                 acceptor.serve(host, alloc, socket);
-                if !acceptor.crew.come_back() {
+                if !acceptor.threads.resume_waiting() {
                     return;
                 }
             }
-            Err(_) if acceptor.crew.is_dismissed() => return,
+            Err(_) if acceptor.threads.is_shut_down() => return,
             Err(error) => {
                 acceptor.write_error(host, Event::AcceptFailed, &error);
-                acceptor.doorway.make_room(host, NEWCOMER_AGE_MILLIS);
-                thread::sleep(host, Duration::from_millis(REST));
+                acceptor.limit.evict(host, EVICTION_AGE_MILLIS);
+                thread::sleep(host, Duration::from_millis(RETRY_MILLIS));
             }
         }
     }

@@ -1,4 +1,4 @@
-//! How a cancel request has ended, as the log says it.
+//! How a cancel request has ended, for the log.
 ghost use Rattle.std.specs.Prelude.{◌≡◌};
 ghost use Rattle.group_server.specs.CancelEnds.{end_of};
 
@@ -17,19 +17,19 @@ pub enum Target {
 /// How a cancel request has ended.
 #[derive(Clone, Copy, Debug, PartialEq, Eq)]
 pub enum CancelEnd {
-    /// Its server or peer has ended its connection cleanly.
+    /// Its server or peer has closed the connection cleanly.
     Settled,
-    /// It may still be acted on, and its sender was to read the byte 45 (hexadecimal).
+    /// It may still be acted on. The byte 45 (hexadecimal) was written to its sender, or that failed.
     Failed,
-    /// It was sent nowhere: it was refused, or it has ended the wait of a client.
+    /// It was sent nowhere: it was refused, or it has ended a client's wait.
     NothingSent,
     /// It wasn't served, and its sender's connection is reset.
     NotServed,
 }
 
 impl CancelEnd {
-    /// The end of a request that was sent there, or nowhere, by the last call of its sender's
-    /// stream: a byte is written to it only where the request failed.
+    /// Returns the end of a request that was sent there, or nowhere, by the last call of its sender's
+    /// stream: a byte is written only if the request failed.
     pub fn of(target: Option<Target>, last: LastCall) -> CancelEnd
         ensures { result ≡ end_of target last }
     {
@@ -40,7 +40,7 @@ impl CancelEnd {
         }
     }
 
-    /// Its name in a line.
+    /// Returns its name in the log.
     pub fn name(self) -> &'static str {
         match self {
             CancelEnd::Settled => "settled",

@@ -1,11 +1,11 @@
-//! Connections to servers and peers are made.
+//! Connects to servers and peers.
 use crate::{Deadline, Machine};
 use std::io;
 use std::io::ErrorKind;
 use std::net::{TcpStream, ToSocketAddrs};
 
-/// Connects to a host's address, by the deadline: each address of the host is tried in turn, with
-/// as much of the time as is its share. Looking up a name has no limit but the system's.
+/// Connects to a host by the deadline. Tries its addresses in turn, each with an equal share of the
+/// time that is left. Looking up the name has only the system's time limit.
 pub fn connect<M: Machine>(
     machine: &M,
     host: &str,

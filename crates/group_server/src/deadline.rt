@@ -1,20 +1,20 @@
-//! A time by which something is to be done.
+//! Deadlines.
 use std::io;
 use std::io::ErrorKind;
 use std::time::{Clock, Duration};
 
-/// A time by which something is to be done.
+/// A time by which something has to be done.
 #[derive(Clone, Copy, Debug, PartialEq, Eq)]
 pub struct Deadline(Duration);
 
 impl Deadline {
-    /// The time that is `millis` milliseconds from now.
+    /// Returns the deadline in `millis` milliseconds.
     pub fn after<R: Clock>(rt: &R, millis: u64) -> io::Result<Deadline> {
         let now = rt.monotonic()?;
         Ok(Deadline(now.saturating_add(Duration::from_millis(millis))))
     }
 
-    /// How much time is left. It fails with `TimedOut` where none is.
+    /// Returns the time that is left. Fails with `TimedOut` if there is none.
     pub fn left<R: Clock>(self, rt: &R) -> io::Result<Duration> {
         let left = self.0.saturating_sub(rt.monotonic()?);
         if left.is_zero() {

@@ -1,30 +1,30 @@
-//! How many connections the process's descriptors are enough for.
+//! The number of connections that the process's descriptors allow.
 ghost use Rattle.std.specs.Prelude.{◌≡◌, ◌+◌, ◌-◌, ◌*◌, ◌/◌, ◌≤◌, min};
 
-use crate::guests::Room;
-use crate::limits::{CANCELS_OF_A_NODE, NEWCOMERS_OF_A_NODE, SPARE_CONNECTIONS};
+use crate::connections::Capacity;
+use crate::limits::{CANCELS_PER_NODE, PENDING_PER_NODE, SPARE_CONNECTIONS};
 use ini_config::Group;
 use libc::types::rlimit;
 use pg_ids::DatabaseNo;
 
-// The limit of open descriptors, among those of a process.
+// The resource number of the limit of open descriptors.
 const RLIMIT_NOFILE: i32 = 7;
 
-// Descriptors of the process itself: the standard streams, the group's listener, what looks up a
-// name, and some more.
+// Descriptors of the process itself: the standard streams, the group's listener, those of name
+// look-ups, and some to spare.
 const OWN: usize = 16;
 
-/// What a group's connections have to leave descriptors for.
+/// What a group needs descriptors for beside connections.
 #[derive(Clone, Copy, Debug, PartialEq, Eq)]
 pub struct Needs {
-    /// How many nodes there are.
+    /// The number of nodes.
     pub nodes: usize,
-    /// How many links they may have together.
+    /// The number of links that they may have together.
     pub links: usize,
 }
 
 impl Needs {
-    /// Those of a group.
+    /// Returns the needs of a group.
     pub fn of(group: &Group) -> Needs {
         let mut links: usize = 0;
         for settings in group.nodes() {
@@ -40,9 +40,9 @@ impl Needs {
         }
     }
 
-    /// How many connections there may be in a process with this many descriptors. Links get as many
-    /// as the pools may have, but no more than half, and cancel requests no more than an eighth.
-    pub fn room(self, descriptors: usize) -> Room
+    /// Returns how many connections a process with this many descriptors may have. Links get as many
+    /// as the pools may have, but at most half of them, and cancel requests at most an eighth.
+    pub fn capacity(self, descriptors: usize) -> Capacity
         // The process, the links and the cancel requests keep theirs.
         ensures kept { result.connections + min self.links ((descriptors - (24 + self.nodes)) / 2)
             + min (256 * self.nodes) ((descriptors - (24 + self.nodes)) / 8)
@@ -53,15 +53,15 @@ impl Needs {
             .saturating_add(SPARE_CONNECTIONS);
         let left = descriptors.saturating_sub(own);
         let links = self.links.min(left / 2);
-        let cancels = self.nodes.saturating_mul(CANCELS_OF_A_NODE).min(left / 8);
-        Room {
+        let cancels = self.nodes.saturating_mul(CANCELS_PER_NODE).min(left / 8);
+        Capacity {
             connections: left.saturating_sub(links).saturating_sub(cancels),
-            newcomers: self.nodes.saturating_mul(NEWCOMERS_OF_A_NODE),
+            pending: self.nodes.saturating_mul(PENDING_PER_NODE),
         }
     }
 }
 
-/// How many descriptors the process may have.
+/// Returns the limit of the process's open descriptors.
 pub fn descriptor_limit() -> usize {
     let mut limit = rlimit {
         rlim_cur: 0,

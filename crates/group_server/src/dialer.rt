@@ -1,8 +1,8 @@
 //! Connections to a node's servers and peers.
 use crate::connecting::connect;
+use crate::inspector::Inspector;
 use crate::limits::{CANCEL_CONNECT_MILLIS, CANCEL_END_MILLIS, LOGIN_MILLIS};
 use crate::log::{Event, Field, Value, put_fields};
-use crate::looks::Looks;
 use crate::metrics::{Meter, NodeCounters};
 use crate::origin::Origin;
 use crate::{CancelEnd, Connection, Deadline, LinkStream, Log, Machine, Target};
@@ -15,7 +15,7 @@ use std::io;
 use std::io::ErrorKind;
 use std::sync::{Arc, Wait};
 
-/// What connects a node to its servers and peers, over TCP.
+/// Connects a node to its servers and peers over TCP.
 #[derive(Drop)]
 pub struct Dialer<M: Machine> {
     machine: M,
@@ -27,7 +27,7 @@ pub struct Dialer<M: Machine> {
     counters: Option<Arc<NodeCounters, Global>>,
 }
 
-/// What connects a node to its servers and peers for the client of one connection.
+/// Connects a node to its servers and peers for the client of one connection.
 #[derive(Clone, Copy)]
 pub struct ClientDialer<'a, M: Machine> {
     dialer: &'a Dialer<M>,
@@ -35,8 +35,8 @@ pub struct ClientDialer<'a, M: Machine> {
 }
 
 impl<M: Machine> Dialer<M> {
-    /// The dialer of the node at this place of the group, whose logins have these reports. Nothing
-    /// is counted of its connections.
+    /// Returns the dialer of the node at this place of the group, whose logins have these reports.
+    /// Nothing is counted.
     pub fn new(
         machine: M,
         alloc: Global,
@@ -56,12 +56,12 @@ impl<M: Machine> Dialer<M> {
         }
     }
 
-    /// Counts here what passes over the node's connections.
+    /// Counts what passes over the node's connections in these counters.
     pub fn count_at(&mut self, counters: Arc<NodeCounters, Global>) {
         self.counters = Some(counters);
     }
 
-    /// What is counted of a connection to the node.
+    /// Returns the meter of a new connection to the node.
     pub fn meter(&self) -> Meter {
         match &self.counters {
             Some(counters) => Meter::of(Arc::try_clone(counters).ok()),
@@ -69,7 +69,7 @@ impl<M: Machine> Dialer<M> {
         }
     }
 
-    /// What connects the node for the client of this connection.
+    /// Returns the dialer for the client of this connection.
     pub fn on_behalf<'a>(&'a self, connection: &'a Connection) -> ClientDialer<'a, M> {
         ClientDialer {
             dialer: self,
@@ -77,17 +77,17 @@ impl<M: Machine> Dialer<M> {
         }
     }
 
-    /// The machine.
+    /// Returns the machine.
     pub fn machine(&self) -> &M {
         &self.machine
     }
 
-    /// The parameters that clients get beside those of every login.
+    /// Returns the parameters that are reported to clients beside those of every login.
     pub fn reports(&self) -> &Reports {
         &self.reports
     }
 
-    /// The number of its node.
+    /// Returns the number of its node.
     pub fn number(&self) -> u16 {
         match self.group.get(self.place) {
             Some(settings) => settings.peer_id().get(),
@@ -101,7 +101,7 @@ impl<M: Machine> Dialer<M> {
             .ok_or(io::Error::from(ErrorKind::NotFound))
     }
 
-    // Connects to the server of a database for a link. The deadline is for the login, too.
+    // Connects to the server of a database for a link. The time limit includes the login.
     fn open_link(&self, settings: &Settings, database: DatabaseNo) -> io::Result<LinkStream<M>> {
         let Some(entry) = settings.database(database) else {
             return Err(io::Error::from(ErrorKind::NotFound));
@@ -116,18 +116,18 @@ impl<M: Machine> Dialer<M> {
             }
         };
         let origin = self.origin(settings, &fields)?;
-        let looks = Looks::of_link(self.alloc, origin, &self.reports)?;
+        let inspector = Inspector::of_link(self.alloc, origin, &self.reports)?;
         LinkStream::new(
             self.machine,
             self.alloc,
             socket,
             deadline,
-            looks,
+            inspector,
             Some(database),
         )
     }
 
-    // Connects to this address, which these fields name, for a cancel request.
+    // Connects to this address for a cancel request. The fields name it in the log.
     fn open_cancel(
         &self,
         settings: &Settings,
@@ -144,12 +144,12 @@ impl<M: Machine> Dialer<M> {
             }
         };
         let end = Deadline::after(&self.machine, CANCEL_END_MILLIS)?;
-        let looks = Looks::of_cancel(self.origin(settings, fields)?);
-        LinkStream::new(self.machine, self.alloc, socket, end, looks, None)
+        let inspector = Inspector::of_cancel(self.origin(settings, fields)?);
+        LinkStream::new(self.machine, self.alloc, socket, end, inspector, None)
     }
 
-    /// Writes to the log how a cancel request has ended that was sent there, or nowhere, and after
-    /// how many milliseconds.
+    /// Logs how a cancel request has ended that was sent there, or nowhere, and after how many
+    /// milliseconds.
     pub fn tell_cancel_end(&self, target: Option<Target>, end: CancelEnd, millis: u64) {
         if !self.log.has(Event::CancelEnded) {
             return;
@@ -166,7 +166,7 @@ impl<M: Machine> Dialer<M> {
         }
     }
 
-    // The fields that name where a cancel request was sent, as they stand in a line.
+    // Returns the fields that name where a cancel request was sent, as text.
     fn names_of(&self, target: Option<Target>) -> io::Result<String> {
         match &target {
             Some(Target::Server(database)) => self.server_names(*database),
@@ -175,7 +175,7 @@ impl<M: Machine> Dialer<M> {
         }
     }
 
-    // The fields that name the server of a database.
+    // Returns the fields that name the server of a database, as text.
     fn server_names(&self, database: DatabaseNo) -> io::Result<String> {
         let mut names = String::new(self.alloc);
         if let Some(entry) = self.settings()?.database(database) {
@@ -184,7 +184,7 @@ impl<M: Machine> Dialer<M> {
         Ok(names)
     }
 
-    // The field that names a peer.
+    // Returns the field that names a peer, as text.
     fn peer_names(&self, peer: PeerNo) -> io::Result<String> {
         let mut names = String::new(self.alloc);
         let number = Value::Number(u64::from(peer.get()));
@@ -192,14 +192,14 @@ impl<M: Machine> Dialer<M> {
         Ok(names)
     }
 
-    // A connection of the node with these settings that these fields name.
+    // Returns the origin of a connection of the node with these settings.
     fn origin(&self, settings: &Settings, fields: &[Field<'_>]) -> Result<Origin, AllocError> {
         let node = settings.peer_id().get();
         Origin::new(self.alloc, &self.log, node, fields)
     }
 
-    // Writes to the log that a message on this database, or a client's messages of an extended query
-    // together, have more bytes than the limit.
+    // Logs that a message on this database, or a client's messages of an extended query together,
+    // have more bytes than the limit.
     fn write_too_long(&self, database: DatabaseNo, from: Sender, bytes: usize, limit: u32) {
         let Ok(settings) = self.settings() else {
             return;
@@ -218,7 +218,7 @@ impl<M: Machine> Dialer<M> {
             .write(&self.machine, Some(node), Event::MessageTooLong, &fields);
     }
 
-    // Writes to the log why what these fields name can't be connected to.
+    // Logs the error of connecting to what these fields name.
     fn write_error(
         &self,
         settings: &Settings,
@@ -232,7 +232,7 @@ impl<M: Machine> Dialer<M> {
     }
 }
 
-// The name of who sent a message.
+// Returns the name of a message's sender in the log.
 fn name_of(sender: Sender) -> &'static str {
     match sender {
         Sender::Client => "client",
@@ -240,13 +240,13 @@ fn name_of(sender: Sender) -> &'static str {
     }
 }
 
-// The fields that name the server of a database.
+// Returns the fields that name the server of a database.
 fn server_fields<'a>(entry: &Database<'a>) -> [Field<'a>; 2] {
     let server = Value::Address(entry.host, entry.port);
     [("database", Value::Text(entry.name)), ("server", server)]
 }
 
-// The fields that name a peer.
+// Returns the fields that name a peer.
 fn peer_fields<'a>(entry: &Peer<'a>) -> [Field<'a>; 2] {
     let number = Value::Number(u64::from(entry.number.get()));
     [
@@ -324,7 +324,7 @@ impl<'a, M: Machine> Opener for ClientDialer<'a, M> {
         self.connection.meter().begin_wait(&self.dialer.machine);
     }
 
-    // It is asked whenever the client has waited for a link.
+    // This is called whenever the client has waited for a link.
     fn is_gone(&self) -> bool {
         self.connection.meter().wait();
         self.connection.is_gone()

@@ -1,6 +1,6 @@
-//! A group drains: it accepts no connection any more, and its sessions end between transactions.
+//! Draining: the group stops accepting connections, and its sessions end between transactions.
 use crate::accepting::Acceptor;
-use crate::doorway::Doorway;
+use crate::connection_limit::ConnectionLimit;
 use crate::limits::{DRAIN_MILLIS, DRAIN_PACKETS_MILLIS, DRAIN_PAUSE_MILLIS};
 use crate::log::{Event, Value};
 use crate::{Deadline, Host, Log, ServeError};
@@ -10,7 +10,7 @@ use std::sync::Arc;
 use std::thread;
 use std::time::Duration;
 
-/// Waits until this input ends, or can't be read.
+/// Waits until this input ends or can't be read.
 pub fn wait_for_end<H: Host, I: Read>(host: &H, input: &mut I) {
     let mut buffer = [0; 512];
     for _ in host.forever() {
@@ -23,55 +23,60 @@ pub fn wait_for_end<H: Host, I: Read>(host: &H, input: &mut I) {
     }
 }
 
-/// Drains a group with these listeners. It returns when all connections are closed, or after a
-/// limit.
+/// Drains a group with these acceptors. Returns when all connections are closed, or after
+/// `DRAIN_MILLIS`.
 pub fn drain<H: Host>(
     host: &H,
-    doorway: &Doorway,
+    limit: &ConnectionLimit,
     log: &Log,
     acceptors: &[Arc<Acceptor<H>, Global>],
 ) {
-    let present = Value::Number(doorway.present(host) as u64);
-    log.write(host, None, Event::Stopping, &[("connections", present)]);
-    // First the listeners: a client whose session ends doesn't come back to this process.
+    let count = Value::Number(limit.open_count(host) as u64);
+    log.write(host, None, Event::Stopping, &[("connections", count)]);
+    // The listeners are closed first, so that a client whose session ends can't reconnect here.
     for acceptor in acceptors {
         acceptor.close();
     }
-    if let Some(signal) = doorway.drain_signal() {
+    if let Some(signal) = limit.drain_signal() {
         signal.send();
     }
     let Ok(deadline) = Deadline::after(host, DRAIN_MILLIS) else {
         return;
     };
-    doorway.wait_until_left(host, Duration::from_millis(DRAIN_PACKETS_MILLIS));
-    doorway.close_newcomers(host);
-    wait_until_none_comes(host, doorway, deadline);
+    limit.wait_until_closed(host, Duration::from_millis(DRAIN_PACKETS_MILLIS));
+    limit.evict_pending(host);
+    wait_until_all_closed(host, limit, deadline);
 }
 
-// Waits until all connections are closed and none comes that was accepted before, or the deadline
-// is over.
-fn wait_until_none_comes<H: Host>(host: &H, doorway: &Doorway, deadline: Deadline) {
+// Waits until all connections are closed, also those that were accepted but not admitted yet, or
+// until the deadline has passed.
+fn wait_until_all_closed<H: Host>(host: &H, limit: &ConnectionLimit, deadline: Deadline) {
     for _ in host.forever() {
         let Ok(left) = deadline.left(host) else {
             return;
         };
-        doorway.wait_until_left(host, left);
+        limit.wait_until_closed(host, left);
         thread::sleep(host, Duration::from_millis(DRAIN_PAUSE_MILLIS));
-        if doorway.present(host) == 0 {
+        if limit.open_count(host) == 0 {
             return;
         }
     }
 }
 
-/// Writes to the log that a group serves no longer, how many connections aren't closed, and why, if
-/// it couldn't go on. Waits a little until the log is written.
-pub fn write_end<H: Host>(host: &H, doorway: &Doorway, log: &Log, ended: &Result<(), ServeError>) {
-    let present = ("connections", Value::Number(doorway.present(host) as u64));
+/// Logs that a group has stopped, with the number of connections that are still open, and the error,
+/// if any. Waits a little until the log is written.
+pub fn write_end<H: Host>(
+    host: &H,
+    limit: &ConnectionLimit,
+    log: &Log,
+    ended: &Result<(), ServeError>,
+) {
+    let count = ("connections", Value::Number(limit.open_count(host) as u64));
     match ended {
-        Ok(()) => log.write(host, None, Event::Stopped, &[present]),
+        Ok(()) => log.write(host, None, Event::Stopped, &[count]),
         Err(error) => {
             let error = ("error", Value::Text(error.text()));
-            log.write(host, None, Event::Stopped, &[present, error]);
+            log.write(host, None, Event::Stopped, &[count, error]);
         }
     }
     log.finish(host);

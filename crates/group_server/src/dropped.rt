@@ -1,13 +1,13 @@
 //! The parameters of a start-up packet that have no effect.
 use std::alloc::AllocError;
 
-// Those that have one, or the value that clients get in any case.
+// The parameters that have an effect, or that clients get with the value in any case.
 const USED: [&[u8]; 3] = [b"user", b"database", b"client_encoding"];
 
 /// Appends the names of the parameters that have no effect, with commas between them. The body of a
 /// start-up packet is what follows its code: names and values, each ended by a zero byte, and
-/// another zero byte (PostgreSQL manual, "Message Formats"). A body of another form is read as far
-/// as it has this one.
+/// another zero byte (PostgreSQL manual, "Message Formats"). A malformed body is read up to its
+/// first fault.
 pub fn put_dropped(body: &[u8], names: &mut Vec<u8>) -> Result<(), AllocError> {
     let mut rest = body;
     for _ in 0..body.len() {
@@ -22,7 +22,7 @@ pub fn put_dropped(body: &[u8], names: &mut Vec<u8>) -> Result<(), AllocError> {
     Ok(())
 }
 
-// The name of the parameter that these bytes begin with, and what follows its value.
+// Splits off a parameter. Returns its name, and the bytes after its value.
 fn split_parameter(bytes: &[u8]) -> Option<(&[u8], &[u8])> {
     let (name, rest) = split_text(bytes)?;
     if name.is_empty() {
@@ -32,7 +32,7 @@ fn split_parameter(bytes: &[u8]) -> Option<(&[u8], &[u8])> {
     Some((name, rest))
 }
 
-// Appends a name, behind a comma if it isn't the first.
+// Appends a name, after a comma if it isn't the first.
 fn put_name(name: &[u8], names: &mut Vec<u8>) -> Result<(), AllocError> {
     if !names.is_empty() {
         names.push(b',')?;
@@ -40,7 +40,7 @@ fn put_name(name: &[u8], names: &mut Vec<u8>) -> Result<(), AllocError> {
     names.extend_from_slice(name)
 }
 
-// The text that these bytes begin with, without the zero byte that ends it, and what follows.
+// Splits off a text that a zero byte ends. Returns the text and the bytes after the zero byte.
 fn split_text(bytes: &[u8]) -> Option<(&[u8], &[u8])> {
     let end = bytes.iter().position(|byte| *byte == 0)?;
     let (text, rest) = bytes.split_at_checked(end)?;

@@ -1,4 +1,4 @@
-//! A connection is ended.
+//! Closes a client's connection.
 use crate::client_stream::LastCall;
 use crate::limits::{ENDING_MILLIS, ENDING_PAUSE_MILLIS, SENDING_PAUSE_MILLIS};
 use crate::poll::wait_readable;
@@ -8,30 +8,34 @@ use std::io::{ErrorKind, Read, Write};
 use std::net::Shutdown;
 use std::time::Duration;
 
-/// Ends a connection, once nothing is held for its client any more. What the client still sends is
-/// read for a while where it has something to read itself: if a connection is closed before all is
-/// read that came, the other side may lose what was written to it.
+/// Closes a connection, once nothing is held for its client any more. If something was written to
+/// the client, its input is first read for a while: a socket that is closed with unread input resets
+/// the connection, and the client may lose what was written.
 #[inline(never)]
 pub fn end<M: Machine>(machine: &M, connection: &Connection, client: &mut ClientStream<'_, M>) {
-    if let Some(words) = client.take_words() {
-        let _ = client.write_all(words.as_slice());
+    if let Some(error) = client.take_final_error() {
+        let _ = client.write_all(error.as_slice());
     }
     match client.last_call() {
-        // The last byte of a cancel request stays unread where it got no order, or where its sender
-        // didn't take the byte: so the connection is reset.
+        // The last byte of a cancel request stays unread if it got no order, or if the byte for its
+        // sender couldn't be written: so the connection is reset.
         LastCall::Failed => {}
         LastCall::Read if connection.is_given_up() => {}
         LastCall::Read => settle(connection, client),
         LastCall::Wrote => {
             settle(connection, client);
-            let _ = part(machine, connection, client.is_sending());
+            let _ = finish_reading(machine, connection, client.is_sending());
         }
     }
 }
 
-// Lets a client read to the end what was written to it. One that finds the end of its input while
-// it sends may not look at what came before.
-fn part<M: Machine>(machine: &M, connection: &Connection, is_sending: bool) -> io::Result<()> {
+// Gives a client time to read what was written to it. A client that is sending may not read it if
+// the write side is shut down at once.
+fn finish_reading<M: Machine>(
+    machine: &M,
+    connection: &Connection,
+    is_sending: bool,
+) -> io::Result<()> {
     let deadline = Deadline::after(machine, ENDING_MILLIS)?;
     if is_sending {
         drain(machine, connection, deadline, SENDING_PAUSE_MILLIS)?;
@@ -48,8 +52,8 @@ fn settle<M: Machine>(connection: &Connection, client: &ClientStream<'_, M>) {
     }
 }
 
-// Reads what a client sends, until it is silent for some milliseconds. It fails if the client
-// has ended the connection, or if the time is over.
+// Reads what a client sends, until nothing was received for `pause` milliseconds. Fails if the
+// client has closed the connection, or if the deadline has passed.
 fn drain<M: Machine>(
     machine: &M,
     connection: &Connection,

@@ -1,11 +1,11 @@
-//! Errors in few bytes. An `io::Error` has 88, which each function that passes one on would move, and
-//! clear beforehand, also where nothing failed.
+//! Small errors. An `io::Error` has 88 bytes, which each function that passes one on would move, and
+//! clear beforehand even if nothing failed.
 ghost use Rattle.std.specs.Prelude.{◌≡◌, Ok, IfOk};
 
 use std::io;
 use std::io::ErrorKind;
 
-/// A result with the kind of its error.
+/// Replaces an error by its kind.
 pub fn with_kind(done: io::Result<usize>) -> Result<usize, ErrorKind>
     ensures { IfOk result (λ count. done ≡ Ok count) }
 {
@@ -15,7 +15,7 @@ pub fn with_kind(done: io::Result<usize>) -> Result<usize, ErrorKind>
     }
 }
 
-/// A result with an error of its kind.
+/// Replaces a kind by an error of this kind.
 #[inline(always)]
 pub fn with_error(done: Result<usize, ErrorKind>) -> io::Result<usize>
     ensures { IfOk result (λ count. done ≡ Ok count) }
@@ -26,17 +26,17 @@ pub fn with_error(done: Result<usize, ErrorKind>) -> io::Result<usize>
     }
 }
 
-/// Why a call of a socket failed: the system's number of the error, or its kind where it has none.
+/// The error of a socket: the system's error number, or the kind of an error without one.
 #[derive(Clone, Copy)]
 pub enum Cause {
-    /// The system's number.
+    /// The system's error number.
     System(i32),
     /// The kind.
     Kind(ErrorKind),
 }
 
 impl Cause {
-    /// Why it failed with this error.
+    /// Returns the cause of this error.
     pub fn of(error: &io::Error) -> Cause {
         match error.raw_os_error() {
             Some(code) => Cause::System(code),
@@ -44,7 +44,7 @@ impl Cause {
         }
     }
 
-    /// The error.
+    /// Returns the error.
     pub fn error(self) -> io::Error {
         match self {
             Cause::System(code) => io::Error::from_raw_os_error(code),

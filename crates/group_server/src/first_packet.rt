@@ -1,20 +1,20 @@
-//! How far the first packets of a connection are read, so that the last byte of a cancel request
-//! stays unread.
+//! Tracks how much of a connection's first packets was read, so that the last byte of a cancel
+//! request stays unread.
 
-/// A connection's first packets, as far as they were read.
+/// What was read of a connection's first packets.
 #[derive(Clone, Copy, Debug, PartialEq, Eq)]
 pub struct FirstPacket {
     // The bytes of the packet's length and code, and how many of them were read.
     head: [u8; HEAD],
     read: usize,
-    // How many bytes of the packet come behind its head, once that was read.
+    // What is still to be read after the head.
     body: Body,
 }
 
-// What comes behind a packet's head.
+// What is still to be read after a packet's head.
 #[derive(Clone, Copy, Debug, PartialEq, Eq)]
 enum Body {
-    // The head wasn't read whole.
+    // The head wasn't completely read.
     Unknown,
     // The rest of a cancel request, of this many bytes.
     Cancel(usize),
@@ -22,7 +22,7 @@ enum Body {
     Session(usize),
 }
 
-/// What is to be read next of a connection.
+/// What to read next of a connection.
 #[derive(Clone, Copy, Debug, PartialEq, Eq)]
 pub enum Next {
     /// At most this many bytes.
@@ -33,18 +33,18 @@ pub enum Next {
     Done,
 }
 
-/// What a connection's first packets ask for, as far as it is known.
+/// What a connection's first packets ask for.
 #[derive(Clone, Copy, Debug, PartialEq, Eq)]
 pub enum Asks {
-    /// It isn't known.
+    /// Not known yet.
     Unknown,
-    /// To cancel a request.
+    /// A cancel request.
     Cancel,
-    /// For a session, or for something that is refused.
+    /// A session, or something that is refused.
     Session,
 }
 
-// How many bytes a packet's length and code take (PostgreSQL manual, "Message Formats").
+// The size of a packet's length and code (PostgreSQL manual, "Message Formats").
 const HEAD: usize = 8;
 
 const CANCEL_CODE: u32 = 80_877_102;
@@ -53,11 +53,11 @@ const SSL_CODE: u32 = 80_877_103;
 
 const GSS_CODE: u32 = 80_877_104;
 
-// How long a start-up packet may be. A longer one is refused when its head was read.
+// The maximum length of a start-up packet. A longer one is refused when its head was read.
 const LONGEST: usize = 10_000;
 
 impl FirstPacket {
-    /// Nothing was read.
+    /// Returns the state before anything was read.
     pub const fn new() -> FirstPacket {
         FirstPacket {
             head: [0; HEAD],
@@ -66,7 +66,7 @@ impl FirstPacket {
         }
     }
 
-    /// What is to be read next.
+    /// Returns what to read next.
     pub fn next(&self) -> Next {
         match self.body {
             Body::Unknown => Next::Read(HEAD.saturating_sub(self.read)),
@@ -77,7 +77,7 @@ impl FirstPacket {
         }
     }
 
-    /// What the packets ask for.
+    /// Returns what the packets ask for.
     pub fn asks(&self) -> Asks {
         match self.body {
             Body::Unknown => Asks::Unknown,
@@ -86,7 +86,7 @@ impl FirstPacket {
         }
     }
 
-    /// These bytes were read, no more than `next` said.
+    /// Takes bytes that were read, at most as many as `next` said.
     pub fn take(&mut self, bytes: &[u8]) {
         match self.body {
             Body::Unknown => self.take_head(bytes),
@@ -95,7 +95,7 @@ impl FirstPacket {
         }
     }
 
-    // These bytes of the head were read.
+    // Takes bytes of the head.
     fn take_head(&mut self, bytes: &[u8]) {
         for byte in bytes {
             if self.read < HEAD {
@@ -108,8 +108,8 @@ impl FirstPacket {
         }
     }
 
-    // The head was read whole. A request for encryption is no more than its head, and another
-    // packet follows it.
+    // Examines the complete head. A request for encryption has no body, and another packet follows
+    // it.
     fn take_code(&mut self) {
         let [a, b, c, d, e, f, g, h] = self.head;
         let length = u32::from_be_bytes([a, b, c, d]) as usize;

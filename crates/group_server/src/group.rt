@@ -3,10 +3,10 @@ ghost use Rattle.std.specs.Prelude.{◌<◌, length};
 ghost use Rattle.std.specs.Arc.{arc_value};
 
 use crate::accepting::{Acceptor, keep_accepting};
+use crate::connection_limit::ConnectionLimit;
+use crate::connections::Capacity;
 use crate::descriptors::{Needs, descriptor_limit};
-use crate::doorway::Doorway;
 use crate::draining::{drain, wait_for_end, write_end};
-use crate::guests::Room;
 use crate::limits::METRICS_READERS;
 use crate::metrics::{Counters, Exporter, Sources, keep_exporting};
 use crate::options::{ServeOptions, copy_of, write_start};
@@ -20,34 +20,34 @@ use std::net::TcpListener;
 use std::sync::Arc;
 use std::{io, thread};
 
-/// An address that can't be listened at.
+/// An address that can't be bound.
 #[derive(Debug, Drop)]
 pub struct Unbound {
     /// The address.
     pub address: String,
     /// Its port.
     pub port: u16,
-    /// Why.
+    /// The error.
     pub error: io::Error,
 }
 
-/// Why a group can't serve.
+/// An error of `serve_group`.
 #[derive(Debug, Drop)]
 pub enum ServeError {
-    /// This address can't be listened at.
+    /// This address can't be bound.
     Address(Unbound),
-    /// Memory was refused.
+    /// Out of memory.
     Memory,
     /// A thread can't be started.
     Thread,
-    /// The sockets can't be made that tell sessions to end.
+    /// The sockets of the drain signal can't be made.
     Sockets,
-    /// It can't be said that the group listens.
+    /// Standard output can't be written to.
     Output,
 }
 
 impl ServeError {
-    /// What is said of it, but of an address more.
+    /// Returns its message, without the address.
     pub fn text(&self) -> &'static str {
         match self {
             ServeError::Address(_) => "cannot listen",
@@ -75,7 +75,7 @@ impl From<AllocError> for ServeError {
 pub struct Listening<H: Host> {
     front: TcpListener,
     nodes: Vec<ListeningNode<H>>,
-    doorway: Arc<Doorway, Global>,
+    limit: Arc<ConnectionLimit, Global>,
     log: Arc<Log, Global>,
     metrics: Option<Arc<Exporter<H>, Global>>,
 }
@@ -96,8 +96,8 @@ struct ListeningNode<H: Host> {
 }
 
 impl<H: Host> Listening<H> {
-    /// Binds the port of 127.0.0.1 that all nodes share, the address of each node, and the port at
-    /// which metrics are read. The nodes have no clients and no links.
+    /// Binds the port of 127.0.0.1 that all nodes share, the address of each node, and the metrics
+    /// port. The nodes have no clients and no links.
     pub fn bind(
         host: &H,
         alloc: Global,
@@ -113,21 +113,21 @@ impl<H: Host> Listening<H> {
             Some(_) => METRICS_READERS + 1,
             None => 0,
         };
-        let room = Needs::of(&group).room(descriptor_limit().saturating_sub(own));
-        let doorway = doorway_of(host, alloc, room, options)?;
-        Ok(Listening::new(host, alloc, group, options, listeners, doorway)?)
+        let capacity = Needs::of(&group).capacity(descriptor_limit().saturating_sub(own));
+        let limit = connection_limit_of(host, alloc, capacity, options)?;
+        Ok(Listening::new(host, alloc, group, options, listeners, limit)?)
     }
 
-    // The group with these listeners.
+    // Makes a group with these listeners.
     fn new(
         host: &H,
         alloc: Global,
         group: Group,
         options: &ServeOptions<'_>,
         listeners: Listeners,
-        doorway: Doorway,
+        limit: ConnectionLimit,
     ) -> Result<Listening<H>, AllocError> {
-        let doorway = Arc::new(alloc, doorway)?;
+        let limit = Arc::new(alloc, limit)?;
         let log = Arc::new(alloc, Log::new(alloc, options.log))?;
         write_start(host, alloc, &log, &group, options)?;
         let counters = counters_of(alloc, &group, &listeners.metrics)?;
@@ -166,25 +166,25 @@ impl<H: Host> Listening<H> {
         Ok(Listening {
             front: listeners.front,
             nodes,
-            doorway,
+            limit,
             log,
             metrics,
         })
     }
 
-    /// Accepts connections and serves them, for as long as the process runs. If the group was made
-    /// to drain, it does so when `input` ends, and then this returns. Fails if a node can't accept
-    /// connections because no thread can be started or memory ran out.
+    /// Accepts connections and serves them, for as long as the process runs. A group that can drain
+    /// does so when `input` ends, and then this returns. Fails if no thread can be started, or if
+    /// memory runs out.
     pub fn serve<I: Read>(self, host: &H, alloc: Global, input: &mut I) -> Result<(), ServeError> {
-        let doorway = Arc::try_clone(&self.doorway)?;
+        let limit = Arc::try_clone(&self.limit)?;
         let log = Arc::try_clone(&self.log)?;
-        write_log_apart(host, &log)?;
+        spawn_log_writer(host, &log)?;
         let ended = self.serve_clients(host, alloc, input);
-        write_end(host, &doorway, &log, &ended);
+        write_end(host, &limit, &log, &ended);
         ended
     }
 
-    // The same, once the log is written.
+    // The same, once the log's thread runs.
     fn serve_clients<I: Read>(
         self,
         host: &H,
@@ -194,63 +194,63 @@ impl<H: Host> Listening<H> {
         let Listening {
             front,
             nodes,
-            doorway,
+            limit,
             log,
             metrics,
         } = self;
         if let Some(exporter) = metrics {
-            export_apart(host, alloc, &exporter)?;
+            spawn_exporters(host, alloc, &exporter)?;
         }
         let Accepting {
             serving,
             mut acceptors,
-        } = accept_at_each(host, alloc, nodes, &doorway, &log)?;
+        } = accept_at_each(host, alloc, nodes, &limit, &log)?;
         let all = Acceptor::new(
             front,
             serving,
-            Arc::try_clone(&doorway)?,
+            Arc::try_clone(&limit)?,
             Arc::try_clone(&log)?,
         );
         let all = Arc::new(alloc, all).map_err(AllocError::from)?;
-        if doorway.drain_signal().is_none() {
+        if limit.drain_signal().is_none() {
             keep_accepting(host, alloc, &all);
             return Ok(());
         }
-        accept_apart(host, alloc, &all)?;
+        spawn_accepting(host, alloc, &all)?;
         let Ok(()) = acceptors.push(all) else {
             return Err(ServeError::Memory);
         };
         wait_for_end(host, input);
-        drain(host, &doorway, &log, acceptors.as_slice());
+        drain(host, &limit, &log, acceptors.as_slice());
         Ok(())
     }
 }
 
-// The nodes of a group, and the listeners at which connections of one of them are accepted.
+// The nodes of a group, and the acceptors of their own addresses.
 struct Accepting<H: Host> {
     serving: Vec<Arc<Serving<H>, Global>>,
     acceptors: Vec<Arc<Acceptor<H>, Global>>,
 }
 
-// The door of a group, which drains if these options say so.
-fn doorway_of<H: Host>(
+// Makes the connection limit of a group, which can drain if these options say so.
+fn connection_limit_of<H: Host>(
     host: &H,
     alloc: Global,
-    room: Room,
+    capacity: Capacity,
     options: &ServeOptions<'_>,
-) -> Result<Doorway, ServeError> {
+) -> Result<ConnectionLimit, ServeError> {
     if !options.until_eof {
-        return Ok(Doorway::new(alloc, room));
+        return Ok(ConnectionLimit::new(alloc, capacity));
     }
     match DrainSignal::new(host) {
-        Ok(signal) => Ok(Doorway::new_with(alloc, room, Some(signal))),
+        Ok(signal) => Ok(ConnectionLimit::with_drain(alloc, capacity, Some(signal))),
         Err(_) => Err(ServeError::Sockets),
     }
 }
 
-/// Binds the addresses of a group, says `listening PORT` on `out`, and serves clients, if it is to
-/// drain until `input` ends. Fails if an address can't be listened at, memory or a thread is
-/// refused, or `out` can't be written to.
+/// Binds the addresses of a group, writes `listening PORT` to `out`, and serves clients; if the
+/// options say so, until `input` ends. Fails if an address can't be bound, if memory runs out, if a
+/// thread can't be started, or if `out` can't be written to.
 pub fn serve_group<H: Host, I: Read, W: Write>(
     host: &H,
     alloc: Global,
@@ -265,7 +265,7 @@ pub fn serve_group<H: Host, I: Read, W: Write>(
     }
 }
 
-// Says that a group listens, and serves its clients.
+// Writes that a group listens, and serves its clients.
 fn say_and_serve<H: Host, I: Read, W: Write>(
     host: &H,
     alloc: Global,
@@ -278,7 +278,7 @@ fn say_and_serve<H: Host, I: Read, W: Write>(
     listening.serve(host, alloc, input)
 }
 
-/// Says `listening PORT`. Fails if `out` can't be written to.
+/// Writes `listening PORT`. Fails if `out` can't be written to.
 pub fn say_listening<W: Write>(out: &mut W, port: u16) -> Result<(), ServeError> {
     match writeln!(out, "listening {port}") {
         Ok(()) => Ok(()),
@@ -286,8 +286,8 @@ pub fn say_listening<W: Write>(out: &mut W, port: u16) -> Result<(), ServeError>
     }
 }
 
-// Writes the lines of the log in a thread apart.
-fn write_log_apart<H: Host>(host: &H, log: &Arc<Log, Global>) -> Result<(), ServeError> {
+// Starts a thread that writes the log.
+fn spawn_log_writer<H: Host>(host: &H, log: &Arc<Log, Global>) -> Result<(), ServeError> {
     let own = *host;
     let theirs = Arc::try_clone(log)?;
     match thread::Builder::new().spawn(host, move || theirs.write_all(&own)) {
@@ -296,8 +296,8 @@ fn write_log_apart<H: Host>(host: &H, log: &Arc<Log, Global>) -> Result<(), Serv
     }
 }
 
-// Hands out metrics in threads apart.
-fn export_apart<H: Host>(
+// Starts threads that serve metrics.
+fn spawn_exporters<H: Host>(
     host: &H,
     alloc: Global,
     exporter: &Arc<Exporter<H>, Global>,
@@ -316,7 +316,7 @@ fn export_apart<H: Host>(
     Ok(())
 }
 
-// What is counted of a group, if there is a listener at which it is read.
+// Makes the counters of a group, if there is a metrics port.
 fn counters_of(
     alloc: Global,
     group: &Group,
@@ -328,7 +328,7 @@ fn counters_of(
     }
 }
 
-// Counts what passes over the connections of the node at this place, if anything is counted.
+// Gives a dialer the counters of the node at this place, if there are any.
 fn count_at<H: Host>(
     dialer: &mut Dialer<H>,
     counters: &Option<Arc<Counters, Global>>,
@@ -342,7 +342,7 @@ fn count_at<H: Host>(
     Ok(())
 }
 
-// What hands out the metrics of these nodes at a listener.
+// Makes the exporter of these nodes' metrics.
 fn exporter_of<H: Host>(
     alloc: Global,
     listener: TcpListener,
@@ -358,7 +358,7 @@ fn exporter_of<H: Host>(
     Ok(Arc::new(alloc, Exporter::new(listener, version, all, sources))?)
 }
 
-// The node at a place of the group, without clients and links.
+// Makes the node at this place of the group, without clients and links.
 fn serving_at<H: Host>(
     alloc: Global,
     group: &Arc<Group, Global>,
@@ -377,20 +377,20 @@ fn serving_at<H: Host>(
     )?)
 }
 
-// Accepts the connections of each node in a thread apart.
+// Makes an acceptor for each node's own address, and starts its thread.
 fn accept_at_each<H: Host>(
     host: &H,
     alloc: Global,
     nodes: Vec<ListeningNode<H>>,
-    doorway: &Arc<Doorway, Global>,
+    limit: &Arc<ConnectionLimit, Global>,
     log: &Arc<Log, Global>,
 ) -> Result<Accepting<H>, ServeError> {
     let mut serving = Vec::with_capacity(alloc, nodes.len())?;
     let mut acceptors = Vec::with_capacity(alloc, nodes.len().saturating_add(1))?;
     for node in nodes {
         let kept = Arc::try_clone(&node.serving)?;
-        let acceptor = acceptor_of(alloc, node, doorway, log)?;
-        accept_apart(host, alloc, &acceptor)?;
+        let acceptor = acceptor_of(alloc, node, limit, log)?;
+        spawn_accepting(host, alloc, &acceptor)?;
         let Ok(()) = serving.push(kept) else {
             return Err(ServeError::Memory);
         };
@@ -401,8 +401,8 @@ fn accept_at_each<H: Host>(
     Ok(Accepting { serving, acceptors })
 }
 
-// Accepts connections in a thread apart.
-fn accept_apart<H: Host>(
+// Starts a thread that keeps accepting connections.
+fn spawn_accepting<H: Host>(
     host: &H,
     alloc: Global,
     acceptor: &Arc<Acceptor<H>, Global>,
@@ -415,23 +415,23 @@ fn accept_apart<H: Host>(
     }
 }
 
-// A listener of one node.
+// Makes the acceptor of one node's own address.
 fn acceptor_of<H: Host>(
     alloc: Global,
     node: ListeningNode<H>,
-    doorway: &Arc<Doorway, Global>,
+    limit: &Arc<ConnectionLimit, Global>,
     log: &Arc<Log, Global>,
 ) -> Result<Arc<Acceptor<H>, Global>, AllocError> {
     let ListeningNode { listener, serving } = node;
     let mut nodes = Vec::with_capacity(alloc, 1)?;
     nodes.push(serving)?;
-    let doorway = Arc::try_clone(doorway)?;
+    let limit = Arc::try_clone(limit)?;
     let log = Arc::try_clone(log)?;
-    let acceptor = Acceptor::new(listener, nodes, doorway, log);
+    let acceptor = Acceptor::new(listener, nodes, limit, log);
     Ok(Arc::new(alloc, acceptor)?)
 }
 
-// Binds the address of each node, in their order.
+// Binds the address of each node, in order.
 fn listen_at_each<H: Host>(
     host: &H,
     alloc: Global,
@@ -447,7 +447,7 @@ fn listen_at_each<H: Host>(
     Ok(listeners)
 }
 
-// Binds the port at which metrics are read, if there is one.
+// Binds the metrics port, if there is one.
 fn listen_for_metrics<H: Host>(
     host: &H,
     alloc: Global,
@@ -459,7 +459,7 @@ fn listen_for_metrics<H: Host>(
     }
 }
 
-/// Listens at this address.
+/// Binds this address.
 pub fn listen<H: Host>(
     host: &H,
     alloc: Global,

@@ -1,12 +1,12 @@
-//! What a server answers to the login of a link, as far as it says why it is refused.
+//! A server's answer to the login of a link, if it is refused.
 
-/// What a server answers to a login.
+/// A server's answer to a login.
 #[derive(Drop)]
 pub struct LoginAnswer {
-    // The type and the length of the message under way, and how many of their bytes were read.
+    // The type and length of the current message, and how many of their bytes were read.
     head: [u8; HEAD],
     read: usize,
-    // How many bytes of the message's body are still to come.
+    // How many bytes of the message's body weren't read yet.
     left: usize,
     // The first bytes of the body, and how many there are.
     body: [u8; MOST],
@@ -17,20 +17,20 @@ pub struct LoginAnswer {
 /// Why a server refuses a login.
 #[derive(Clone, Copy, Debug, PartialEq, Eq)]
 pub enum Refusal {
-    /// It asks for a password or the like, by an authentication request of this code.
+    /// It sent an authentication request with this code, for example for a password.
     Asks(u32),
-    /// It answered by an ErrorResponse.
+    /// It sent an ErrorResponse.
     Error,
 }
 
-/// How many bytes a message's type and its length have (PostgreSQL manual, "Message Formats").
+/// The length of a message's type byte and length field (PostgreSQL manual, "Message Formats").
 pub const HEAD: usize = 5;
 
-// How many bytes of an error are read.
+// How many bytes of an error are kept.
 const MOST: usize = 1_024;
 
 impl LoginAnswer {
-    /// Nothing was read.
+    /// Returns an answer of which nothing was read.
     pub const fn new() -> LoginAnswer {
         LoginAnswer {
             head: [0; HEAD],
@@ -42,7 +42,7 @@ impl LoginAnswer {
         }
     }
 
-    /// These bytes came. What comes behind a refusal isn't read.
+    /// Reads received bytes, up to a refusal.
     pub fn read(&mut self, bytes: &[u8]) {
         for byte in bytes {
             if self.refusal.is_some() {
@@ -52,8 +52,8 @@ impl LoginAnswer {
         }
     }
 
-    /// Why the server refuses the login, if it does. An error is known by its type, before it is
-    /// whole.
+    /// Returns why the server refuses the login, if it does. An error is known by its type, before it
+    /// is complete.
     pub fn refusal(&self) -> Option<Refusal> {
         let [kind, ..] = self.head;
         if self.read == HEAD && kind == b'E' {
@@ -62,17 +62,17 @@ impl LoginAnswer {
         self.refusal
     }
 
-    /// A field of its ErrorResponse, if it came.
+    /// Returns a field of its ErrorResponse, if it was read.
     pub fn field(&self, kind: u8) -> Option<&[u8]> {
         field_of(self.body(), kind)
     }
 
-    // What is kept of the message's body.
+    // Returns what is kept of the message's body.
     fn body(&self) -> &[u8] {
         self.body.get(..self.kept).unwrap_or(&[])
     }
 
-    // The next byte.
+    // Reads the next byte.
     fn take(&mut self, byte: u8) {
         if self.read < HEAD {
             self.head[self.read] = byte;
@@ -89,7 +89,7 @@ impl LoginAnswer {
         }
     }
 
-    // A message's head was read.
+    // Begins a message's body.
     fn begin(&mut self) {
         let [_kind, a, b, c, d] = self.head;
         let length = u32::from_be_bytes([a, b, c, d]) as usize;
@@ -104,7 +104,7 @@ impl LoginAnswer {
         }
     }
 
-    // A message was read.
+    // Ends a message.
     fn end(&mut self) {
         self.read = 0;
         let [kind, ..] = self.head;
@@ -119,7 +119,8 @@ impl LoginAnswer {
     }
 }
 
-// What an authentication request of this code asks for. 0 says that the user is authenticated.
+// Returns the refusal by an authentication request with this code. 0 says that the user is
+// authenticated.
 fn asks(code: u32) -> Option<Refusal> {
     if code == 0 {
         None
@@ -128,7 +129,7 @@ fn asks(code: u32) -> Option<Refusal> {
     }
 }
 
-/// A field of an ErrorResponse with this body, if it is whole there.
+/// Returns a field of an ErrorResponse with this body, if it is complete.
 pub fn field_of(body: &[u8], kind: u8) -> Option<&[u8]> {
     let mut rest = body;
     for _ in 0..body.len() {

@@ -17,27 +17,26 @@ pub struct ServeOptions<'a> {
     pub version: &'a str,
     /// The port of 127.0.0.1 that all nodes share.
     pub front: u16,
-    /// What the secrets of keys are made from.
+    /// The seed of the secrets of cancel keys.
     pub seed: [u8; 32],
     /// The number of this start.
     pub boot: u32,
     /// The parameters that logins report beside those that every login has.
     pub reports: &'a Reports,
-    /// Whether the group drains when its input ends. Otherwise it serves for as long as the process
-    /// runs, and its input isn't read.
+    /// Whether the group drains when its input ends. Otherwise the input isn't read.
     pub until_eof: bool,
-    /// The level of the least important lines that the log has.
+    /// The least important level that is logged.
     pub log: Level,
-    /// The port of 127.0.0.1 at which metrics are read, if any are counted.
+    /// The metrics port at 127.0.0.1, if there is one.
     pub metrics: Option<u16>,
-    /// How long a message may be, of a client and of a server.
+    /// The maximum length of a message of a client or server.
     pub max_message: MessageLimit,
 }
 
-// What the log says where no boot number was given.
+// What the log says if no boot number was given.
 const GIVE_BOOT: &str = "give another --boot at each start";
 
-/// Writes to the log that a group has begun to listen, and where its nodes do.
+/// Logs that a group has begun to listen, and the addresses of its nodes.
 pub fn write_start<R: Wait + Clock>(
     rt: &R,
     alloc: Global,
@@ -63,14 +62,14 @@ pub fn write_start<R: Wait + Clock>(
     Ok(())
 }
 
-// Writes where a node listens.
+// Logs the address of a node.
 fn write_node<R: Wait + Clock>(rt: &R, log: &Log, settings: &Settings) {
     let address = Value::Address(settings.listen_addr(), settings.listen_port());
     let node = settings.peer_id().get();
     log.write(rt, Some(node), Event::NodeListens, &[("address", address)]);
 }
 
-// Appends what logins report, and the parameter that some drivers need, if they don't report it.
+// Appends what logins report, and `STRINGS` if they don't report it.
 fn put_reports(alloc: Global, text: &mut String, reports: &Reports) -> Result<(), AllocError> {
     let reported = reports_text(alloc, reports)?;
     put_text(alloc, text, "reports", reported.as_str())?;
@@ -85,7 +84,7 @@ fn put_text(alloc: Global, text: &mut String, name: &str, value: &str) -> Result
     put_fields(alloc, text, &[(name, Value::Text(value))])
 }
 
-// Whether logins report this parameter.
+// Returns whether logins report this parameter.
 fn is_reported(reports: &Reports, name: &str) -> bool {
     for place in 0..reports.len() {
         if let Some(report) = reports.get(place) {
@@ -97,7 +96,7 @@ fn is_reported(reports: &Reports, name: &str) -> bool {
     false
 }
 
-// The names and values of reports, each pair behind the other.
+// Returns the names and values of reports, separated by spaces.
 fn reports_text(alloc: Global, reports: &Reports) -> Result<String, AllocError> {
     let mut text = String::new(alloc);
     for place in 0..reports.len() {
@@ -113,7 +112,7 @@ fn reports_text(alloc: Global, reports: &Reports) -> Result<String, AllocError> 
     Ok(text)
 }
 
-/// The same reports, in memory of their own.
+/// Returns a copy of these reports.
 pub fn copy_of(alloc: Global, reports: &Reports) -> Result<Reports, AllocError> {
     let mut copy = Reports::new(alloc);
     for place in 0..reports.len() {

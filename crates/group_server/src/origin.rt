@@ -1,4 +1,4 @@
-//! To whom a link or a connection for a cancel request leads, as the log names it.
+//! What the log names of a link or of a connection for a cancel request.
 use crate::log::{Event, Field, Log, Value, put_fields};
 use crate::login_answer::{LoginAnswer, Refusal};
 use link_state::Difference;
@@ -7,17 +7,17 @@ use std::io;
 use std::sync::{Arc, Wait};
 use std::time::Clock;
 
-/// To whom a connection of a node leads, and the log that tells of it.
+/// The log of a connection of a node to a server or peer, with the fields that name it.
 #[derive(Drop)]
 pub struct Origin {
     log: Arc<Log, Global>,
     node: u16,
-    // The fields that name it, as they stand in lines.
+    // The fields that name it, as text.
     names: String,
 }
 
 impl Origin {
-    /// A connection of this node that these fields name.
+    /// Returns the origin of a connection of this node that these fields name.
     pub fn new(
         alloc: Global,
         log: &Arc<Log, Global>,
@@ -33,13 +33,13 @@ impl Origin {
         })
     }
 
-    /// Writes the line of an event of this connection, with these fields behind its own.
+    /// Logs an event of this connection, with these fields after its own.
     pub fn write<R: Wait + Clock>(&self, rt: &R, event: Event, fields: &[Field<'_>]) {
         let names = self.names.as_str();
         self.log.write_of(rt, Some(self.node), event, names, fields);
     }
 
-    /// Writes that the login of a link was refused.
+    /// Logs that the login of a link was refused.
     pub fn write_refusal<R: Wait + Clock>(&self, rt: &R, answer: &LoginAnswer, why: Refusal) {
         match why {
             Refusal::Error => {
@@ -56,7 +56,7 @@ impl Origin {
         }
     }
 
-    /// Writes that the server reports another value than clients get.
+    /// Logs that the server reports another value than clients get.
     pub fn write_difference<R: Wait + Clock>(&self, rt: &R, event: Event, found: &Difference<'_>) {
         let fields = [
             ("parameter", Value::Text(found.name)),
@@ -66,12 +66,12 @@ impl Origin {
         self.write(rt, event, &fields);
     }
 
-    /// Writes why a read or a write failed.
+    /// Logs an error.
     pub fn write_error<R: Wait + Clock>(&self, rt: &R, event: Event, error: &io::Error) {
         self.write(rt, event, &[("error", Value::Error(error))]);
     }
 
-    /// Writes this reason.
+    /// Logs this reason.
     pub fn write_reason<R: Wait + Clock>(&self, rt: &R, event: Event, reason: &str) {
         self.write(rt, event, &[("error", Value::Text(reason))]);
     }

@@ -1,22 +1,22 @@
-//! What can be told of a socket without reading it.
-use crate::limits::LOOK_MILLIS;
+//! The state of sockets, without reading them.
+use crate::limits::POLL_MILLIS;
 use libc::net as c;
 use libc::types::pollfd;
 use std::os::fd::RawFd;
 use std::time::Duration;
 
-// What a socket reports that was closed or reset, here or there.
+// The events of a socket that was closed or reset on either side.
 const ENDED: i16 = c::POLLRDHUP | c::POLLHUP | c::POLLERR | c::POLLNVAL;
 
-// What a socket reports of which a read returns at once.
+// The events of a socket of which a read returns at once.
 const READABLE: i16 = c::POLLIN | ENDED;
 
-/// Whether nothing can be read of this socket, and its other side hasn't ended it. It doesn't wait.
+/// Returns whether nothing can be read from this socket, and its peer hasn't closed it. Doesn't wait.
 pub fn is_quiet(socket: RawFd) -> bool {
     wait_for(socket, c::POLLIN | c::POLLRDHUP, 0) == Some(0)
 }
 
-/// Whether the other side of this socket has ended it. It doesn't wait.
+/// Returns whether the peer of this socket has closed it. Doesn't wait.
 pub fn is_ended(socket: RawFd) -> bool {
     match wait_for(socket, c::POLLRDHUP, 0) {
         Some(events) => events & ENDED != 0,
@@ -24,7 +24,7 @@ pub fn is_ended(socket: RawFd) -> bool {
     }
 }
 
-/// Waits until a read of this socket returns at once, and returns whether it does.
+/// Waits at most for `limit` until a read of this socket returns at once. Returns whether it does.
 pub fn wait_readable(socket: RawFd, limit: Duration) -> bool {
     match wait_for(socket, c::POLLIN, millis(limit)) {
         Some(events) => events & READABLE != 0,
@@ -32,7 +32,7 @@ pub fn wait_readable(socket: RawFd, limit: Duration) -> bool {
     }
 }
 
-/// Waits until a read of one of these sockets returns at once, however long that takes.
+/// Waits until a read of one of these sockets returns at once, without a time limit.
 pub fn wait_either(one: RawFd, other: RawFd) {
     let mut asked = [ask(one, c::POLLIN), ask(other, c::POLLIN)];
     c::poll(&mut asked, -1);
@@ -43,21 +43,21 @@ pub fn wait_either(one: RawFd, other: RawFd) {
 pub struct Ready {
     /// A read of the link returns at once.
     pub link_reads: bool,
-    /// A write to the link takes something at once.
+    /// A write to the link returns at once.
     pub link_writes: bool,
-    /// The client has ended its connection.
+    /// The client has closed its connection.
     pub client_ended: bool,
 }
 
-/// Waits a little until the link can be read or written, or its client has ended its connection, if
-/// it has one.
+/// Waits until the link can be read or written, or until its client, if any, has closed its
+/// connection; at most for `POLL_MILLIS`.
 pub fn wait_both(link: RawFd, client: Option<RawFd>) -> Ready {
-    // A negative descriptor is passed over.
+    // A negative descriptor is ignored.
     let mut asked = [
         ask(link, c::POLLIN | c::POLLOUT),
         ask(client.unwrap_or(-1), c::POLLRDHUP),
     ];
-    if c::poll(&mut asked, LOOK_MILLIS as i32) < 0 {
+    if c::poll(&mut asked, POLL_MILLIS as i32) < 0 {
         return Ready {
             link_reads: false,
             link_writes: false,
@@ -80,8 +80,8 @@ const fn ask(fd: RawFd, events: i16) -> pollfd {
     }
 }
 
-// What a socket reports of these events within this many milliseconds, or nothing where the call
-// failed or was interrupted.
+// Waits at most this many milliseconds for these events. Returns the events that occurred, or `None`
+// if the call failed or was interrupted.
 fn wait_for(socket: RawFd, events: i16, millis: i32) -> Option<i16> {
     let mut asked = [ask(socket, events)];
     if c::poll(&mut asked, millis) < 0 {
@@ -91,7 +91,7 @@ fn wait_for(socket: RawFd, events: i16, millis: i32) -> Option<i16> {
     Some(answer.revents)
 }
 
-// A time in whole milliseconds, one at least.
+// Returns a time in milliseconds, at least 1.
 fn millis(time: Duration) -> i32 {
     i32::try_from(time.as_millis()).unwrap_or(i32::MAX).max(1)
 }

@@ -6,22 +6,21 @@ use pg_frames::MessageLimit;
 use std::alloc::{AllocError, Global};
 use std::sync::{Mutex, Wait};
 
-/// A node that serves connections, with those callers of it that no connection has. A caller's
-/// totals are large, so it is kept out of the stacks of threads.
+/// A node that serves connections, with its free callers. A caller's totals are large, so callers
+/// are boxed.
 #[derive(Drop)]
 pub struct Serving<M: Machine> {
     first: Mutex<Box<Calling<LinkStream<M>>>>,
     free: Mutex<Vec<Box<Calling<LinkStream<M>>>>>,
-    // Callers for cancel requests where no other can be made.
+    // Callers for cancel requests, if no other can be made.
     reserve: Mutex<Vec<Box<Calling<LinkStream<M>>>>>,
     dialer: Dialer<M>,
-    // How long a message may be.
+    // The maximum length of a message.
     limit: MessageLimit,
 }
 
 impl<M: Machine> Serving<M> {
-    /// A node with its first caller, what connects it to servers and peers, and the limit of a
-    /// message.
+    /// Returns a node with its first caller, its dialer, and the maximum length of a message.
     pub fn new(
         alloc: Global,
         first: Box<Calling<LinkStream<M>>>,
@@ -37,17 +36,17 @@ impl<M: Machine> Serving<M> {
         }
     }
 
-    /// The node's number.
+    /// Returns the node's number.
     pub fn number(&self) -> u16 {
         self.dialer.number()
     }
 
-    /// What is counted of a connection to the node.
+    /// Returns the meter of a new connection to the node.
     pub fn meter(&self) -> Meter {
         self.dialer.meter()
     }
 
-    /// How its clients and links do at this moment, and how many cancel requests there were.
+    /// Returns the present states of its clients and links, and how many cancel requests there were.
     pub fn census<R: Wait>(&self, rt: &R, alloc: Global) -> Result<Census, AllocError> {
         let mut calling = self.take(rt, alloc).ok_or(AllocError)?;
         let pools = calling.census(rt, alloc);
@@ -59,7 +58,7 @@ impl<M: Machine> Serving<M> {
         })
     }
 
-    /// A caller of the node for one more connection, if one is free or can be made.
+    /// Returns a caller for a connection, if one is free or can be made.
     pub fn take<R: Wait>(&self, rt: &R, alloc: Global) -> Option<Box<Calling<LinkStream<M>>>> {
         if let Some(calling) = self.free.lock(rt).pop() {
             return Some(calling);
@@ -67,13 +66,13 @@ impl<M: Machine> Serving<M> {
         self.make(rt, alloc)
     }
 
-    /// A caller of the node that is kept for cancel requests, if there is one.
+    /// Returns a caller that is kept for cancel requests, if there is one.
     pub fn take_reserved<R: Wait>(&self, rt: &R) -> Option<Box<Calling<LinkStream<M>>>> {
         self.reserve.lock(rt).pop()
     }
 
-    /// Makes callers until this many are free, and one is kept, or no more can be made. Whoever
-    /// serves connections then finds one, and needs no room on its stack for making it.
+    /// Makes callers until this many are free and one is kept for cancel requests, or until no more
+    /// can be made. So threads that serve connections need no stack space for making one.
     pub fn stock<R: Wait>(&self, rt: &R, alloc: Global, callers: usize) {
         if self.reserve.lock(rt).is_empty() {
             if let Some(calling) = self.make(rt, alloc) {
@@ -126,8 +125,8 @@ impl<M: Machine> Serving<M> {
     }
 
     /// Keeps a caller for the next connection, or for the next cancel request if none is kept for
-    /// that. One that can't be kept is made anew then. It isn't inlined, so that a connection's
-    /// stack has no room for a caller that is dropped.
+    /// that. Drops it if there is no memory for that. It isn't inlined, so that a connection's thread
+    /// needs no stack space for dropping a caller.
     #[inline(never)]
     pub fn give_back<R: Wait>(&self, rt: &R, calling: Box<Calling<LinkStream<M>>>) {
         let has_reserve = !self.reserve.lock(rt).is_empty();

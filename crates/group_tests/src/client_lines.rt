@@ -1,8 +1,11 @@
-//! What the log says of clients.
+//! The lines of the log about clients.
 use crate::group::ANY_PORT;
 use crate::host::TestHost;
 use crate::log_lines::{expect_line, expect_no_line};
-use group_server::{ClientStream, Connection, Deadline, Doorway, Entry, Level, Log, Room, Serves};
+use group_server::{
+    Capacity, ClientStream, Connection, ConnectionContext, ConnectionLimit, Deadline, Level, Log,
+    Serves,
+};
 use std::io::Write;
 use std::net::{TcpListener, TcpStream};
 use std::test::Fail;
@@ -12,8 +15,7 @@ const AUTHENTICATED: &[u8] = b"R\0\0\0\x08\0\0\0\0";
 
 const REFUSED: &[u8] = b"E\0\0\0\x2cSFATAL\0VFATAL\0C53300\0Mtoo many clients\0\0";
 
-// To a client of node 4 these are written one after another. The log says that it was refused, or
-// nothing.
+// Writes these to a client of node 4. Expects a line of the log that it was refused, or none.
 fn expect_refused<R: TestHost>(
     rt: &R,
     listener: &TcpListener,
@@ -42,31 +44,31 @@ fn write_all<R: TestHost>(
     log: &Log,
     writes: &[&[u8]],
 ) -> Result<(), Fail> {
-    let room = Room {
+    let capacity = Capacity {
         connections: 1,
-        newcomers: 1,
+        pending: 1,
     };
-    let doorway = Doorway::new(rt.alloc(), room);
-    let newcomer = doorway
-        .arrive(rt, connection.descriptor())
-        .ok_or("no room")?;
-    let entry = Entry {
-        doorway: &doorway,
-        newcomer,
+    let limit = ConnectionLimit::new(rt.alloc(), capacity);
+    let pending = limit
+        .admit(rt, connection.descriptor())
+        .ok_or("not admitted")?;
+    let context = ConnectionContext {
+        limit: &limit,
+        pending,
         serves: Serves::All,
         deadline: Deadline::after(rt, 1_000)?,
         log,
         node: 4,
     };
-    let mut client = ClientStream::new(rt, rt.alloc(), connection, entry);
+    let mut client = ClientStream::new(rt, rt.alloc(), connection, context);
     for bytes in writes {
         client.write_all(bytes)?;
     }
     Ok(())
 }
 
-// An error in place of a login is in the log, also behind the refusal of encryption. An error after
-// the login isn't.
+// An error in place of a login is logged, also after the refusal of encryption. An error after the
+// login isn't.
 #[test]
 fn a_refused_client_is_in_the_log(rt: HostRuntime) -> Result<(), Fail> {
     let listener = TcpListener::bind(&rt, ANY_PORT)?;

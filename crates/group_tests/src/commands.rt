@@ -1,5 +1,4 @@
-//! The commands `serve` and `stub`, as arguments ask for them: where they listen, and what they say
-//! where they can't.
+//! The commands `serve` and `stub`: where they listen, and their errors.
 use crate::client::{Cancel, Client};
 use crate::files::{Command, run_line, start};
 use crate::front::expect_served;
@@ -53,7 +52,7 @@ fn expect_key<R: TestHost>(rt: &R, port: u16) -> Result<(), Fail> {
     Ok(())
 }
 
-// What the system says of an address that is taken.
+// The system's error for an address that is in use.
 const TAKEN: &str = "Address already in use (os error 98)";
 
 // The port of a listener, which is closed.
@@ -117,7 +116,7 @@ fn stand_ins_run(rt: HostRuntime) -> Result<(), Fail> {
     Ok(())
 }
 
-// A command that can't listen at this port says so, and why, and nothing else.
+// A command that can't listen at this port prints this and the error, and nothing else.
 fn expect_taken<R: TestHost>(rt: &R, command: &Command, taken: u16) -> Result<(), Fail> {
     let (mut out, mut err) = (Vec::new(rt.alloc()), Vec::new(rt.alloc()));
     let line = command.line.as_str();

@@ -1,12 +1,12 @@
-//! How many connections the descriptors of a process are enough for.
+//! The number of connections that a process's descriptors allow.
 use group_server::Needs;
 
-// The connections, and the descriptors that are left for links, cancel requests and the rest.
+// Returns the number of connections, and that of the other descriptors.
 fn shares(needs: Needs, descriptors: usize) -> (usize, usize) {
-    let room = needs.room(descriptors);
+    let capacity = needs.capacity(descriptors);
     (
-        room.connections,
-        descriptors.saturating_sub(room.connections),
+        capacity.connections,
+        descriptors.saturating_sub(capacity.connections),
     )
 }
 
@@ -20,7 +20,7 @@ fn links_and_cancels_keep_theirs(rt: HostRuntime) {
     assert_eq!(&rt; shares(needs, 1_024), (813, 211));
     // 768 for cancels is all that three nodes carry at a time.
     assert_eq!(&rt; shares(needs, 65_536), (64_681, 855));
-    assert_eq!(&rt; needs.room(1_024).newcomers, 960);
+    assert_eq!(&rt; needs.capacity(1_024).pending, 960);
 }
 
 #[test]

@@ -1,4 +1,4 @@
-//! A group whose input ends: it accepts no connection any more, and its sessions end between
+//! A group whose input ends: it stops accepting connections, and its sessions end between
 //! transactions.
 use crate::client::Client;
 use crate::console_client::Console;
@@ -17,7 +17,7 @@ use std::test::Fail;
 use std::thread;
 use stub_server::Mode;
 
-// The error of a session that ends, with PostgreSQL's words.
+// The error of a session that ends, with PostgreSQL's message.
 const SHUTDOWN: &[u8] = b"E\0\0\0\x4fSFATAL\0VFATAL\0C57P01\0\
     Mterminating connection due to administrator command\0\0";
 
@@ -56,7 +56,7 @@ impl Draining {
     }
 }
 
-// The group serves in a thread of its own, until this input ends. It listens when this returns.
+// Serves the group in its own thread, until this input ends. It listens when this returns.
 fn start_group<R: TestHost>(
     rt: &R,
     group: Group,
@@ -101,7 +101,7 @@ fn expect_shutdown<R: TestHost>(rt: &R, client: &mut Client, last: &[&[u8]]) -> 
     client.expect_end(rt, last.as_slice())
 }
 
-// Nobody can connect to this port.
+// Expects that connections to this port are refused.
 fn expect_closed<R: TestHost>(rt: &R, port: u16) {
     assert!(rt; TcpStream::connect(rt, ("127.0.0.1", port)).is_err());
 }
@@ -170,7 +170,7 @@ fn expect_unserved<R: TestHost>(rt: &R, group: Draining) -> Result<(), Fail> {
 }
 
 #[test]
-fn who_says_nothing_is_closed(rt: HostRuntime) -> Result<(), Fail> {
+fn a_pending_connection_is_closed(rt: HostRuntime) -> Result<(), Fail> {
     let server = TcpListener::bind(&rt, ANY_PORT)?;
     let group = Draining::start(&rt, server)?;
     expect_unserved(&rt, group)

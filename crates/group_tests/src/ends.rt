@@ -1,10 +1,12 @@
-//! What the log says of start-up parameters that have no effect, and of the ends of cancel requests.
+//! The lines of the log about start-up parameters that have no effect, and about ends of cancel
+//! requests.
 use crate::caller::Caller;
 use crate::group::ANY_PORT;
 use crate::host::TestHost;
 use crate::log_lines::{expect_line, expect_no_line};
 use group_server::{
-    CancelEnd, ClientStream, Connection, Deadline, Doorway, Entry, Level, Log, Room, Serves, Target,
+    CancelEnd, Capacity, ClientStream, Connection, ConnectionContext, ConnectionLimit, Deadline,
+    Level, Log, Serves, Target,
 };
 use pg_ids::DatabaseNo;
 use std::io::{Read, Write};
@@ -24,7 +26,7 @@ const REFUSED: &[u8] = b"E\0\0\0\x2cSFATAL\0VFATAL\0C53300\0Mtoo many clients\0\
 // The server of a database.
 const SERVER: Target = Target::Server(DatabaseNo(0));
 
-// A connection at this listener of a client that sent a packet, and the client's side.
+// Returns a connection at this listener whose client has sent a packet, and the client's side.
 fn sent<R: TestHost>(
     rt: &R,
     listener: &TcpListener,
@@ -36,8 +38,8 @@ fn sent<R: TestHost>(
     Ok((Connection::new(socket), peer))
 }
 
-// The client's packet is read by this many reads at node 4, and this is written to it. Returns how
-// its cancel request has ended, if it is one.
+// Reads the client's packet by this many reads at node 4, and writes this answer. Returns how its
+// cancel request has ended, if it is one.
 fn serve<R: TestHost>(
     rt: &R,
     connection: &Connection,
@@ -45,23 +47,23 @@ fn serve<R: TestHost>(
     reads: usize,
     answer: &[u8],
 ) -> Result<Option<CancelEnd>, Fail> {
-    let room = Room {
+    let capacity = Capacity {
         connections: 1,
-        newcomers: 1,
+        pending: 1,
     };
-    let doorway = Doorway::new(rt.alloc(), room);
-    let newcomer = doorway
-        .arrive(rt, connection.descriptor())
-        .ok_or("no room")?;
-    let entry = Entry {
-        doorway: &doorway,
-        newcomer,
+    let limit = ConnectionLimit::new(rt.alloc(), capacity);
+    let pending = limit
+        .admit(rt, connection.descriptor())
+        .ok_or("not admitted")?;
+    let context = ConnectionContext {
+        limit: &limit,
+        pending,
         serves: Serves::All,
         deadline: Deadline::after(rt, 10_000)?,
         log,
         node: 4,
     };
-    let mut client = ClientStream::new(rt, rt.alloc(), connection, entry);
+    let mut client = ClientStream::new(rt, rt.alloc(), connection, context);
     let mut buffer = [0; 64];
     for _ in 0..reads {
         let _count = client.read(&mut buffer)?;

@@ -1,4 +1,4 @@
-//! How far the first packets of a connection are read, in pieces of every size.
+//! How much of a connection's first packets is read, in pieces of every size.
 use group_server::{Asks, FirstPacket, Next};
 use std::process::Abort;
 
@@ -14,7 +14,7 @@ const GSS: &[u8] = b"\0\0\0\x08\x04\xd2\x16\x30";
 
 const STARTUP: &[u8] = b"\0\0\0\x12\0\x03\0\0user\0app\0\0";
 
-// What is left unread of these bytes, where a read takes at most `most`.
+// Returns what is left unread of these bytes, if a read takes at most `most`.
 fn unread<R: Abort>(rt: &R, bytes: &[u8], most: usize) -> (usize, Asks, Next) {
     let mut packet = FirstPacket::new();
     let mut rest = bytes;

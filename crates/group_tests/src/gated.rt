@@ -1,5 +1,4 @@
-//! A node in the test's hands: its sessions are held at a gate before they give their links back,
-//! and its log can be read.
+//! A node whose sessions wait at a gate before they release their links, and whose log can be read.
 use crate::group::ANY_PORT;
 use crate::host::TestHost;
 use crate::settings::group;
@@ -132,7 +131,7 @@ fn accept<R: TestHost>(
     }
 }
 
-// Serves a connection in a thread of its own.
+// Serves a connection in its own thread.
 fn start_serving<R: TestHost>(
     rt: &R,
     first: &mut Calling<LinkStream<R>>,

@@ -119,7 +119,7 @@ impl Running {
     }
 }
 
-// The group serves in a thread of its own. It listens when this returns.
+// Serves the group in its own thread. It listens when this returns.
 fn start_group<R: TestHost>(
     rt: &R,
     group: Group,
@@ -196,7 +196,7 @@ pub(crate) fn start_server<R: TestHost>(
     Ok(port)
 }
 
-// Ports at which nobody listens, all different.
+// Returns unused ports, all different.
 pub(crate) fn free_ports<R: TestHost>(rt: &R, count: usize) -> Result<Vec<u16>, Fail> {
     let mut ports = Vec::new(rt.alloc());
     let mut listeners = Vec::new(rt.alloc());

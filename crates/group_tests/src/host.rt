@@ -1,8 +1,8 @@
-//! What tests need of the machine.
+//! The capabilities that tests need.
 use group_server::Host;
 use std::process::Abort;
 
-// A machine on which a group serves and a test looks at it.
+// What a test of a group needs.
 pub(crate) trait TestHost: Host + Abort + AllocGlobal {}
 
 impl<H: Host + Abort + AllocGlobal> TestHost for H {}

@@ -1,6 +1,6 @@
 //! Tests of whole groups over TCP on this machine: nodes, a stand-in server, clients and cancel
-//! requests, each connection in a thread of its own. And of what a group decides about a
-//! connection, without one.
+//! requests, each connection in its own thread. And of what a group decides about a connection,
+//! without sockets.
 #![tactic(auto)]
 
 #[cfg(test)]
@@ -18,6 +18,8 @@ mod commands;
 #[cfg(test)]
 mod condemned;
 #[cfg(test)]
+mod connections;
+#[cfg(test)]
 mod console_client;
 #[cfg(test)]
 mod databases;
@@ -32,6 +34,8 @@ mod ends;
 #[cfg(test)]
 mod files;
 #[cfg(test)]
+mod final_error;
+#[cfg(test)]
 mod first_packets;
 #[cfg(test)]
 mod front;
@@ -40,11 +44,7 @@ mod gated;
 #[cfg(test)]
 mod group;
 #[cfg(test)]
-mod guests;
-#[cfg(test)]
 mod host;
-#[cfg(test)]
-mod last_words;
 #[cfg(test)]
 mod levels;
 #[cfg(test)]

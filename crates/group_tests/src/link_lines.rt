@@ -1,4 +1,4 @@
-//! What the log says of links and of connections for cancel requests.
+//! The lines of the log about links and connections for cancel requests.
 use crate::caller::Caller;
 use crate::group::ANY_PORT;
 use crate::host::TestHost;
@@ -82,7 +82,7 @@ fn an_ended_login_is_in_the_log(rt: HostRuntime) -> Result<(), Fail> {
     caller.expect_error(&rt, LOGIN_FAILED)
 }
 
-// A server at whose port nobody listens.
+// A server whose port is unused.
 #[test]
 fn a_missing_server_is_in_the_log(rt: HostRuntime) -> Result<(), Fail> {
     let listener = TcpListener::bind(&rt, ANY_PORT)?;

@@ -164,7 +164,7 @@ fn many_lines_of_a_kind_are_left_out(rt: HostRuntime) -> Result<(), Fail> {
 
 // No more than 128 lines wait, of whatever kind.
 #[test]
-fn lines_that_nobody_reads_are_left_out(rt: HostRuntime) -> Result<(), Fail> {
+fn unread_lines_are_left_out(rt: HostRuntime) -> Result<(), Fail> {
     let log = Log::new(rt.alloc(), Level::Notice);
     for _ in 0..130 {
         log.write(&rt, None, Event::Started, &[]);

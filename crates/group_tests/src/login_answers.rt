@@ -1,4 +1,4 @@
-//! Why a server refuses a login, as the log says it.
+//! Why a server refuses a login, for the log.
 use group_server::{LoginAnswer, Refusal};
 use std::process::Abort;
 

@@ -1,5 +1,5 @@
-//! Metrics: what a group hands out after sessions whose numbers are worked out by hand, and what
-//! whoever reads them slowly or wrongly gets.
+//! Metrics after sessions whose numbers are worked out by hand, and the answers to slow or malformed
+//! requests.
 use crate::client::{Client, Until};
 use crate::group::{ANY_PORT, Running, start_server};
 use crate::host::TestHost;

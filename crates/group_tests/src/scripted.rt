@@ -1,4 +1,4 @@
-//! A server of which each connection writes what a script says.
+//! A server that writes a script to each connection.
 use crate::host::TestHost;
 use std::alloc::AllocError;
 use std::io::{ErrorKind, Read, Write};

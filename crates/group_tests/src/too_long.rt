@@ -1,4 +1,4 @@
-//! What the log says of messages above the limit, which is 8,192 here.
+//! The lines of the log about messages above the limit, which is 8,192 here.
 use crate::client::Client;
 use crate::gated::start_limited;
 use crate::group::ANY_PORT;

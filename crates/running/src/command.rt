@@ -1,4 +1,4 @@
-//! What arguments ask for.
+//! Runs the command that the arguments name.
 ghost use Rattle.std.specs.Prelude.{◌≡◌, OnOk, OnErr};
 
 use crate::serving::serve;
@@ -10,14 +10,13 @@ use std::alloc::Global;
 use std::io;
 use std::io::{Read, Write};
 
-// The status of a command that has done what it was asked for, and of one that can't run.
+// The status of a command that has succeeded, and of one that has failed.
 const DONE: u8 = 0;
 
 const FAILED: u8 = 1;
 
-/// Does what these arguments ask for: answers them, or runs a group of nodes or a stand-in server.
-/// `input` is read only by a group that drains when it ends.
-/// Returns the status that the program ends with.
+/// Runs the command that these arguments name: answers it, or runs a group of nodes or a stand-in
+/// server. `input` is only read by a group that drains when it ends. Returns the program's status.
 pub fn execute<H: Host, O: Opener, I: Read, W: Write, E: Write>(
     host: &H,
     alloc: Global,
@@ -35,8 +34,7 @@ pub fn execute<H: Host, O: Opener, I: Read, W: Write, E: Write>(
 }
 
 /// Runs a group of nodes or a stand-in server, until the process is stopped or the group has
-/// drained. Once it listens it says so on `out`. Where it can't run it says why on `err`. Returns
-/// the status that the program ends with.
+/// drained. Writes to `out` once it listens, and an error to `err`. Returns the program's status.
 pub fn run<H: Host, O: Opener, I: Read, W: Write, E: Write>(
     host: &H,
     alloc: Global,
@@ -59,7 +57,7 @@ pub fn run<H: Host, O: Opener, I: Read, W: Write, E: Write>(
     status_of(&ended)
 }
 
-// The status of a command that ended so.
+// Returns the status for the result of a command.
 fn status_of(ended: &Result<(), ServeError>) -> u8
     ensures done { OnOk ended.now (result ≡ 0) }
     ensures failed { OnErr ended.now (result ≡ 1) }
@@ -70,7 +68,7 @@ fn status_of(ended: &Result<(), ServeError>) -> u8
     }
 }
 
-// Serves the group that the settings files make. Fails if a file can't be used.
+// Serves the group of these settings files. Fails if a file can't be used.
 fn serve_files<H: Host, O: Opener, I: Read, W: Write>(
     host: &H,
     alloc: Global,
@@ -84,7 +82,7 @@ fn serve_files<H: Host, O: Opener, I: Read, W: Write>(
     Ok(serve(host, alloc, group, request, seed, input, out))
 }
 
-// Says why a command can't run.
+// Writes the error of a command.
 fn write_error<E: Write>(err: &mut E, error: &ServeError) -> io::Result<()> {
     match error {
         ServeError::Address(unbound) => {

@@ -1,4 +1,4 @@
-//! `serve`: a group of nodes serves clients, until the process is stopped or the group has drained.
+//! `serve`: serves clients until the process is stopped or the group has drained.
 use crate::standing_in::stand_in_for_servers;
 use command_line::{LogLevel, ServeRequest, version};
 use group_server::{Host, Level, MessageLimit, ServeError, ServeOptions, serve_group};
@@ -6,8 +6,8 @@ use ini_config::Group;
 use std::alloc::Global;
 use std::io::{Read, Write};
 
-/// Serves the nodes of a group, with stand-in servers where the request asks for them, and secrets
-/// from this seed. It returns where it can't serve, or has drained.
+/// Serves the nodes of a group, with stand-in servers if the request asks for them, and with secrets
+/// from this seed. Returns on an error, or when the group has drained.
 pub(crate) fn serve<H: Host, I: Read, W: Write>(
     host: &H,
     alloc: Global,
@@ -35,7 +35,7 @@ pub(crate) fn serve<H: Host, I: Read, W: Write>(
     serve_group(host, alloc, group, &options, input, out)
 }
 
-// The limit of a message that an argument names. It is in range.
+// Returns the message limit of an argument, which is in range.
 fn limit_of(bytes: u32) -> MessageLimit {
     match MessageLimit::new(bytes) {
         Some(limit) => limit,
@@ -43,7 +43,7 @@ fn limit_of(bytes: u32) -> MessageLimit {
     }
 }
 
-// The level that an argument names.
+// Returns the level that an argument names.
 fn level_of(level: LogLevel) -> Level {
     match level {
         LogLevel::Warn => Level::Warn,
@@ -52,7 +52,7 @@ fn level_of(level: LogLevel) -> Level {
     }
 }
 
-// The number in a text that names the program and its version.
+// Returns the number in a text that names the program and its version.
 fn number_in(version: &str) -> &str {
     let version = version.trim_end();
     match version.rsplit_once(' ') {

@@ -13,8 +13,8 @@ use stub_server::{Mode, Server, serve};
 // Where stand-in servers listen.
 const ADDRESS: &str = "127.0.0.1";
 
-/// Runs a stand-in server, until the process is stopped. Fails if its port can't be listened at,
-/// memory is refused, or `out` can't be written to.
+/// Runs a stand-in server until the process is stopped. Fails if its port can't be bound, if memory
+/// runs out, or if `out` can't be written to.
 pub(crate) fn stand_in<H: Host, W: Write>(
     host: &H,
     alloc: Global,
@@ -29,8 +29,8 @@ pub(crate) fn stand_in<H: Host, W: Write>(
 }
 
 /// Runs a stand-in server at each port of 127.0.0.1 that the settings of these nodes name as a
-/// server's, in a thread of its own. Fails if a port can't be listened at, or if a thread or memory
-/// is refused.
+/// server's, each in its own thread. Fails if a port can't be bound, if a thread can't be started, or
+/// if memory runs out.
 pub(crate) fn stand_in_for_servers<H: Host>(
     host: &H,
     alloc: Global,
@@ -43,7 +43,7 @@ pub(crate) fn stand_in_for_servers<H: Host>(
     Ok(())
 }
 
-// Serves the connections of this listener in a thread of its own.
+// Starts a thread that serves the connections of this listener.
 fn start<H: Host>(host: &H, alloc: Global, listener: TcpListener) -> Result<(), ServeError> {
     let own = *host;
     let server = new_server(alloc, Mode::Honest)?;
@@ -53,7 +53,7 @@ fn start<H: Host>(host: &H, alloc: Global, listener: TcpListener) -> Result<(), 
     }
 }
 
-// The ports of the servers at 127.0.0.1, each once.
+// Returns the ports of the servers at 127.0.0.1, each once.
 fn server_ports(alloc: Global, group: &Group) -> Result<Vec<u16>, AllocError> {
     let mut ports = Vec::new(alloc);
     for settings in group.nodes() {

@@ -33,38 +33,38 @@ impl<'a, M: Machine> ClientStream<'a, M> {
                 self.keep(packet, bytes);
                 packet.take(bytes);
                 self.stage = Stage::First(packet, deadline);
-                self.see(packet)?;
+                self.check(packet)?;
                 Ok(count)
             }
         }
     }
 
-    // Keeps what was read of a start-up packet behind its head.
+    // Keeps what was read of a start-up packet after its head, if the log needs it.
     fn keep(&mut self, packet: FirstPacket, bytes: &[u8]) {
-        if packet.asks() == Asks::Session && self.entry.log.has(Event::ParametersDropped) {
+        if packet.asks() == Asks::Session && self.context.log.has(Event::ParametersDropped) {
             let _ = self.packet.extend_from_slice(bytes);
         }
     }
 
-    // Looks at what the first packets ask for. It fails if that isn't served, or if the connection
-    // was closed for another.
-    fn see(&mut self, packet: FirstPacket) -> io::Result<()> {
-        if packet.asks() == Asks::Session && self.entry.serves == Serves::Cancels {
+    // Fails if the first packets ask for something that isn't served, or if the connection was
+    // evicted.
+    fn check(&mut self, packet: FirstPacket) -> io::Result<()> {
+        if packet.asks() == Asks::Session && self.context.serves == Serves::Cancels {
             return Err(io::Error::from(ErrorKind::ConnectionRefused));
         }
         if packet.next() == Next::Done {
             self.stage = Stage::Session;
-            return self.come_in();
+            return self.activate();
         }
         Ok(())
     }
 
-    // The first packets were read. It fails if the connection was closed for another.
-    fn come_in(&self) -> io::Result<()> {
+    // Makes the connection no longer pending. Fails if it was evicted.
+    fn activate(&self) -> io::Result<()> {
         if self
-            .entry
-            .doorway
-            .come_in(self.machine, self.entry.newcomer)
+            .context
+            .limit
+            .activate(self.machine, self.context.pending)
         {
             Ok(())
         } else {
@@ -72,9 +72,9 @@ impl<'a, M: Machine> ClientStream<'a, M> {
         }
     }
 
-    // Hands out the last byte of a cancel request, and leaves it unread: if this process ends
-    // before the request is settled, its sender's connection is reset, and doesn't end as if it
-    // were.
+    // Returns the last byte of a cancel request, and leaves it unread in the socket: if this process
+    // ends before the request is settled, its sender's connection is reset instead of closed
+    // cleanly.
     fn peek_last(&mut self, buffer: &mut [u8]) -> io::Result<usize>
         ensures bound { ReadsAtMost result buffer.new }
     {
@@ -84,23 +84,23 @@ impl<'a, M: Machine> ClientStream<'a, M> {
         let count = self.connection.socket().peek(last)?;
         if count == 1 {
             self.stage = Stage::Cancel;
-            self.cancel_came = self.machine.monotonic().ok();
-            self.admit_cancel()?;
+            self.cancel_received = self.machine.monotonic().ok();
+            self.activate_cancel()?;
         }
         Ok(count)
     }
 
-    // A cancel request was read. It is given up if the connection was closed for another.
-    fn admit_cancel(&self) -> io::Result<()> {
-        let admitted = self.come_in();
-        if admitted.is_err() {
+    // Makes the connection no longer pending. Its cancel request is given up if it was evicted.
+    fn activate_cancel(&self) -> io::Result<()> {
+        let activated = self.activate();
+        if activated.is_err() {
             self.connection.give_up();
         }
-        admitted
+        activated
     }
 }
 
-// Reads a connection once, at most this many bytes.
+// Reads at most this many bytes of a connection.
 fn read_up_to(connection: &Connection, buffer: &mut [u8], most: usize) -> io::Result<usize>
     ensures bound { ReadsAtMost result buffer.new }
 {

@@ -1,4 +1,4 @@
-//! What the log says of a client.
+//! The lines of the log about a client.
 use super::ClientStream;
 use crate::Machine;
 use crate::dropped::put_dropped;
@@ -6,8 +6,8 @@ use crate::log::{Event, Field, Value};
 use crate::login_answer::{HEAD, field_of};
 
 impl<'a, M: Machine> ClientStream<'a, M> {
-    // Looks at the first that is written to a client: its login, or the error by which it is
-    // refused.
+    // Examines the first bytes that are written to a client: its login reply, or the error with
+    // which it is refused.
     #[inline(never)]
     pub(super) fn look_at_answer(&mut self, bytes: &[u8]) {
         match (bytes.first(), self.holds_cancel()) {
@@ -24,7 +24,7 @@ impl<'a, M: Machine> ClientStream<'a, M> {
         }
     }
 
-    // Writes to the log which parameters of the start-up packet have no effect, if there are any.
+    // Logs the parameters of the start-up packet that have no effect, if there are any.
     fn write_dropped(&self) {
         let mut names = Vec::new(self.alloc);
         if put_dropped(self.packet.as_slice(), &mut names).is_ok() && !names.is_empty() {
@@ -32,7 +32,7 @@ impl<'a, M: Machine> ClientStream<'a, M> {
         }
     }
 
-    // Writes to the log that the parameters of these names have no effect.
+    // Logs that the parameters of these names have no effect.
     fn write_names(&self, names: &[u8]) {
         let fields = [
             ("client", self.client()),
@@ -41,7 +41,7 @@ impl<'a, M: Machine> ClientStream<'a, M> {
         self.write(Event::ParametersDropped, &fields);
     }
 
-    // Writes this ErrorResponse to the log.
+    // Logs this ErrorResponse.
     pub(super) fn write_error(&self, event: Event, error: &[u8]) {
         let body = error.get(HEAD..).unwrap_or(&[]);
         let code = Value::Bytes(field_of(body, b'C').unwrap_or(&[]));
@@ -54,13 +54,13 @@ impl<'a, M: Machine> ClientStream<'a, M> {
         self.write(event, &fields);
     }
 
-    // Writes to the log a line of the node that serves the client.
+    // Logs an event of the node that serves the client.
     fn write(&self, event: Event, fields: &[Field<'_>]) {
-        let node = Some(self.entry.node);
-        self.entry.log.write(self.machine, node, event, fields);
+        let node = Some(self.context.node);
+        self.context.log.write(self.machine, node, event, fields);
     }
 
-    // Where the client is.
+    // Returns the address of the client.
     fn client(&self) -> Value<'_> {
         Value::Peer(self.connection.socket())
     }

@@ -1,4 +1,4 @@
-//! A client's side of its connection.
+//! The stream of a client's connection.
 ghost use Rattle.std.specs.Io.{ReadsAtMost};
 
 mod first;
@@ -6,26 +6,26 @@ mod lines;
 mod session;
 
 use crate::cancel_end::CancelEnd;
-use crate::doorway::Doorway;
+use crate::connection_limit::ConnectionLimit;
+use crate::connections::PendingId;
 use crate::error_kind::with_error;
 use crate::first_packet::FirstPacket;
-use crate::guests::Newcomer;
 use crate::{Connection, Deadline, Log, Machine};
 use std::alloc::Global;
 use std::io;
 use std::io::{Read, Write};
 use std::time::Duration;
 
-/// With what a connection is served.
+/// What a connection is served with.
 #[derive(Clone, Copy)]
-pub struct Entry<'a> {
-    /// The door by which it came in.
-    pub doorway: &'a Doorway,
-    /// Its place there.
-    pub newcomer: Newcomer,
-    /// Whether a session is served, or nothing but a cancel request.
+pub struct ConnectionContext<'a> {
+    /// The limit that admitted it.
+    pub limit: &'a ConnectionLimit,
+    /// Identifies it there.
+    pub pending: PendingId,
+    /// Whether a session is served, or only a cancel request.
     pub serves: Serves,
-    /// Until when its first packets have to come.
+    /// The deadline of its first packets.
     pub deadline: Deadline,
     /// The log.
     pub log: &'a Log,
@@ -33,34 +33,33 @@ pub struct Entry<'a> {
     pub node: u16,
 }
 
-/// A client's side of its connection. The first packets have a deadline; after that a read waits
-/// for as long as the client likes, but where the client has a link, no longer than its server
-/// keeps it, and where it has none and waits for nothing, no longer than until the group drains.
+/// The stream of a client's connection. The first packets have a deadline. After that a read has no
+/// time limit, but it fails if the server closes the client's link, or if the group drains while the
+/// client is idle.
 #[derive(Drop)]
 pub struct ClientStream<'a, M: Machine> {
     machine: &'a M,
     alloc: Global,
     connection: &'a Connection,
-    entry: Entry<'a>,
+    context: ConnectionContext<'a>,
     stage: Stage,
-    // When the last byte of a cancel request came.
-    cancel_came: Option<Duration>,
-    // What was read of the start-up packet behind its code, until it is answered, if the log has
-    // lines of what it asks for in vain.
+    // When the last byte of a cancel request was received.
+    cancel_received: Option<Duration>,
+    // The start-up packet after its code, as far as it was read, until it is answered. Only kept if
+    // the log has lines about parameters without effect.
     packet: Vec<u8>,
     // Whether the client is logged in, or was refused.
     is_answered: bool,
-    // Whether a read of the socket returns after a while.
-    reads_briefly: bool,
-    // What the last call was.
+    // Whether reads of the socket have a timeout.
+    has_timeout: bool,
+    // The last call.
     last: LastCall,
-    // Whether the last call before this one was a write that the client took: so nothing of a
-    // request was read.
+    // Whether the call before the last was a successful write: then nothing of a request was read.
     is_idle: bool,
-    // Whether the last read filled its buffer, so that more may be under way.
+    // Whether the last read filled its buffer, so that more may follow.
     is_sending: bool,
-    // What is to be written to the client when nothing is held any more.
-    words: Option<Vec<u8>>,
+    // The error to write to the client once nothing is held for it any more.
+    final_error: Option<Vec<u8>>,
 }
 
 /// Which connections are served.
@@ -68,58 +67,58 @@ pub struct ClientStream<'a, M: Machine> {
 pub enum Serves {
     /// All.
     All,
-    /// Those that cancel a request.
+    /// Cancel requests.
     Cancels,
 }
 
-// How far a connection is.
+// The stage of a connection.
 #[derive(Clone, Copy)]
 enum Stage {
-    // In its first packets, which have this deadline.
+    // Its first packets are read, with this deadline.
     First(FirstPacket, Deadline),
-    // The last byte of its cancel request was handed out and is unread.
+    // The last byte of its cancel request was returned, and is unread in the socket.
     Cancel,
-    // In its session.
+    // Its session.
     Session,
 }
 
-/// What the last call of a client's stream was.
+/// The last call of a client's stream.
 #[derive(Clone, Copy, Debug, PartialEq, Eq)]
 pub enum LastCall {
     /// A read, or none.
     Read,
-    /// A write that the client took.
+    /// A successful write.
     Wrote,
     /// A write that failed.
     Failed,
 }
 
 impl<'a, M: Machine> ClientStream<'a, M> {
-    /// The client's side of a connection of which nothing was read.
+    /// Returns the stream of a connection of which nothing was read.
     pub fn new(
         machine: &'a M,
         alloc: Global,
         connection: &'a Connection,
-        entry: Entry<'a>,
+        context: ConnectionContext<'a>,
     ) -> ClientStream<'a, M> {
         ClientStream {
             machine,
             alloc,
             connection,
-            entry,
-            stage: Stage::First(FirstPacket::new(), entry.deadline),
-            cancel_came: None,
+            context,
+            stage: Stage::First(FirstPacket::new(), context.deadline),
+            cancel_received: None,
             packet: Vec::new(alloc),
             is_answered: false,
-            reads_briefly: false,
+            has_timeout: false,
             last: LastCall::Read,
             is_idle: false,
             is_sending: false,
-            words: None,
+            final_error: None,
         }
     }
 
-    // Reads at the stage of the connection.
+    // Reads according to the stage.
     fn read_stage(&mut self, buffer: &mut [u8]) -> io::Result<usize>
         ensures bound { ReadsAtMost result buffer.new }
     {
@@ -130,14 +129,15 @@ impl<'a, M: Machine> ClientStream<'a, M> {
         }
     }
 
-    /// Whether the last byte of a cancel request is unread.
+    /// Returns whether the last byte of a cancel request is unread.
     pub fn holds_cancel(&self) -> bool {
         matches!(self.stage, Stage::Cancel)
     }
 
-    /// How the client's cancel request has ended, and in how many milliseconds, if it sent one.
+    /// Returns how the client's cancel request has ended, and after how many milliseconds, if it sent
+    /// one.
     pub fn cancel_end(&self) -> Option<(CancelEnd, u64)> {
-        let came = self.cancel_came?;
+        let came = self.cancel_received?;
         let now = self.machine.monotonic().ok()?;
         let millis = now.saturating_sub(came).as_millis();
         let end = if self.connection.is_given_up() {
@@ -148,19 +148,19 @@ impl<'a, M: Machine> ClientStream<'a, M> {
         Some((end, u64::try_from(millis).unwrap_or(u64::MAX)))
     }
 
-    /// Whether the client was in the midst of sending when it was last read.
+    /// Returns whether the last read filled its buffer, so that more may follow.
     pub fn is_sending(&self) -> bool {
         self.is_sending
     }
 
-    /// What the last call was.
+    /// Returns the last call.
     pub fn last_call(&self) -> LastCall {
         self.last
     }
 
-    /// What is to be written to the client when nothing is held any more.
-    pub fn take_words(&mut self) -> Option<Vec<u8>> {
-        self.words.take()
+    /// Takes the error to write to the client once nothing is held for it any more.
+    pub fn take_final_error(&mut self) -> Option<Vec<u8>> {
+        self.final_error.take()
     }
 }
 
@@ -170,7 +170,7 @@ impl<'a, M: Machine> Read for ClientStream<'a, M> {
         self.is_idle = self.last == LastCall::Wrote;
         self.last = LastCall::Read;
         if !self.is_ready() {
-            return with_error(self.read_slowly(buffer));
+            return with_error(self.read_slow(buffer));
         }
         let room = buffer.len();
         let mut socket = self.connection.socket();
@@ -180,7 +180,7 @@ impl<'a, M: Machine> Read for ClientStream<'a, M> {
                 self.is_sending = count == room;
                 Ok(count)
             }
-            Err(error) => with_error(self.read_on(error.kind(), buffer)),
+            Err(error) => with_error(self.read_after_error(error.kind(), buffer)),
         }
     }
 }

@@ -1,10 +1,10 @@
-//! What a client in its session sends.
+//! Reads of a client in its session.
 ghost use Rattle.std.specs.Io.{ReadsAtMost};
 
 use super::{ClientStream, Stage};
 use crate::error_kind::with_kind;
-use crate::last_words::{last_words, shutdown_words};
-use crate::limits::LOOK_MILLIS;
+use crate::final_error::{final_error, shutdown_error};
+use crate::limits::POLL_MILLIS;
 use crate::link_stream::is_pause;
 use crate::log::Event;
 use crate::poll::{is_ended, wait_either};
@@ -18,16 +18,16 @@ impl<'a, M: Machine> ClientStream<'a, M> {
     pub(super) fn read_session(&mut self, buffer: &mut [u8]) -> io::Result<usize>
         ensures bound { ReadsAtMost result buffer.new }
     {
-        self.end_if_draining()?;
-        if !self.reads_briefly && self.has_to_look() {
-            let pause = Duration::from_millis(LOOK_MILLIS);
+        self.fail_if_draining()?;
+        if !self.has_timeout && self.needs_timeout() {
+            let pause = Duration::from_millis(POLL_MILLIS);
             self.connection.socket().set_read_timeout(Some(pause))?;
-            self.reads_briefly = true;
+            self.has_timeout = true;
         }
         self.read_socket(buffer)
     }
 
-    // Reads the socket when something comes.
+    // Reads the socket, and repeats that after timeouts.
     fn read_socket(&mut self, buffer: &mut [u8]) -> io::Result<usize>
         ensures bound { ReadsAtMost result buffer.new }
     {
@@ -38,24 +38,24 @@ impl<'a, M: Machine> ClientStream<'a, M> {
                     self.connection.meter().receive(count);
                     return Ok(count);
                 }
-                Err(error) if is_pause(&error) => self.look_around()?,
+                Err(error) if is_pause(&error) => self.check_link_and_drain()?,
                 Err(error) => return Err(error),
             }
         }
         Err(io::Error::from(ErrorKind::TimedOut))
     }
 
-    // Whether a read of the socket is all that a read takes, if something comes.
+    // Returns whether a read of the stream may begin with a read of the socket.
     #[inline(always)]
     pub(super) fn is_ready(&self) -> bool {
         matches!(self.stage, Stage::Session)
-            && (self.reads_briefly || !self.has_to_look())
-            && !self.is_to_end()
+            && (self.has_timeout || !self.needs_timeout())
+            && !self.has_to_end()
     }
 
-    // Reads, whatever that takes.
+    // Reads if `is_ready` is false.
     #[inline(never)]
-    pub(super) fn read_slowly(&mut self, buffer: &mut [u8]) -> Result<usize, ErrorKind>
+    pub(super) fn read_slow(&mut self, buffer: &mut [u8]) -> Result<usize, ErrorKind>
         ensures bound { ReadsAtMost result buffer.new }
     {
         let room = buffer.len();
@@ -66,9 +66,9 @@ impl<'a, M: Machine> ClientStream<'a, M> {
         with_kind(read)
     }
 
-    // Goes on after a read of the socket that failed.
+    // Continues after a failed read of the socket.
     #[inline(never)]
-    pub(super) fn read_on(
+    pub(super) fn read_after_error(
         &mut self,
         error: ErrorKind,
         buffer: &mut [u8],
@@ -83,7 +83,7 @@ impl<'a, M: Machine> ClientStream<'a, M> {
         with_kind(read)
     }
 
-    // Reads the socket when something comes, after a read of it that failed.
+    // Reads the socket again after a timeout. Fails with any other error.
     fn read_again(&mut self, error: ErrorKind, buffer: &mut [u8]) -> io::Result<usize>
         ensures bound { ReadsAtMost result buffer.new }
     {
@@ -91,59 +91,59 @@ impl<'a, M: Machine> ClientStream<'a, M> {
         if !is_pause(&error) {
             return Err(error);
         }
-        self.look_around()?;
+        self.check_link_and_drain()?;
         self.read_socket(buffer)
     }
 
-    // Whether anything but the client can end the wait for it.
-    fn has_to_look(&self) -> bool {
-        self.connection.link().is_some() || self.entry.doorway.drain_signal().is_some()
+    // Returns whether something beside the client may end a read.
+    fn needs_timeout(&self) -> bool {
+        self.connection.link().is_some() || self.context.limit.drain_signal().is_some()
     }
 
-    // Nothing came from the client for a while. It fails if the server has ended the client's link,
-    // and keeps what it said, or if the group drains and the client is idle. Otherwise a client
-    // without a link may be silent for ever.
-    fn look_around(&mut self) -> io::Result<()> {
+    // Called when a read has timed out. Fails if the server has closed the client's link, and keeps
+    // its final error; or if the group drains and the client is idle. If neither can happen, reads
+    // have no timeout any more.
+    fn check_link_and_drain(&mut self) -> io::Result<()> {
         match self.connection.link() {
             Some(link) if is_ended(link) => {
-                self.words = last_words(self.alloc, link).ok();
-                if let Some(words) = &self.words {
-                    self.write_error(Event::LinkLost, words.as_slice());
+                self.final_error = final_error(self.alloc, link).ok();
+                if let Some(error) = &self.final_error {
+                    self.write_error(Event::LinkLost, error.as_slice());
                 }
                 Err(io::Error::from(ErrorKind::ConnectionAborted))
             }
             Some(_) => Ok(()),
-            None => match self.entry.doorway.drain_signal() {
+            None => match self.context.limit.drain_signal() {
                 Some(signal) => self.wait_for_client(signal),
                 None => {
-                    self.reads_briefly = false;
+                    self.has_timeout = false;
                     self.connection.socket().set_read_timeout(None)
                 }
             },
         }
     }
 
-    // Waits for a client without a link. It fails if the group drains and the client is idle.
+    // Waits for input of a client without a link. Fails if the group drains and the client is idle.
     fn wait_for_client(&mut self, signal: &DrainSignal) -> io::Result<()> {
         if !signal.is_sent() {
             wait_either(self.connection.descriptor(), signal.descriptor());
         }
-        self.end_if_draining()
+        self.fail_if_draining()
     }
 
-    // Fails if the group drains and the client has no link and sent nothing of a request. The error
-    // is kept, and is written when nothing is held for the client any more.
-    fn end_if_draining(&mut self) -> io::Result<()> {
-        if self.is_to_end() {
-            self.words = shutdown_words(self.alloc).ok();
+    // Fails if the group drains and the client is idle. Keeps the final error.
+    fn fail_if_draining(&mut self) -> io::Result<()> {
+        if self.has_to_end() {
+            self.final_error = shutdown_error(self.alloc).ok();
             return Err(io::Error::from(ErrorKind::ConnectionAborted));
         }
         Ok(())
     }
 
-    // Whether the group drains, and the client has no link and sent nothing of a request.
+    // Returns whether the group drains, and the client is idle: it has no link and has sent nothing
+    // of a request.
     #[inline(always)]
-    fn is_to_end(&self) -> bool {
-        self.is_idle && self.entry.doorway.is_draining() && self.connection.link().is_none()
+    fn has_to_end(&self) -> bool {
+        self.is_idle && self.context.limit.is_draining() && self.connection.link().is_none()
     }
 }

@@ -1,10 +1,10 @@
-//! What lines of the log are about.
+//! The events of the log, and their levels.
 ghost use Rattle.std.specs.Prelude.{◌≤◌, ◌<◌, ◌↔◌, IsTrue};
 ghost use Rattle.group_server.specs.Levels.{rank};
 
-use crate::limits::LINES_A_SECOND;
+use crate::limits::LINES_PER_SECOND;
 
-/// What a line of the log is about.
+/// An event of the log.
 #[derive(Clone, Copy, Debug, PartialEq, Eq)]
 pub enum Event {
     /// The group listens.
@@ -21,13 +21,13 @@ pub enum Event {
     LinkConnectFailed,
     /// A link can't log in at its server.
     LinkLoginFailed,
-    /// A server ended a link while a client had it.
+    /// A server closed a link while a client had it.
     LinkLost,
-    /// A link that nobody used is closed, since it isn't as it was left.
+    /// An idle link is closed: its server has closed it, sent something, or reports another value.
     LinkClosed,
     /// A server or a peer can't be connected to for a cancel request.
     CancelConnectFailed,
-    /// A server or a peer didn't end the connection of a cancel request cleanly.
+    /// A server or a peer didn't close the connection of a cancel request cleanly.
     CancelFailed,
     /// A client was refused.
     ClientRefused,
@@ -39,16 +39,16 @@ pub enum Event {
     CancelEnded,
     /// The group drains.
     Stopping,
-    /// The group serves no longer.
+    /// The group has stopped.
     Stopped,
     /// A message of a client or of a server is longer than the limit.
     MessageTooLong,
 }
 
-/// How many kinds of lines there are.
+/// The number of kinds of events.
 pub const EVENTS: usize = 18;
 
-/// The kinds of lines.
+/// The kinds of events.
 pub const KINDS: [Event; EVENTS] = [
     Event::Started,
     Event::NodeListens,
@@ -70,19 +70,19 @@ pub const KINDS: [Event; EVENTS] = [
     Event::MessageTooLong,
 ];
 
-/// How much a line matters, in descending order.
+/// The importance of an event, in descending order.
 #[derive(Clone, Copy, Debug, PartialEq, Eq)]
 pub enum Level {
-    /// Somebody may have to look into it.
+    /// May need attention.
     Warn,
-    /// It happens seldom, and may explain something else.
+    /// Rare, and may explain other events.
     Notice,
-    /// It happens often, and is as it should be.
+    /// Frequent and normal.
     Info,
 }
 
 impl Level {
-    /// Its name in a line.
+    /// Returns its name in the log.
     pub fn name(self) -> &'static str {
         match self {
             Level::Warn => "warn",
@@ -91,8 +91,8 @@ impl Level {
         }
     }
 
-    /// Whether lines of this level are written where the least important that are written have the
-    /// level `least`.
+    /// Returns whether lines of this level are written, if `least` is the least important level that
+    /// is.
     pub fn is_written(self, least: Level) -> bool
         ensures { IsTrue result ↔ (rank self ≤ rank least) }
     {
@@ -105,7 +105,7 @@ impl Level {
 }
 
 impl Event {
-    /// Its place among the kinds.
+    /// Returns its position in `KINDS`.
     pub fn place(self) -> usize
         ensures { result < 18 }
     {
@@ -131,7 +131,7 @@ impl Event {
         }
     }
 
-    /// Its name in a line.
+    /// Returns its name in the log.
     pub fn name(self) -> &'static str {
         match self {
             Event::Started => "started",
@@ -155,7 +155,7 @@ impl Event {
         }
     }
 
-    /// How much its lines matter.
+    /// Returns its level.
     pub fn level(self) -> Level {
         match self {
             Event::Started
@@ -169,12 +169,12 @@ impl Event {
         }
     }
 
-    /// How many of its lines are written in a second, at most.
+    /// Returns how many of its lines are written per second, at most.
     pub fn limit(self) -> u32 {
         match self {
             Event::Started | Event::NodeListens => u32::MAX,
             Event::ParametersDropped => 1,
-            _ => LINES_A_SECOND,
+            _ => LINES_PER_SECOND,
         }
     }
 }

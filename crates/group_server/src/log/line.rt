@@ -18,17 +18,17 @@ pub enum Value<'a> {
     Number(u64),
     /// A host and a port.
     Address(&'a str, u16),
-    /// The address of a connection's other side.
+    /// The address of a connection's peer.
     Peer(&'a TcpStream),
-    /// Why a call failed.
+    /// An error.
     Error(&'a io::Error),
 }
 
 /// A value of a line, with its name.
 pub type Field<'a> = (&'a str, Value<'a>);
 
-/// The line of an event at a node, or at none, with fields that are written already and these. It
-/// has no line break.
+/// Returns the line of an event, without a line break. `names` are fields that are already text, each
+/// after a space.
 pub fn line_of<R: Clock>(
     rt: &R,
     alloc: Global,
@@ -43,7 +43,7 @@ pub fn line_of<R: Clock>(
     Ok(text)
 }
 
-/// The line that says how many lines of an event were left out. It has their level.
+/// Returns the line that says how many lines of an event were left out. It has the event's level.
 pub fn left_out_line<R: Clock>(
     rt: &R,
     alloc: Global,
@@ -59,7 +59,7 @@ pub fn left_out_line<R: Clock>(
     Ok(text)
 }
 
-// What stands before the fields of a line: the time, the node, the level and the event.
+// Returns the start of a line, before its fields: the time, the node, the level and the event.
 fn start_of<R: Clock>(
     rt: &R,
     alloc: Global,
@@ -75,7 +75,7 @@ fn start_of<R: Clock>(
     }
 }
 
-// The time, by RFC 3339, in UTC and with milliseconds; or `-`, where the clock can't be read.
+// Returns the time by RFC 3339, in UTC and with milliseconds; or `-` if the clock can't be read.
 fn time_text<R: Clock>(rt: &R, alloc: Global) -> Result<String, AllocError> {
     match Timestamp::now(rt) {
         Ok(now) => format!(in alloc; "{now:.3}"),
@@ -83,7 +83,7 @@ fn time_text<R: Clock>(rt: &R, alloc: Global) -> Result<String, AllocError> {
     }
 }
 
-/// Appends fields, each behind a blank.
+/// Appends fields, each after a space.
 pub fn put_fields(
     alloc: Global,
     text: &mut String,
@@ -115,8 +115,8 @@ fn put_value(alloc: Global, text: &mut String, value: Value<'_>) -> Result<(), A
     }
 }
 
-// Appends a text: as it is if it has nothing but what is seen of ASCII and no quote, and in
-// quotes otherwise.
+// Appends a text: in quotes unless it is short and consists of printable ASCII characters other than
+// `"`, `=` and `\`.
 fn put_text(text: &mut String, value: &str) -> Result<(), AllocError> {
     if is_plain(value) {
         return text.push_str(value);
@@ -137,7 +137,7 @@ fn is_plain(value: &str) -> bool {
     !value.is_empty() && value.len() <= LONGEST_VALUE && !value.as_bytes().iter().any(is_quoted)
 }
 
-// Appends a character between quotes. One that isn't seen is written by its number.
+// Appends a character of a quoted text. Control characters are escaped.
 fn put_character(text: &mut String, character: char) -> Result<(), AllocError> {
     match character {
         '"' | '\\' => {

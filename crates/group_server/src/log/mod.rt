@@ -1,4 +1,4 @@
-//! The log: what happens while a group serves, for its operator.
+//! The log of a group, for its operator.
 mod event;
 mod line;
 
@@ -12,35 +12,35 @@ use std::io::Eprint;
 use std::sync::{Condvar, CondvarTimeouts, Mutex, Wait};
 use std::time::{Clock, Duration};
 
-// How many milliseconds it takes to count lines of a kind.
+// The period, in milliseconds, over which lines are limited.
 const SECOND: u64 = 1_000;
 
-/// The log of a process. Its lines wait to be written by a thread of their own, so that nobody else
-/// waits for standard error. In a second no more lines of a kind are written than its limit; then
-/// one says how many were left out.
+/// The log of a process. Its lines are queued, and a separate thread writes them, so that no other
+/// thread blocks on standard error. The number of lines of a kind per second is limited; another line
+/// says how many were left out.
 #[derive(Drop)]
 pub struct Log {
     alloc: Global,
-    // The level of the least important lines that are written.
+    // The least important level that is written.
     least: Level,
     queue: Mutex<Queue>,
     filled: Condvar,
     emptied: Condvar,
 }
 
-// The lines that wait to be written, and the counts of each kind.
+// The lines to write, and the counts of each kind.
 #[derive(Drop)]
 struct Queue {
     lines: VecDeque<String>,
-    // Whether a line was taken that may not be written yet.
+    // Whether a line that was taken from the queue may not be written yet.
     is_writing: bool,
     counts: [Counts; EVENTS],
 }
 
-// How many lines of a kind there were, in all and of late.
+// The counts of lines of a kind: in all, and in the current second.
 #[derive(Clone, Copy)]
 struct Counts {
-    // When the second began in which lines are counted, if there was a line.
+    // When the current second began, if there was a line.
     began: Option<Duration>,
     given: u32,
     left_out: u64,
@@ -48,7 +48,7 @@ struct Counts {
 }
 
 impl Log {
-    /// No line was written. The least important lines that are have the level `least`.
+    /// Returns an empty log. `least` is the least important level that is written.
     pub fn new(alloc: Global, least: Level) -> Log {
         let none = Counts {
             began: None,
@@ -69,14 +69,13 @@ impl Log {
         }
     }
 
-    /// Whether lines of this event are written.
+    /// Returns whether lines of this event are written.
     pub fn has(&self, event: Event) -> bool {
         event.level().is_written(self.least)
     }
 
-    /// Writes the line of an event at a node, or at none, with these fields, if the log has lines
-    /// of its level. It is left out where its kind is at its limit, where as many lines wait as
-    /// may, or where there is no memory for it.
+    /// Queues the line of an event with these fields, if the log has lines of its level. It is left
+    /// out if its kind is at its limit, if the queue is full, or if memory runs out.
     pub fn write<R: Wait + Clock>(
         &self,
         rt: &R,
@@ -87,7 +86,7 @@ impl Log {
         self.write_of(rt, node, event, "", fields);
     }
 
-    /// The same, with fields before these that are written already, each behind a blank.
+    /// Like `write`, with fields before these that are already text, each after a space.
     pub fn write_of<R: Wait + Clock>(
         &self,
         rt: &R,
@@ -108,13 +107,13 @@ impl Log {
                 let line = line_of(rt, self.alloc, node, event, names, fields);
                 self.queue.lock(rt).push(event, line.ok());
             }
-            Verdict::BeginToLeaveOut => {}
+            Verdict::LeaveOutFirst => {}
             Verdict::LeaveOut => return,
         }
         self.filled.notify_one();
     }
 
-    /// How many events of each kind there were, also those whose lines were left out.
+    /// Returns the number of events of each kind, also of those whose lines were left out.
     pub fn totals<R: Wait>(&self, rt: &R) -> [u64; EVENTS] {
         let mut totals = [0; EVENTS];
         let queue = self.queue.lock(rt);
@@ -124,10 +123,10 @@ impl Log {
         totals
     }
 
-    // Waits for a line, or, if some were left out, no longer than a second.
+    // Waits for a line; if lines were left out, at most for a second.
     fn wait<R: Wait + Clock>(&self, rt: &R) {
         let queue = self.queue.lock(rt);
-        if queue.is_short() {
+        if queue.has_left_out() {
             let _ = self
                 .filled
                 .wait_timeout_while(rt, queue, second(), |queue| queue.lines.is_empty());
@@ -135,13 +134,13 @@ impl Log {
             let _ = self.filled.wait_while(
                 rt,
                 queue,
-                |queue| queue.lines.is_empty() && !queue.is_short(),
+                |queue| queue.lines.is_empty() && !queue.has_left_out(),
             );
         }
     }
 
-    /// Takes the next line, if there is one: one that waits, or one that says how many of a kind
-    /// were left out in a second that is over.
+    /// Takes the next line, if there is one: from the queue, or one that says how many of a kind were
+    /// left out in a second that is over.
     pub fn next<R: Wait + Clock>(&self, rt: &R) -> Option<String> {
         let Ok(now) = rt.monotonic() else {
             return None;
@@ -155,8 +154,7 @@ impl Log {
         left_out_line(rt, self.alloc, event, count).ok()
     }
 
-    /// Writes the lines to standard error as they come, for as long as the process runs. Nobody
-    /// else waits where it can't be written to.
+    /// Writes queued lines to standard error, for as long as the process runs.
     pub fn write_all<R: Wait + Clock + Eprint>(&self, rt: &R) {
         for _ in rt.forever() {
             self.wait(rt);
@@ -168,8 +166,7 @@ impl Log {
         }
     }
 
-    /// Waits until the lines that wait are written, but not long: where standard error can't be
-    /// written to, the process ends without them.
+    /// Waits until the queued lines are written, at most for `LAST_LINES_MILLIS`.
     pub fn finish<R: Wait + Clock>(&self, rt: &R) {
         let queue = self.queue.lock(rt);
         let limit = Duration::from_millis(LAST_LINES_MILLIS);
@@ -179,19 +176,20 @@ impl Log {
     }
 }
 
-// What becomes of a line.
+// What to do with a line.
 #[derive(Clone, Copy)]
 enum Verdict {
-    // It is written.
+    // Write it.
     Write,
-    // It is left out, the first of its kind: whoever writes the lines wakes up within a second.
-    BeginToLeaveOut,
-    // It is left out, as one before it.
+    // Leave it out, as the first of its kind: the thread that writes the lines has to wake up within
+    // a second.
+    LeaveOutFirst,
+    // Leave it out, as others before it.
     LeaveOut,
 }
 
 impl Queue {
-    // What becomes of a line of this kind now. It counts as written or as left out.
+    // Returns what to do with a line of this kind, and counts it.
     fn judge(&mut self, event: Event, now: Duration) -> Verdict {
         let counts = &mut self.counts[event.place()];
         counts.total = counts.total.saturating_add(1);
@@ -205,14 +203,13 @@ impl Queue {
         }
         counts.left_out = counts.left_out.saturating_add(1);
         if counts.left_out == 1 {
-            Verdict::BeginToLeaveOut
+            Verdict::LeaveOutFirst
         } else {
             Verdict::LeaveOut
         }
     }
 
-    // Puts a line at the end, if there was memory for it and there is room. It counts as left out
-    // otherwise.
+    // Queues a line. Counts it as left out if there is no memory for it or the queue is full.
     fn push(&mut self, event: Event, line: Option<String>) {
         if !self.keep(line) {
             let counts = &mut self.counts[event.place()];
@@ -220,7 +217,7 @@ impl Queue {
         }
     }
 
-    // Puts a line at the end. Returns whether there was room and memory for it.
+    // Queues a line. Returns false if there is no memory for it or the queue is full.
     fn keep(&mut self, line: Option<String>) -> bool {
         match line {
             Some(line) => self.lines.len() < LINES_KEPT && self.lines.push_back(line).is_ok(),
@@ -228,18 +225,17 @@ impl Queue {
         }
     }
 
-    // Whether a line isn't written yet.
+    // Returns whether a line isn't written yet.
     fn has_unwritten(&self) -> bool {
         self.is_writing || !self.lines.is_empty()
     }
 
-    // Whether lines were left out.
-    fn is_short(&self) -> bool {
+    // Returns whether lines were left out.
+    fn has_left_out(&self) -> bool {
         self.counts.iter().any(|counts| counts.left_out > 0)
     }
 
-    // A kind of which lines were left out, and how many, once its second is over. From then on none
-    // counts as left out.
+    // Takes a kind of which lines were left out in a second that is over, and their number.
     fn take_left_out(&mut self, now: Duration) -> Option<(Event, u64)> {
         for event in KINDS {
             let counts = &mut self.counts[event.place()];
@@ -254,7 +250,7 @@ impl Queue {
 }
 
 impl Counts {
-    // Whether the second is over in which lines are counted.
+    // Returns whether the current second is over.
     fn is_over(&self, now: Duration) -> bool {
         match self.began {
             Some(began) => now.saturating_sub(began) >= second(),

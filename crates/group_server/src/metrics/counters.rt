@@ -1,50 +1,50 @@
-//! What is counted of the databases of a node while it serves clients.
+//! Counters of the databases of a node.
 use crate::metrics::waits::{WaitCounts, Waits};
 use ini_config::{Group, Settings};
 use std::alloc::{AllocError, Global};
 use std::sync::Arc;
 use std::sync::atomic::{AtomicU64, Ordering};
 
-/// What is counted of the nodes of a group, in their order.
+/// The counters of a group's nodes, in their order.
 #[derive(Drop)]
 pub struct Counters {
     nodes: Vec<Arc<NodeCounters, Global>>,
 }
 
-/// What is counted of the databases of a node, in the order of its settings.
+/// The counters of a node's databases, in the order of its settings.
 #[derive(Drop)]
 pub struct NodeCounters {
     pools: Vec<Arc<PoolCounters, Global>>,
-    // The waits of clients that left before their database was known here.
+    // The waits of clients that closed their connection before their database was known.
     strangers: Waits,
 }
 
-/// What is counted of a database of a node.
+/// The counters of a database of a node.
 #[derive(Drop)]
 pub struct PoolCounters {
-    // How many transactions have ended on its links.
+    // The number of transactions that have ended on its links.
     transactions: AtomicU64,
-    // How many bytes came from its clients, and went to them.
+    // The number of bytes received from its clients, and sent to them.
     received: AtomicU64,
     sent: AtomicU64,
     waits: Waits,
 }
 
-/// What was counted of a database of a node.
+/// The values of the counters of a database of a node.
 #[derive(Clone, Copy, Debug, PartialEq, Eq)]
 pub struct Passed {
-    /// How many transactions have ended on its links.
+    /// The number of transactions that have ended on its links.
     pub transactions: u64,
-    /// How many bytes came from its clients.
+    /// The number of bytes received from its clients.
     pub received: u64,
-    /// How many bytes went to its clients.
+    /// The number of bytes sent to its clients.
     pub sent: u64,
     /// How long its clients waited for a link.
     pub waits: WaitCounts,
 }
 
 impl Counters {
-    /// Nothing was counted of the nodes of this group.
+    /// Returns the counters of this group's nodes, all zero.
     pub fn new(alloc: Global, group: &Group) -> Result<Counters, AllocError> {
         let mut nodes = Vec::with_capacity(alloc, group.len())?;
         for settings in group.nodes() {
@@ -53,14 +53,14 @@ impl Counters {
         Ok(Counters { nodes })
     }
 
-    /// What is counted of the node at this place of the group.
+    /// Returns the counters of the node at this place of the group.
     pub fn node(&self, place: usize) -> Option<&Arc<NodeCounters, Global>> {
         self.nodes.get(place)
     }
 }
 
 impl NodeCounters {
-    /// Nothing was counted of a node with these settings.
+    /// Returns the counters of a node with these settings, all zero.
     pub fn new(alloc: Global, settings: &Settings) -> Result<NodeCounters, AllocError> {
         let mut pools = Vec::with_capacity(alloc, settings.database_count())?;
         for _ in 0..settings.database_count() {
@@ -72,19 +72,19 @@ impl NodeCounters {
         })
     }
 
-    /// What is counted of the database at this place of the settings.
+    /// Returns the counters of the database at this place of the settings.
     pub fn pool(&self, place: usize) -> Option<&Arc<PoolCounters, Global>> {
         self.pools.get(place)
     }
 
-    /// The waits of clients that left before their database was known here.
+    /// Returns the waits of clients that closed their connection before their database was known.
     pub fn strangers(&self) -> &Waits {
         &self.strangers
     }
 }
 
 impl PoolCounters {
-    // Nothing was counted of a database.
+    // Returns the counters of a database, all zero.
     fn new(alloc: Global) -> Result<PoolCounters, AllocError> {
         Ok(PoolCounters {
             transactions: AtomicU64::new(0),
@@ -94,25 +94,25 @@ impl PoolCounters {
         })
     }
 
-    /// A transaction has ended.
+    /// Counts a transaction that has ended.
     #[inline]
     pub fn end(&self) {
         self.transactions.fetch_add(1, Ordering::SeqCst);
     }
 
-    /// This many bytes came from a client and went to it.
+    /// Counts bytes that were received from a client and sent to it.
     #[inline]
     pub fn pass(&self, received: u64, sent: u64) {
         self.received.fetch_add(received, Ordering::SeqCst);
         self.sent.fetch_add(sent, Ordering::SeqCst);
     }
 
-    /// The waits of its clients.
+    /// Returns the waits of its clients.
     pub fn waits(&self) -> &Waits {
         &self.waits
     }
 
-    /// What was counted.
+    /// Returns the values.
     pub fn passed(&self) -> Passed {
         Passed {
             transactions: self.transactions.load(Ordering::SeqCst),

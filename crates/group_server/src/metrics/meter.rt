@@ -1,4 +1,4 @@
-//! What is counted of one connection, until it is added to what is counted of its database.
+//! The counts of one connection, which are added to the counters of its database.
 use crate::metrics::counters::{NodeCounters, PoolCounters};
 use pg_ids::DatabaseNo;
 use std::alloc::Global;
@@ -6,29 +6,29 @@ use std::cell::{Cell, OnceCell};
 use std::sync::Arc;
 use std::time::{Clock, Duration};
 
-/// What is counted of one connection, if anything is. The clock is read only where its client waits
+/// The counts of one connection, if anything is counted. The clock is only read when its client waits
 /// for a link.
 #[derive(Drop)]
 pub struct Meter {
     node: Option<Arc<NodeCounters, Global>>,
-    // What is counted of the database, once that is known.
+    // The counters of its database, once that is known.
     pool: OnceCell<Arc<PoolCounters, Global>>,
-    // How many bytes came from the client and went to it since they were added up last.
+    // The number of bytes received and sent since they were last added to the counters.
     received: Cell<u64>,
     sent: Cell<u64>,
-    // Whether its client has waited for a link and got none so far.
+    // Whether its client waits for a link.
     waits: Cell<bool>,
-    // When its client began to wait last, as far as that is known.
+    // When its client last began to wait, if known.
     since: Cell<Option<Duration>>,
 }
 
 impl Meter {
-    /// Nothing is counted of a connection.
+    /// Returns a meter that counts nothing.
     pub fn none() -> Meter {
         Meter::of(None)
     }
 
-    /// What is counted of a connection of this node.
+    /// Returns the meter of a connection to this node.
     pub fn of(node: Option<Arc<NodeCounters, Global>>) -> Meter {
         Meter {
             node,
@@ -40,13 +40,13 @@ impl Meter {
         }
     }
 
-    /// This many bytes of its session came from the client.
+    /// Counts bytes of its session that were received from the client.
     #[inline]
     pub fn receive(&self, count: usize) {
         add(&self.received, count);
     }
 
-    /// This many bytes went to the client. One that waited for a link got none.
+    /// Counts bytes that were sent to the client. If it waits for a link, the wait has ended.
     #[inline]
     pub fn send<R: Clock>(&self, rt: &R, count: usize) {
         add(&self.sent, count);
@@ -55,28 +55,28 @@ impl Meter {
         }
     }
 
-    /// The client is about to wait for a link.
+    /// The client may have to wait for a link from now on.
     pub fn begin_wait<R: Clock>(&self, rt: &R) {
         if self.node.is_some() && !self.waits.get() {
             self.since.set(rt.monotonic().ok());
         }
     }
 
-    /// The client has waited for a link since it was about to.
+    /// The client waits for a link, since the last `begin_wait`.
     pub fn wait(&self) {
         if self.node.is_some() {
             self.waits.set(true);
         }
     }
 
-    /// The client waits for a link of this database that is opened for it.
+    /// The client waits for a link of this database, which is opened for it.
     pub fn open<R: Clock>(&self, rt: &R, database: DatabaseNo) {
         self.begin_wait(rt);
         self.wait();
         self.know(database);
     }
 
-    // The client waits no longer.
+    // Ends a wait.
     #[inline(never)]
     fn end_wait<R: Clock>(&self, rt: &R) {
         self.waits.set(false);
@@ -85,7 +85,7 @@ impl Meter {
         }
     }
 
-    // The client has waited for this long.
+    // Counts a wait of this length.
     fn add_wait(&self, time: Duration) {
         if let Some(pool) = self.pool.get() {
             pool.waits().add(time);
@@ -94,7 +94,7 @@ impl Meter {
         }
     }
 
-    /// The connection's client is one of this database, or its cancel request is sent there.
+    /// Sets the database of the client, or of its cancel request, if it wasn't known.
     #[inline(never)]
     pub fn know(&self, database: DatabaseNo) {
         if self.pool.get().is_some() {
@@ -109,7 +109,7 @@ impl Meter {
         }
     }
 
-    /// The client has a link of this database.
+    /// The client has got a link of this database.
     #[inline]
     pub fn begin<R: Clock>(&self, rt: &R, database: DatabaseNo) {
         if self.node.is_none() {
@@ -123,7 +123,7 @@ impl Meter {
         }
     }
 
-    /// The client has ended its transaction, and has no link any more.
+    /// The client has ended its transaction and released its link.
     #[inline]
     pub fn end(&self) {
         if self.node.is_none() {
@@ -135,7 +135,7 @@ impl Meter {
         }
     }
 
-    /// The connection is at its end.
+    /// The connection has ended.
     pub fn finish<R: Clock>(&self, rt: &R) {
         if self.waits.get() {
             self.end_wait(rt);

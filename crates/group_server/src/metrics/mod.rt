@@ -1,4 +1,4 @@
-//! Metrics: what is counted while a group serves, and a port at which Prometheus reads it.
+//! Metrics: counters of a group, and the port at which Prometheus reads them.
 mod counters;
 mod meter;
 mod page;

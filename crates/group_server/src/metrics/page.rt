@@ -5,8 +5,8 @@ use crate::metrics::text::{Kind, labels_with, put_head, put_line, put_sample};
 use crate::metrics::waits::{BOUNDS_MICROS, WaitCounts};
 use std::alloc::{AllocError, Global};
 
-/// The metrics of the nodes of a group, and of the log of their process, whose events are given in
-/// the order of their kinds.
+/// Returns the metrics of a group's nodes, and the number of the log's events, which are in the order
+/// of their kinds.
 pub fn page_of(
     alloc: Global,
     version: &str,
@@ -32,7 +32,7 @@ pub fn page_of(
     Ok(page.text)
 }
 
-// A page that is written.
+// A page that is being written.
 #[derive(Drop)]
 struct Page {
     alloc: Global,
@@ -156,7 +156,7 @@ impl PoolMetric {
     }
 }
 
-// The metric of clients, and what it counts: a state, and how many clients are in it.
+// The metric of clients, by state.
 const CLIENTS: &str = "pgpeer_clients";
 
 const CLIENT_STATES: [&str; 4] = ["none", "waiting", "opening", "link"];
@@ -166,7 +166,7 @@ fn clients_in(pool: &PoolState) -> [u64; 4] {
     [clients.none, clients.waiting, clients.opening, clients.link]
 }
 
-// The metric of links, and what it counts: a place, and how many links are there.
+// The metric of links, by place.
 const LINKS: &str = "pgpeer_links";
 
 const LINK_PLACES: [&str; 4] = ["opening", "idle", "held", "quarantined"];
@@ -177,7 +177,7 @@ fn links_at(pool: &PoolState) -> [u64; 4] {
 }
 
 impl Page {
-    // Appends the metric that says which program this is.
+    // Appends the metric that has the program's version.
     fn put_build(&mut self, version: &str) -> Result<(), AllocError> {
         let name = "pgpeer_build_info";
         put_head(&mut self.text, name, Kind::Gauge, "The program that runs.")?;
@@ -190,7 +190,7 @@ impl Page {
         put_sample(self.alloc, &mut self.text, name, labels, value)
     }
 
-    // Appends a value with one label more.
+    // Appends a value with another label.
     fn put_with(
         &mut self,
         name: &str,
@@ -236,7 +236,7 @@ impl Page {
         Ok(())
     }
 
-    // Appends how many clients are in which state.
+    // Appends the number of clients by state.
     fn put_clients(&mut self, nodes: &[NodeState]) -> Result<(), AllocError> {
         let help = "Clients that are logged in, by state.";
         put_head(&mut self.text, CLIENTS, Kind::Gauge, help)?;
@@ -249,7 +249,7 @@ impl Page {
         Ok(())
     }
 
-    // Appends how many links are where.
+    // Appends the number of links by place.
     fn put_links(&mut self, nodes: &[NodeState]) -> Result<(), AllocError> {
         let help = "Server connections, by place.";
         put_head(&mut self.text, LINKS, Kind::Gauge, help)?;
@@ -262,7 +262,7 @@ impl Page {
         Ok(())
     }
 
-    // Appends these values, each with the value of one label more that stands at its place.
+    // Appends these values, each with another label, whose value is at the same place of `of`.
     fn put_each(
         &mut self,
         name: &str,
@@ -290,7 +290,7 @@ impl Page {
         Ok(())
     }
 
-    // Appends the waits of clients: how many there were up to each bound, in all, and their sum.
+    // Appends the waits of clients: their number up to each bound, their sum, and their number.
     fn put_waits(&mut self, labels: &[u8], waits: &WaitCounts) -> Result<(), AllocError> {
         let mut total: u64 = 0;
         for (place, count) in waits.buckets.iter().enumerate() {
@@ -307,7 +307,7 @@ impl Page {
         self.put("pgpeer_wait_seconds_count", labels, total)
     }
 
-    // Appends how many waits there were up to this bound, or in all.
+    // Appends the number of waits up to this bound, or of all waits.
     fn put_bucket(
         &mut self,
         labels: &[u8],
@@ -325,7 +325,7 @@ impl Page {
         }
     }
 
-    // Appends how many events of each kind there were.
+    // Appends the number of events of each kind.
     fn put_events(&mut self, events: &[u64; EVENTS]) -> Result<(), AllocError> {
         let name = "pgpeer_log_events_total";
         put_head(
@@ -343,13 +343,13 @@ impl Page {
     }
 }
 
-// The metric of waits, whose lines have a word more.
+// The metric of waits.
 const WAITS: &str = "pgpeer_wait_seconds";
 
 // A second, in microseconds.
 const MICROS: u64 = 1_000_000;
 
-// A time in seconds, with six digits behind the point.
+// Returns a time in seconds, with six digits after the point.
 fn seconds_text(alloc: Global, micros: u64) -> Result<String, AllocError> {
     let seconds = micros / MICROS;
     let rest = micros % MICROS;

@@ -1,22 +1,22 @@
-//! What is asked for over HTTP.
+//! HTTP requests.
 use httparse::spans::{EMPTY_HEADER_SPAN, parse_request};
 use httparse::{Error, Status};
 
 // How many header fields a request may have.
 const MOST_HEADERS: usize = 32;
 
-/// What a request gets.
+/// The answer to a request.
 #[derive(Clone, Copy, Debug, PartialEq, Eq)]
 pub enum Answer {
-    /// Its head isn't whole.
+    /// None yet: the head isn't complete.
     More,
     /// The metrics.
     Metrics,
-    /// What is said of the metrics before them.
+    /// The head of the response with the metrics.
     HeadOfMetrics,
-    /// No other path is there.
+    /// The path is unknown.
     NotFound,
-    /// No other method is allowed.
+    /// The method isn't allowed.
     NotAllowed,
     /// It isn't HTTP.
     Malformed,
@@ -24,7 +24,7 @@ pub enum Answer {
     TooLarge,
 }
 
-/// What these bytes ask for: the head of a request, or its beginning.
+/// Returns the answer to these bytes: the head of a request, or its beginning.
 pub fn answer_to(bytes: &[u8]) -> Answer {
     let mut headers = [EMPTY_HEADER_SPAN; MOST_HEADERS];
     match parse_request(bytes, &mut headers) {
@@ -35,7 +35,7 @@ pub fn answer_to(bytes: &[u8]) -> Answer {
     }
 }
 
-// What a request with this method and this target gets.
+// Returns the answer to a request with this method and target.
 fn answer_of(method: &[u8], target: &[u8]) -> Answer {
     if path_of(target) != b"/metrics".as_slice() {
         return Answer::NotFound;
@@ -47,7 +47,7 @@ fn answer_of(method: &[u8], target: &[u8]) -> Answer {
     }
 }
 
-// The target without its query.
+// Returns the target without its query.
 fn path_of(target: &[u8]) -> &[u8] {
     match target.iter().position(|byte| *byte == b'?') {
         Some(place) => target.get(..place).unwrap_or(target),

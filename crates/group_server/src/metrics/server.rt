@@ -1,6 +1,5 @@
-//! The port at which metrics are read, over HTTP. Few connections are served at a time, each for a
-//! short time, and what they read is made anew once a second at most: so whoever reads slowly, or
-//! without end, holds nothing that the group needs.
+//! The metrics port, over HTTP. Few connections are served at a time, each for a short time, and the
+//! page is cached for a second: so slow or frequent readers don't slow down the group.
 use crate::limits::{METRICS_AGE_MILLIS, METRICS_MILLIS, METRICS_REQUEST_MILLIS};
 use crate::metrics::counters::Counters;
 use crate::metrics::page::page_of;
@@ -17,13 +16,13 @@ use std::sync::{Arc, Mutex};
 use std::time::Duration;
 use std::{io, thread};
 
-// How many milliseconds pass after a fault until the next connection is accepted.
-const REST: u64 = 10;
+// How many milliseconds pass after an error until accepting is tried again.
+const RETRY_MILLIS: u64 = 10;
 
-// How long the head of a request may be, in bytes.
+// The maximum length of a request's head, in bytes.
 const MOST_BYTES: usize = 8_192;
 
-/// What metrics are read from, and the listener at which they are read.
+/// Serves the metrics of a group at a listener.
 #[derive(Drop)]
 pub struct Exporter<M: Machine> {
     listener: TcpListener,
@@ -35,26 +34,26 @@ pub struct Exporter<M: Machine> {
     last: Mutex<Option<Page>>,
 }
 
-// The metrics that were read last, and when they were made.
+// The cached page, and when it was made.
 #[derive(Drop)]
 struct Page {
     made: Duration,
     text: Arc<Vec<u8>, Global>,
 }
 
-/// What is shared with those who count and tell.
+/// What the page is made from, beside the nodes.
 #[derive(Drop)]
 pub struct Sources {
     /// The settings of the group.
     pub group: Arc<Group, Global>,
-    /// What is counted.
+    /// The counters.
     pub counters: Arc<Counters, Global>,
     /// The log.
     pub log: Arc<Log, Global>,
 }
 
 impl<M: Machine> Exporter<M> {
-    /// A listener at which nobody waits yet.
+    /// Returns an exporter without a cached page.
     pub fn new(
         listener: TcpListener,
         version: String,
@@ -77,7 +76,7 @@ impl<M: Machine> Exporter<M> {
         }
     }
 
-    // The metrics as they are now, or as they were a short while ago.
+    // Returns the cached page, or makes it if it is too old.
     fn page(&self, machine: &M, alloc: Global) -> Result<Arc<Vec<u8>, Global>, AllocError> {
         let now = machine.monotonic().map_err(|_| AllocError)?;
         let mut last = self.last.lock(machine);
@@ -92,7 +91,7 @@ impl<M: Machine> Exporter<M> {
         Ok(theirs)
     }
 
-    // The metrics as they are now.
+    // Makes the page.
     fn make(&self, machine: &M, alloc: Global) -> Result<Vec<u8>, AllocError> {
         let mut nodes = Vec::with_capacity(alloc, self.nodes.len())?;
         for (place, node) in self.nodes.iter().enumerate() {
@@ -108,7 +107,7 @@ impl<M: Machine> Exporter<M> {
         )
     }
 
-    // A node as it is now.
+    // Returns the present state of a node.
     fn state(
         &self,
         machine: &M,
@@ -130,14 +129,14 @@ impl<M: Machine> Exporter<M> {
     fn serve(&self, machine: &M, alloc: Global, socket: TcpStream) -> io::Result<()> {
         let deadline = Deadline::after(machine, METRICS_MILLIS)?;
         match read_request(machine, &socket)? {
-            Answer::Metrics => self.hand_out(machine, alloc, &socket, deadline, true),
-            Answer::HeadOfMetrics => self.hand_out(machine, alloc, &socket, deadline, false),
-            refusal => write_whole(machine, &socket, deadline, refusal_text(refusal)),
+            Answer::Metrics => self.serve_page(machine, alloc, &socket, deadline, true),
+            Answer::HeadOfMetrics => self.serve_page(machine, alloc, &socket, deadline, false),
+            refusal => write_response(machine, &socket, deadline, refusal_text(refusal)),
         }
     }
 
-    // Writes the metrics, or only what is said of them before.
-    fn hand_out(
+    // Writes a response with the page, or only its head.
+    fn serve_page(
         &self,
         machine: &M,
         alloc: Global,
@@ -146,7 +145,7 @@ impl<M: Machine> Exporter<M> {
         with_text: bool,
     ) -> io::Result<()> {
         let Ok(text) = self.page(machine, alloc) else {
-            return write_whole(machine, socket, deadline, UNAVAILABLE);
+            return write_response(machine, socket, deadline, UNAVAILABLE);
         };
         let length = text.len();
         let head = format!(in alloc;
@@ -154,19 +153,19 @@ impl<M: Machine> Exporter<M> {
             Content-Type: text/plain; version=0.0.4; charset=utf-8\r\n\
             Content-Length: {length}\r\nConnection: close\r\n\r\n"
         )?;
-        write_whole(machine, socket, deadline, head.as_bytes())?;
+        write_response(machine, socket, deadline, head.as_bytes())?;
         if with_text {
-            write_whole(machine, socket, deadline, text.as_slice())?;
+            write_response(machine, socket, deadline, text.as_slice())?;
         }
         socket.shutdown(Shutdown::Write)
     }
 }
 
-// What a request gets whose metrics can't be made.
+// The response if the page can't be made.
 const UNAVAILABLE: &[u8] =
     b"HTTP/1.1 503 Service Unavailable\r\nContent-Length: 0\r\nConnection: close\r\n\r\n";
 
-// What a request gets that is refused.
+// Returns the response to a request that is refused.
 fn refusal_text(answer: Answer) -> &'static [u8] {
     match answer {
         Answer::NotFound => {
@@ -182,7 +181,7 @@ fn refusal_text(answer: Answer) -> &'static [u8] {
     }
 }
 
-// Reads the head of a request, and returns what it gets. It fails if the head doesn't come in time.
+// Reads the head of a request, and returns the answer to it. Fails if the time limit has passed.
 fn read_request<M: Machine>(machine: &M, socket: &TcpStream) -> io::Result<Answer> {
     let deadline = Deadline::after(machine, METRICS_REQUEST_MILLIS)?;
     let mut buffer = [0; MOST_BYTES];
@@ -204,7 +203,7 @@ fn read_request<M: Machine>(machine: &M, socket: &TcpStream) -> io::Result<Answe
     Ok(Answer::TooLarge)
 }
 
-// Reads once, when something comes. It fails at the end of the input, and where the time is over.
+// Reads once. Fails at the end of the input, or if the deadline has passed.
 fn read_some<M: Machine>(
     machine: &M,
     socket: &TcpStream,
@@ -221,8 +220,8 @@ fn read_some<M: Machine>(
     }
 }
 
-// Writes all of this. It fails if the time is over.
-fn write_whole<M: Machine>(
+// Writes all these bytes. Fails if the deadline has passed.
+fn write_response<M: Machine>(
     machine: &M,
     socket: &TcpStream,
     deadline: Deadline,
@@ -241,14 +240,14 @@ fn write_whole<M: Machine>(
     Err(io::Error::from(ErrorKind::WriteZero))
 }
 
-/// Serves the connections of a listener, one after the other. Nobody learns of those that fail.
+/// Serves the connections of a listener, one after the other. Errors aren't reported.
 pub fn keep_exporting<H: Host>(host: &H, alloc: Global, exporter: &Exporter<H>) {
     for socket in exporter.listener.incoming() {
         match socket {
             Ok(socket) => {
                 let _ = exporter.serve(host, alloc, socket);
             }
-            Err(_) => thread::sleep(host, Duration::from_millis(REST)),
+            Err(_) => thread::sleep(host, Duration::from_millis(RETRY_MILLIS)),
         }
     }
 }

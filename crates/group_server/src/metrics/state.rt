@@ -1,4 +1,4 @@
-//! What the metrics of a node are made of, at one moment.
+//! The state of a node at one moment, for its metrics.
 use crate::metrics::counters::{NodeCounters, Passed};
 use crate::metrics::text::labels_with;
 use crate::metrics::waits::WaitCounts;
@@ -7,8 +7,8 @@ use node_threads::PoolCensus;
 use pg_ids::DatabaseNo;
 use std::alloc::{AllocError, Global};
 
-/// How the clients and links of each database of a node do at one moment, in the order of its
-/// settings, and how many cancel requests there were, in the order in which the console shows them.
+/// The states of a node's clients and links at one moment, by database in the order of its settings,
+/// and how many cancel requests there were, in the order in which the console shows them.
 #[derive(Debug, Drop)]
 pub struct Census {
     /// Clients and links, by database.
@@ -22,11 +22,11 @@ pub struct Census {
 pub struct NodeState {
     /// Its labels.
     pub labels: Vec<u8>,
-    /// How many clients it may have.
+    /// The maximum number of its clients.
     pub most_clients: u64,
-    /// How many cancel requests there were, by kind.
+    /// The number of cancel requests, by kind.
     pub cancels: [u64; 8],
-    /// The waits of clients that left before their database was known.
+    /// The waits of clients that closed their connection before their database was known.
     pub strangers: WaitCounts,
     /// Its databases, in the order of its settings.
     pub pools: Vec<PoolState>,
@@ -37,16 +37,16 @@ pub struct NodeState {
 pub struct PoolState {
     /// Its labels.
     pub labels: Vec<u8>,
-    /// How many links it may have.
+    /// The maximum number of its links.
     pub most_links: u64,
-    /// How its clients and links do.
+    /// The states of its clients and links.
     pub census: PoolCensus,
-    /// What was counted of it.
+    /// The values of its counters.
     pub passed: Passed,
 }
 
 impl NodeState {
-    /// The node with these settings, of which this was found and counted.
+    /// Returns the state of the node with these settings, with this census and these counters.
     pub fn new(
         alloc: Global,
         settings: &Settings,
@@ -71,7 +71,7 @@ impl NodeState {
     }
 }
 
-// The database at this place of the settings, if there is one.
+// Returns the state of the database at this place of the settings, if there is one.
 fn pool_of(
     alloc: Global,
     settings: &Settings,

@@ -4,19 +4,19 @@ ghost use Rattle.group_server.specs.MetricsText.{escaped, escaped_byte, label, l
 
 use std::alloc::{AllocError, Global};
 
-/// What a metric is.
+/// The type of a metric.
 #[derive(Clone, Copy, Debug, PartialEq, Eq)]
 pub enum Kind {
     /// A number that only rises while the process runs.
     Counter,
     /// A number that rises and falls.
     Gauge,
-    /// How many values there were up to each bound, and their sum.
+    /// The number of values up to each bound, and their sum.
     Histogram,
 }
 
 impl Kind {
-    // Its name in a TYPE line.
+    // Returns its name in a TYPE line.
     fn name(self) -> &'static str {
         match self {
             Kind::Counter => "counter",
@@ -54,7 +54,7 @@ pub fn put_sample(
     put_line(text, name, labels, digits.as_str())
 }
 
-/// Appends the line of a value that is written like this.
+/// Appends the line of a value that is already text.
 pub fn put_line(
     text: &mut Vec<u8>,
     name: &str,
@@ -73,7 +73,7 @@ pub fn put_line(
     Ok(())
 }
 
-/// These labels, and one more.
+/// Returns these labels and another one.
 pub fn labels_with(
     alloc: Global,
     labels: &[u8],
@@ -128,7 +128,7 @@ fn put_byte(text: &mut Vec<u8>, byte: u8) -> Result<(), AllocError>
     }
 }
 
-/// Appends a text as it is.
+/// Appends a text.
 pub fn put(text: &mut Vec<u8>, more: &str) -> Result<(), AllocError>
     ensures { OnOk result (text.new.items ≡ text.old.items ++ more.now) }
 {

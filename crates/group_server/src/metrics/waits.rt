@@ -6,10 +6,10 @@ use std::alloc::{AllocError, Global};
 use std::sync::atomic::{AtomicU64, Ordering};
 use std::time::Duration;
 
-/// How many bounds there are.
+/// The number of bounds.
 pub const BOUNDS: usize = 15;
 
-/// How many buckets there are: one up to each bound, and one for what is above the last.
+/// The number of buckets: one up to each bound, and one above the last.
 pub const BUCKETS: usize = 16;
 
 /// The bounds of the buckets, in microseconds.
@@ -18,26 +18,26 @@ pub const BOUNDS_MICROS: [u64; BOUNDS] = [
     5_000_000, 10_000_000, 30_000_000, 60_000_000,
 ];
 
-/// How many clients waited for a link, and for how long.
+/// Counts clients that waited for a link, by how long they waited.
 #[derive(Drop)]
 pub struct Waits {
-    // How many there were in each bucket.
+    // The number of waits in each bucket.
     buckets: Vec<AtomicU64>,
-    // The sum of all.
+    // The sum of all waits.
     micros: AtomicU64,
 }
 
-/// How many waits there were in each bucket, and the sum of all, in microseconds.
+/// The number of waits in each bucket, and the sum of all waits in microseconds.
 #[derive(Clone, Copy, Debug, PartialEq, Eq)]
 pub struct WaitCounts {
-    /// In each bucket alone.
+    /// By bucket, not cumulated.
     pub buckets: [u64; BUCKETS],
     /// The sum.
     pub micros: u64,
 }
 
 impl Waits {
-    /// Nobody waited.
+    /// Returns a histogram without waits.
     pub fn new(alloc: Global) -> Result<Waits, AllocError> {
         let mut buckets = Vec::with_capacity(alloc, BUCKETS)?;
         for _ in 0..BUCKETS {
@@ -49,7 +49,7 @@ impl Waits {
         })
     }
 
-    /// A client has waited for this long.
+    /// Counts a wait of this length.
     pub fn add(&self, time: Duration) {
         let micros = u64::try_from(time.as_micros()).unwrap_or(u64::MAX);
         if let Some(bucket) = self.buckets.get(bucket_of(&BOUNDS_MICROS, micros)) {
@@ -58,7 +58,7 @@ impl Waits {
         }
     }
 
-    /// What was counted.
+    /// Returns the values.
     pub fn counts(&self) -> WaitCounts {
         let mut buckets = [0; BUCKETS];
         for (count, bucket) in buckets.iter_mut().zip(&self.buckets) {
@@ -71,8 +71,8 @@ impl Waits {
     }
 }
 
-/// The bucket in which a value is counted: that of the first bound that isn't below it, or the one
-/// behind the last.
+/// Returns the bucket in which a value is counted: that of the first bound that isn't below it, or
+/// the one after the last.
 pub fn bucket_of(bounds: &[u64], value: u64) -> usize
     ensures { IsBucketOf bounds.now value result }
 {

@@ -1,49 +1,49 @@
-//! The errors by which sessions end that a server or the group ends.
+//! The final error of a session that a server or the group ends.
 use startup::{ErrorCode, Severity, write_error};
 use std::alloc::{AllocError, Global};
 use std::os::fd::RawFd;
 
-// What PostgreSQL says to a client when it shuts down.
+// PostgreSQL's message at a shutdown.
 const SHUTDOWN: &str = "terminating connection due to administrator command";
 
-// How much of what a server said is read.
-const MOST: usize = 4_096;
+// How many bytes of a server's last messages are read.
+const MAX_BYTES: usize = 4_096;
 
-// A message's type byte and its length (PostgreSQL manual, "Message Formats").
+// The length of a message's type byte and length field (PostgreSQL manual, "Message Formats").
 const HEAD: usize = 5;
 
-/// The error with which the server ended the link on this socket, or one that says that the server
-/// was lost. It doesn't wait: the other side of the socket has to have ended it.
-pub fn last_words(alloc: Global, link: RawFd) -> Result<Vec<u8>, AllocError> {
-    let mut buffer = [0; MOST];
+/// Returns the error with which the server ended the link on this socket, or `ConnectionFailure` if
+/// it sent none. Doesn't wait if the server has closed its side of the connection.
+pub fn final_error(alloc: Global, link: RawFd) -> Result<Vec<u8>, AllocError> {
+    let mut buffer = [0; MAX_BYTES];
     let count = read_rest(link, &mut buffer);
-    let mut words = Vec::new(alloc);
+    let mut message = Vec::new(alloc);
     match find_error(buffer.get(..count).unwrap_or(&[])) {
-        Some(error) => words.extend_from_slice(error)?,
+        Some(error) => message.extend_from_slice(error)?,
         None => {
             let lost = ErrorCode::ConnectionFailure;
-            if write_error(Severity::Fatal, lost.code(), lost.message(), &mut words).is_err() {
+            if write_error(Severity::Fatal, lost.code(), lost.message(), &mut message).is_err() {
                 return Err(AllocError);
             }
         }
     }
-    Ok(words)
+    Ok(message)
 }
 
-/// The error of a session that ends because the group drains (PostgreSQL's words at a shutdown).
-pub fn shutdown_words(alloc: Global) -> Result<Vec<u8>, AllocError> {
-    let mut words = Vec::new(alloc);
+/// Returns the error of a session that ends because the group drains.
+pub fn shutdown_error(alloc: Global) -> Result<Vec<u8>, AllocError> {
+    let mut message = Vec::new(alloc);
     let code = ErrorCode::AdminShutdown.code();
-    match write_error(Severity::Fatal, code, SHUTDOWN, &mut words) {
-        Ok(()) => Ok(words),
+    match write_error(Severity::Fatal, code, SHUTDOWN, &mut message) {
+        Ok(()) => Ok(message),
         Err(_) => Err(AllocError),
     }
 }
 
-// Reads until the end, or until the buffer is full. Returns how many bytes it read.
+// Reads until the end of the input, or until the buffer is full. Returns the number of bytes read.
 fn read_rest(link: RawFd, buffer: &mut [u8]) -> usize {
     let mut count = 0;
-    for _ in 0..MOST {
+    for _ in 0..MAX_BYTES {
         let Some(rest) = buffer.get_mut(count..) else {
             break;
         };
@@ -55,7 +55,7 @@ fn read_rest(link: RawFd, buffer: &mut [u8]) -> usize {
     count
 }
 
-/// The first whole ErrorResponse among these messages.
+/// Returns the first complete ErrorResponse among these messages.
 pub fn find_error(messages: &[u8]) -> Option<&[u8]> {
     let mut rest = messages;
     for _ in 0..messages.len() {
@@ -69,7 +69,8 @@ pub fn find_error(messages: &[u8]) -> Option<&[u8]> {
     None
 }
 
-// How long the message is that these bytes begin with. Its length field doesn't count its type.
+// Returns the length of the message at the start of these bytes. Its length field doesn't count the
+// type byte.
 fn message_len(bytes: &[u8]) -> Option<usize> {
     let [_kind, a, b, c, d, ..] = bytes else {
         return None;

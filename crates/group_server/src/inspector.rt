@@ -1,4 +1,4 @@
-//! What is looked at in what a server or a peer sends.
+//! Inspects what a server or a peer sends.
 use crate::log::Event;
 use crate::login_answer::LoginAnswer;
 use crate::origin::Origin;
@@ -10,70 +10,73 @@ use std::io::ErrorKind;
 use std::sync::Wait;
 use std::time::Clock;
 
-/// What is looked at in what a server or a peer sends on one connection, so that the log says why a
-/// link or a cancel request fails, and no link is used whose server reports another value than
-/// clients get.
+/// Inspects what a server or a peer sends on one connection: the log gets the reason if a link or a
+/// cancel request fails, and no link is used whose server reports another value than clients get.
 #[derive(Drop)]
-pub struct Looks {
+pub struct Inspector {
     origin: Origin,
     stage: Stage,
-    // What the server of a link reports, if clients get it.
+    // Compares what the server of a link reports with what clients get.
     watch: Option<Watch>,
-    // Whether the log has a line of its failure.
-    is_told: bool,
+    // Whether its failure was logged.
+    is_logged: bool,
 }
 
 // What a connection is for.
 #[derive(Drop)]
 enum Stage {
-    // A link that isn't a client's yet, and what the server answers to its login.
+    // A link that no client has had yet, and the server's answer to its login.
     Login(Box<LoginAnswer>),
-    // A link that is a client's, or was.
+    // A link that a client has or had.
     Link,
     // A cancel request.
     Cancel,
 }
 
-impl Looks {
-    /// Those of a link, whose server has to report these values where it reports them.
-    pub fn of_link(alloc: Global, origin: Origin, reports: &Reports) -> Result<Looks, AllocError> {
+impl Inspector {
+    /// Returns the inspector of a link, whose server has to report no other values than these.
+    pub fn of_link(
+        alloc: Global,
+        origin: Origin,
+        reports: &Reports,
+    ) -> Result<Inspector, AllocError> {
         let watch = if reports.is_empty() {
             None
         } else {
             Some(Watch::new(alloc, reports)?)
         };
-        Ok(Looks {
+        Ok(Inspector {
             origin,
             stage: Stage::Login(Box::new(alloc, LoginAnswer::new())?),
             watch,
-            is_told: false,
+            is_logged: false,
         })
     }
 
-    /// Those of a connection for a cancel request.
-    pub fn of_cancel(origin: Origin) -> Looks {
-        Looks {
+    /// Returns the inspector of a connection for a cancel request.
+    pub fn of_cancel(origin: Origin) -> Inspector {
+        Inspector {
             origin,
             stage: Stage::Cancel,
             watch: None,
-            is_told: false,
+            is_logged: false,
         }
     }
 
-    /// The link is a client's from now on.
+    /// A client gets the link.
     pub fn attach(&mut self) {
         if matches!(self.stage, Stage::Login(_)) {
             self.stage = Stage::Link;
         }
     }
 
-    /// Whether bytes that come needn't be looked at.
+    /// Returns whether received bytes needn't be inspected.
     #[inline]
-    pub fn is_blind(&self) -> bool {
+    pub fn is_passive(&self) -> bool {
         self.watch.is_none() && matches!(self.stage, Stage::Link)
     }
 
-    /// Whether the server reports another value than clients get.
+    /// Returns whether the server reports another value than clients get.
     pub fn differs(&self) -> bool {
         match &self.watch {
             Some(watch) => watch.differs().is_some(),
@@ -81,40 +84,40 @@ impl Looks {
         }
     }
 
-    /// These bytes came. It fails if they belong to a login and the server reports another value
+    /// Inspects received bytes. Fails if they belong to a login and the server reports another value
     /// than clients get.
-    pub fn look<R: Wait + Clock>(&mut self, rt: &R, bytes: &[u8]) -> io::Result<()> {
+    pub fn inspect<R: Wait + Clock>(&mut self, rt: &R, bytes: &[u8]) -> io::Result<()> {
         if let Some(watch) = &mut self.watch {
             watch.read(bytes);
         }
         match &mut self.stage {
             Stage::Login(answer) => {
                 answer.read(bytes);
-                self.judge_login(rt)
+                self.check_login(rt)
             }
             Stage::Link => Ok(()),
             Stage::Cancel => {
-                self.tell_reason(rt, "a byte came before the end");
+                self.log_reason(rt, "a byte came before the end");
                 Ok(())
             }
         }
     }
 
-    // Looks at how a login stands.
-    fn judge_login<R: Wait + Clock>(&mut self, rt: &R) -> io::Result<()> {
-        if self.is_told {
+    // Logs a refused login. Fails if the server reports another value than clients get.
+    fn check_login<R: Wait + Clock>(&mut self, rt: &R) -> io::Result<()> {
+        if self.is_logged {
             return Ok(());
         }
         if let Stage::Login(answer) = &self.stage {
             if let Some(refusal) = answer.refusal() {
-                self.is_told = true;
+                self.is_logged = true;
                 self.origin.write_refusal(rt, answer, refusal);
                 return Ok(());
             }
         }
         if let Some(watch) = &self.watch {
             if let Some(difference) = watch.differs() {
-                self.is_told = true;
+                self.is_logged = true;
                 self.origin
                     .write_difference(rt, Event::LinkLoginFailed, &difference);
                 return Err(io::Error::from(ErrorKind::InvalidData));
@@ -123,25 +126,25 @@ impl Looks {
         Ok(())
     }
 
-    /// The connection was ended by its other side.
+    /// The peer has closed the connection.
     pub fn end<R: Wait + Clock>(&mut self, rt: &R) {
         match self.stage {
             Stage::Cancel => {}
-            _ => self.tell_reason(rt, "the server ended the connection"),
+            _ => self.log_reason(rt, "the server ended the connection"),
         }
     }
 
     /// A read or a write failed.
     pub fn fail<R: Wait + Clock>(&mut self, rt: &R, error: &io::Error) {
-        // The client has left.
-        if error.kind() == ErrorKind::ConnectionAborted || self.is_told {
+        // The client has closed its connection.
+        if error.kind() == ErrorKind::ConnectionAborted || self.is_logged {
             return;
         }
-        self.is_told = true;
+        self.is_logged = true;
         self.origin.write_error(rt, self.event(), error);
     }
 
-    /// The link is closed before it is used again, since it isn't as it was left.
+    /// Logs why the link is closed before it is used again.
     pub fn close<R: Wait + Clock>(&self, rt: &R) {
         if let Some(watch) = &self.watch {
             if let Some(difference) = watch.differs() {
@@ -154,15 +157,15 @@ impl Looks {
         self.origin.write_reason(rt, Event::LinkClosed, reason);
     }
 
-    // Writes why the connection failed, once.
-    fn tell_reason<R: Wait + Clock>(&mut self, rt: &R, reason: &str) {
-        if !self.is_told {
-            self.is_told = true;
+    // Logs why the connection failed, once.
+    fn log_reason<R: Wait + Clock>(&mut self, rt: &R, reason: &str) {
+        if !self.is_logged {
+            self.is_logged = true;
             self.origin.write_reason(rt, self.event(), reason);
         }
     }
 
-    // What its failure is in the log.
+    // Returns the event of its failure.
     fn event(&self) -> Event {
         match self.stage {
             Stage::Login(_) => Event::LinkLoginFailed,
