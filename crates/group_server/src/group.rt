@@ -1,6 +1,9 @@
 //! A group whose addresses are bound.
-ghost use Rattle.std.specs.Prelude.{◌<◌, length};
+ghost use Rattle.std.specs.Prelude.{◌≡◌, ◌<◌, ◌*◌, ◌^◌, length, slice_get, IfOk};
+ghost use Rattle.std.specs.Option.{ForSome};
 ghost use Rattle.std.specs.Arc.{arc_value};
+ghost use Rattle.node_core.specs.View.{IsFresh};
+ghost use Rattle.node_threads.specs.Secrets.{drawing_of};
 
 use crate::accepting::{Acceptor, keep_accepting};
 use crate::connection_limit::ConnectionLimit;
@@ -368,13 +371,38 @@ fn serving_at<H: Host>(
 ) -> Result<Arc<Serving<H>, Global>, AllocError>
     requires { place < length (arc_value group.now) }
 {
-    let boot = Boot((options.boot as u64) << 32);
-    let first = Calling::new(alloc, group, place, options.seed, boot)?;
+    let first = calling_at(alloc, group, place, options)?;
     let first = Box::new(alloc, first)?;
     Ok(Arc::new(
         alloc,
         Serving::new(alloc, first, dialer, options.max_message),
     )?)
+}
+
+// Makes the shared state of the node at this place of the group, and its first caller.
+fn calling_at<L: Drop>(
+    alloc: Global,
+    group: &Arc<Group, Global>,
+    place: usize,
+    options: &ServeOptions<'_>,
+) -> Result<Calling<L>, AllocError>
+    requires { place < length (arc_value group.now) }
+    // The node is new: it has the settings of its place, and the boot of the options.
+    ensures fresh { IfOk result (λ calling. ForSome (slice_get (arc_value group.now) place)
+        (λ settings. IsFresh settings (options.now.boot * 2 ^ 32) calling.caller.start.view)) }
+    // Its secrets are those of the options' seed and of its number.
+    ensures seeded { IfOk result (λ calling. ForSome (slice_get (arc_value group.now) place)
+        (λ settings. (arc_value calling.node).secrets
+        ≡ drawing_of options.now.seed settings.peer_id)) }
+{
+    Calling::new(alloc, group, place, options.seed, boot_of(options.boot))
+}
+
+// Returns the first boot of the process with this start number, which has 2^32 boots.
+fn boot_of(start: u32) -> Boot
+    ensures { result ≡ start * 2 ^ 32 }
+{
+    Boot(u64::from(start) * (1 << 32))
 }
 
 // Makes an acceptor for each node's own address, and starts its thread.

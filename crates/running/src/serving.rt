@@ -1,4 +1,6 @@
 //! `serve`: serves clients until the process is stopped or the group has drained.
+ghost use Rattle.std.specs.Prelude.{◌≡◌};
+
 use crate::standing_in::stand_in_for_servers;
 use command_line::{LogLevel, ServeRequest, version};
 use group_server::{Host, Level, MessageLimit, ServeError, ServeOptions, serve_group};
@@ -21,8 +23,22 @@ pub(crate) fn serve<H: Host, I: Read, W: Write>(
         stand_in_for_servers(host, alloc, &group)?;
     }
     let version = version(alloc)?;
-    let options = ServeOptions {
-        version: number_in(version.as_str()),
+    let options = options_of(number_in(version.as_str()), request, seed);
+    serve_group(host, alloc, group, &options, input, out)
+}
+
+// Returns the options of the group that the request asks for.
+fn options_of<'a>(
+    version: &'a str,
+    request: &'a ServeRequest<'_>,
+    seed: [u8; 32],
+) -> ServeOptions<'a>
+    ensures seed { result.seed ≡ seed }
+    ensures boot { result.boot ≡ request.now.boot }
+    ensures front { result.front ≡ request.now.front }
+{
+    ServeOptions {
+        version,
         front: request.front,
         seed,
         boot: request.boot,
@@ -31,8 +47,7 @@ pub(crate) fn serve<H: Host, I: Read, W: Write>(
         log: level_of(request.log),
         metrics: request.metrics,
         max_message: limit_of(request.max_message),
-    };
-    serve_group(host, alloc, group, &options, input, out)
+    }
 }
 
 // Returns the message limit of an argument, which is in range.
