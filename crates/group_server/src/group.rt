@@ -13,7 +13,7 @@ use crate::draining::{drain, wait_for_end, write_end};
 use crate::limits::METRICS_READERS;
 use crate::metrics::{Counters, Exporter, Sources, keep_exporting};
 use crate::options::{ServeOptions, copy_of, write_start};
-use crate::{Dialer, DrainSignal, Host, Log, Serving};
+use crate::{Dialer, DrainSignal, Host, Log, ServeError, Serving, Unbound};
 use ini_config::Group;
 use node_threads::Calling;
 use pg_ids::Boot;
@@ -21,57 +21,7 @@ use std::alloc::{AllocError, Global};
 use std::io::{Read, Write};
 use std::net::TcpListener;
 use std::sync::Arc;
-use std::{io, thread};
-
-/// An address that can't be bound.
-#[derive(Debug, Drop)]
-pub struct Unbound {
-    /// The address.
-    pub address: String,
-    /// Its port.
-    pub port: u16,
-    /// The error.
-    pub error: io::Error,
-}
-
-/// An error of `serve_group`.
-#[derive(Debug, Drop)]
-pub enum ServeError {
-    /// This address can't be bound.
-    Address(Unbound),
-    /// Out of memory.
-    Memory,
-    /// A thread can't be started.
-    Thread,
-    /// The sockets of the drain signal can't be made.
-    Sockets,
-    /// Standard output can't be written to.
-    Output,
-}
-
-impl ServeError {
-    /// Returns its message, without the address.
-    pub fn text(&self) -> &'static str {
-        match self {
-            ServeError::Address(_) => "cannot listen",
-            ServeError::Memory => "out of memory",
-            ServeError::Thread => "cannot start a thread",
-            ServeError::Sockets => "cannot make a pair of sockets",
-            ServeError::Output => "cannot write to standard output",
-        }
-    }
-}
-
-impl From<AllocError> for ServeError {
-    ghost use Rattle.std.specs.Prelude.{◌≡◌};
-    ghost use Rattle.group_server.specs.declared.group.ServeError.TheVariants.{Memory};
-
-    ghost from_gives = { λ _ error. error ≡ Memory };
-
-    fn from(_: AllocError) -> ServeError {
-        ServeError::Memory
-    }
-}
+use std::thread;
 
 /// A group whose addresses are bound: one for the group, and one of each node.
 #[derive(Drop)]

@@ -32,6 +32,7 @@ mod metrics;
 mod options;
 mod origin;
 mod poll;
+mod serve_error;
 mod serving;
 
 pub use cancel_end::{CancelEnd, Target};
@@ -46,7 +47,7 @@ pub use drain_signal::DrainSignal;
 pub use dropped::put_dropped;
 pub use final_error::find_error;
 pub use first_packet::{Asks, FirstPacket, Next};
-pub use group::{Listening, ServeError, Unbound, listen, say_listening, serve_group};
+pub use group::{Listening, listen, say_listening, serve_group};
 pub use host::{Host, Machine};
 pub use inspector::Inspector;
 pub use link_stream::LinkStream;
@@ -59,4 +60,5 @@ pub use metrics::{
 pub use options::ServeOptions;
 pub use origin::Origin;
 pub use pg_frames::MessageLimit;
+pub use serve_error::{ServeError, Unbound};
 pub use serving::Serving;
