@@ -58,6 +58,5 @@ fn as_many_as_may_be_open(rt: HostRuntime) -> Result<(), Busy> {
     assert!(rt; hold.tickets() > 0);
     hold.clean_end();
     assert_same(&rt, hold.open_ticket(), Ok(()));
-    assert_same(&rt, Busy.number(), 31);
     Ok(())
 }

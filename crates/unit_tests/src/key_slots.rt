@@ -100,7 +100,6 @@ fn retired(rt: HostRuntime) -> Result<(), Fail> {
     table.retire(key.short().slot);
     assert_finds(&rt, &table, &key, None);
     assert_next(&rt, &table, Some(SlotNo(0)));
-    assert_same(&rt, Full.number(), 30);
     Ok(())
 }
 

@@ -9,6 +9,7 @@ use std::alloc::{AllocError, Global};
 use std::process::Abort;
 use std::test::Fail;
 
+mod refusal_texts;
 mod reports;
 mod transcripts;
 
@@ -405,23 +406,6 @@ const ERRORS: &[(ErrorCode, &str, &str)] = &[
     (ErrorCode::AdminShutdown, "57P01", "node restarted"),
     (ErrorCode::QueryCanceled, "57014", "query canceled"),
 ];
-
-#[test]
-fn refusal_texts(rt: HostRuntime) -> Result<(), Fail> {
-    let texts = [
-        (StartupError::TooShort, "the packet's length is below 8"),
-        (
-            StartupError::BadCancelLength,
-            "a cancel request's length is neither 16 nor 32",
-        ),
-        (StartupError::Memory, "out of memory"),
-    ];
-    for (error, text) in texts {
-        let shown = format!(in rt.alloc(); "{error}")?;
-        assert_eq!(rt; shown.as_str(), text);
-    }
-    Ok(())
-}
 
 #[test]
 fn error_texts(rt: HostRuntime) {

@@ -84,18 +84,6 @@ fn no_links(rt: HostRuntime) -> Result<(), Fail> {
     Ok(())
 }
 
-#[test]
-fn numbers(rt: HostRuntime) {
-    for (refusal, number) in [
-        (RouteRefusal::Spent, 60),
-        (RouteRefusal::Unknown, 61),
-        (RouteRefusal::NoPeer, 62),
-        (RouteRefusal::NoLink, 63),
-    ] {
-        assert_same(&rt, refusal.number(), number);
-    }
-}
-
 // The bytes of a long key by the first and the last of its first eight; boot and serial are 0.
 fn long_key(first: [u8; 2], last: u8) -> AnyKey {
     let mut bytes = [0; 24];
