@@ -102,6 +102,14 @@ impl<S: Drop> NodeCore<S> {
         self.links.incarnation()
     }
 
+    // Does nothing when it runs: it states what is true of every node, for a step or a view that
+    // needs it. Of a field's type the checker knows only what a method of that type states.
+    pub(crate) fn known(&self)
+        ensures { IsView self.now.view }
+    {
+        self.incarnation();
+    }
+
     /// The boot of its long keys.
     pub fn boot(&self) -> Boot
         ensures { result ≡ self.now.view.boot }

@@ -51,7 +51,7 @@ impl<S: Drop> View<S> {
     pub fn fill(alloc: Global, room: ViewRoom, node: &NodeCore<S>) -> Result<View<S>, AllocError>
         ensures { IfOk result (λ view. view ≡ node.now.view) }
     {
-        node.incarnation();
+        node.known();
         let ViewRoom {
             clients,
             claims,

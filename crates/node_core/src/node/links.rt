@@ -32,8 +32,7 @@ impl<S: Drop> NodeCore<S> {
         ensures step { IsStep (call.Up permit key (up_said result)) self.old self.new }
         ensures streams { UpStreams stream result self.old.stored self.new.stored }
     {
-        // The client for which a place is kept has the permit: this is known of every node's links.
-        self.links.incarnation();
+        self.known();
         self.links.up(permit, stream, key)
     }
 
@@ -50,8 +49,7 @@ impl<S: Drop> NodeCore<S> {
         ensures step { IsStep (call.Release lease.details (release_said result)) self.old self.new }
         ensures streams { ReleaseStreams lease result self.old.stored self.new.stored }
     {
-        // The client that holds a link has its lease: this is known of every node's links.
-        self.links.incarnation();
+        self.known();
         self.links.release(lease)
     }
 
