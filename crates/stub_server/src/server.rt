@@ -17,8 +17,8 @@ pub enum Mode {
 }
 
 /// What the connections of a server share: its mode, how many clients have logged in, and which of
-/// them run a query that can be interrupted. No lock is held over a read or a write. In contracts
-/// it is its mode.
+/// them run a query that can be interrupted. Only `log_in`, `hold` and `cancel` lock the mutex, and
+/// none of them reads or writes a stream. In contracts it is its mode.
 #[derive(Drop)]
 pub struct Server {
     alloc: Global,
