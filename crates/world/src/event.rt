@@ -3,6 +3,7 @@ ghost use Rattle.std.specs.Prelude.{◌≡◌, IfOk};
 ghost use Rattle.world.specs.Facts.{IsEvent};
 
 use crate::numbers::{BackendNo, ConnectionNo, FlightNo, Label, NodeNo};
+use crate::ranges::secret_in_range;
 use pg_ids::{Boot, DatabaseNo, Kind, Secret, ServerKey};
 use std::alloc::{AllocError, Global};
 use std::marker::Model;
@@ -102,7 +103,7 @@ impl Event {
         ensures { IsEvent self.now }
     {
         if let Event::Login(_, _, _, secret, _) = self {
-            secret.get();
+            secret_in_range(*secret);
         }
     }
 }

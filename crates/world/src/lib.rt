@@ -1,5 +1,5 @@
 //! A group of nodes with their clients and servers, as a world of events: what each event does,
-//! what is true of it, and that a cancel request strikes nobody but the client who asked.
+//! what is true of it, and that a cancel request interrupts nobody but the client who asked.
 #![tactic(auto)]
 
 mod backends;
@@ -9,6 +9,7 @@ mod index;
 mod memory;
 mod nodes;
 mod numbers;
+mod ranges;
 mod reply;
 mod request;
 mod servers;

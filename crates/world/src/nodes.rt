@@ -3,7 +3,7 @@ ghost use Rattle.std.specs.Prelude.{◌≡◌, ◌==◌, ◌<◌, ℕ, List, IfS
 ghost use Rattle.link_pool.specs.Said.{acquire_said, up_said, release_said, close_said, failed_said};
 ghost use Rattle.node_core.specs.declared.exchange.Exchange.{Exchange};
 ghost use Rattle.node_core.specs.declared.exchange.Exchange.TheVariants as call;
-ghost use Rattle.node_core.specs.View.{NodeView};
+ghost use Rattle.node_core.specs.View.{NodeView, IsView};
 ghost use Rattle.node_core.specs.NodeStep.{IsStep};
 ghost use Rattle.world.specs.World.{IsNode};
 ghost use Rattle.world.specs.WorldRun.{AreFresh};
@@ -50,8 +50,7 @@ impl Nodes {
         let mut cores = Vec::with_capacity(alloc, group.len())?;
         for settings in group.nodes() {
             let core = NodeCore::new(alloc, settings, Boot(0))?;
-            // Every node's view is whole.
-            core.incarnation();
+            known(&core);
             cores.push(core)?;
         }
         Ok(Nodes { cores })
@@ -101,8 +100,7 @@ impl Nodes {
             unreachable!()
         };
         let reply = made.make(&mut self.cores[place]);
-        // Every node's view is whole.
-        self.cores[place].incarnation();
+        known(&self.cores[place]);
         reply
     }
 
@@ -211,6 +209,14 @@ impl Nodes {
     {
         self.step(node, Restart(boot))
     }
+}
+
+// Does nothing when it runs: says what is true of every node. The checker doesn't know the invariant
+// of another type's value, only what a method of that type states.
+fn known(core: &NodeCore<Token>)
+    ensures { IsView core.now.view }
+{
+    core.incarnation();
 }
 
 // The first place of a node with this number.

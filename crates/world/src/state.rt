@@ -11,11 +11,11 @@ ghost use Rattle.world.specs.WorldRun.{IsNew, WorldStep};
 mod arrivals;
 mod clients;
 mod forwarding;
+mod interrupting;
 mod links;
 mod replies;
 mod requests;
 mod starting;
-mod strikes;
 
 use crate::backends::Backends;
 use crate::event::{Bytes, Event};

@@ -22,10 +22,10 @@ use std::marker::Model;
 
 /// A group of nodes with their clients and servers, after some events.
 ///
-/// This is true of every value of this type, whatever the events were: each interruption struck a
-/// server process while it ran a query of the client that the request's key was given to; no key
-/// was taken for two clients; and each cancel connection to a server is for a request with hops
-/// left and a key that was given to the client who had that server process.
+/// This is true of every value of this type, whatever the events were: each interrupted server
+/// process ran a query of the client that the request's key was given to; no key was taken for two
+/// clients; and each cancel connection to a server is for a request with hops left and a key that
+/// was given to the client who had that server process.
 #[derive(Drop)]
 pub struct World {
     state: State,
@@ -67,8 +67,9 @@ impl World {
     /// The interruptions, in their order. What follows is true of every world.
     pub fn interrupts(&self) -> &[Interrupt]
         ensures value { result.now ≡ self.now.interrupts }
-        // Only the client to whom the request's key was given is ever struck; no key is taken for
-        // two clients; and no cancel connection is unearned.
+        // Only the client to whom the request's key was given is ever interrupted; no key is taken
+        // for two clients; and each cancel connection is for a request of the client who had the
+        // server process.
         ensures safe { IsSafe self.now }
         // Of a settled request nothing is to come, and a forward connection that was ended without
         // a byte means that the request is settled.
@@ -83,6 +84,15 @@ impl World {
 }
 
 impl World {
+    // Does nothing when it runs: says what is true of every world. A function that isn't a method
+    // of `World` knows only what a method states.
+    fn known(&self)
+        ensures safe { IsSafe self.now }
+        ensures nothing_to_come { NothingToCome self.now }
+    {
+        self.interrupts();
+    }
+
     // An event, with what is true of the world before and after it.
     fn advance(&mut self, event: &Event) -> Result<Took, Memory>
         ensures step { IfOk result (λ took. WorldStep event.now took self.old self.new) }
@@ -141,7 +151,6 @@ pub fn run(alloc: Global, group: Group, events: &[Event]) -> Result<(World, Vec<
 {
     let mut world = World::new(alloc, group)?;
     let took = world.steps(alloc, events)?;
-    // What is true of every world.
-    world.interrupts();
+    world.known();
     Ok((world, took))
 }

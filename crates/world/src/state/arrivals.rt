@@ -12,7 +12,7 @@ ghost use Rattle.world.specs.declared.request.Forward.{Forward as ForwardRow};
 ghost use Rattle.world.specs.World.{Backend, IsBackend, IsNode, IsOwner, IsServer};
 ghost use Rattle.world.specs.CancelEvents.{Comes, Arrives, IsRequest, IsOther, takes_key};
 ghost use Rattle.world.specs.Admissible.{Admissible};
-ghost use Rattle.world.specs.Facts.{Facts, OneServer};
+ghost use Rattle.world.specs.Facts.{AreWhole, Facts, OneServer};
 ghost use Rattle.world.specs.WorldRun.{WorldStep};
 
 use super::State;
@@ -83,6 +83,7 @@ impl State {
     // The bytes of a flight come to a node.
     fn come(&mut self, flight: FlightNo, node: PeerNo) -> Result<Reply, Memory>
         requires facts { Facts self.old }
+        requires whole { AreWhole self.old.nodes }
         requires flight { flight < length self.old.flights }
         requires node { (place : ℕ) × (view : NodeView) × IsNode self.old.nodes node place view }
         ensures comes { IfOk result (λ said. Comes flight node said self.old self.new) }
@@ -100,14 +101,13 @@ impl State {
     // A request comes to a node.
     fn arrive(&mut self, flight: FlightNo, node: PeerNo, key: AnyKey) -> Result<Reply, Memory>
         requires facts { Facts self.old }
+        requires whole { AreWhole self.old.nodes }
         requires flight { flight < length self.old.flights }
         requires node { (place : ℕ) × (view : NodeView) × IsNode self.old.nodes node place view }
         requires key { IsAnyKey key }
         ensures arrives { IfOk result (λ said. Arrives flight node key said self.old self.new) }
         ensures err { OnErr result (self.new ≡ self.old) }
     {
-        // Every node's view is whole.
-        self.nodes.get(node);
         let key = &key;
         let owner = &owner_of(&self.issues, key);
         let bytes = make_room(

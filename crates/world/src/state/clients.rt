@@ -1,6 +1,5 @@
 //! Clients that log in and leave, and new starts of nodes.
 ghost use Rattle.std.specs.Prelude.{◌≡◌, ◌↔◌, ◌<◌, ◌^◌, IfOk, OnErr, IsTrue};
-ghost use Rattle.pg_ids.specs.Key.{IsKey};
 ghost use Rattle.key_table.specs.Slots.{first_key};
 ghost use Rattle.world.specs.declared.event.Event.TheVariants as event;
 ghost use Rattle.world.specs.Admissible.{Admissible, IsNewSecret, MayLogIn};
@@ -10,6 +9,7 @@ ghost use Rattle.world.specs.WorldRun.{WorldStep};
 use super::State;
 use crate::memory::Memory;
 use crate::numbers::Label;
+use crate::ranges::{key_in_range, secret_in_range};
 use crate::reply::{Reply, Took};
 use crate::request::{Issue, Start};
 use crate::session::{Hand, Session};
@@ -74,8 +74,7 @@ impl State {
         ensures whole { IsTrue result → AreWhole self.now.nodes }
         ensures range { secret < 2 ^ 32 }
     {
-        // A secret has 32 bits.
-        secret.get();
+        secret_in_range(secret);
         let Some(core) = self.nodes.get(node) else {
             return false;
         };
@@ -91,6 +90,7 @@ impl State {
     {
         match (kind, next) {
             (Kind::Short, Some(slot)) => {
+                key_in_range(node, slot, secret);
                 let key = first_key(node, slot, secret);
                 match self.issues.find(AnyKey::Short(key).identity()) {
                     Some(_) => false,
@@ -145,12 +145,7 @@ impl State {
 
 // The short key of a client with this secret in this slot.
 fn first_key(node: PeerNo, slot: SlotNo, secret: Secret) -> ClientKey
-    ensures key { result ≡ first_key node slot secret }
-    ensures ranges { IsKey result }
+    ensures { result ≡ first_key node slot secret }
 {
-    // Its parts are in the ranges of their types.
-    node.get();
-    slot.get();
-    secret.get();
     ClientKey::new(node, slot, secret, Hops::MAX)
 }

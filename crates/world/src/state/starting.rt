@@ -24,7 +24,8 @@ pub(super) fn starts_of(alloc: Global, group: &Group) -> Result<Starts, AllocErr
     Ok(starts)
 }
 
-/// Does nothing: the numbers of nodes and of their slots are in range.
+/// Does nothing that is needed when it runs: says that the numbers of nodes and of their slots are
+/// in range. The checker knows this of each node's settings only once they were read.
 pub(super) fn in_range(nodes: &[Settings])
     ensures { AreInRange nodes.now }
 {

@@ -12,7 +12,7 @@ loop-settings-preserved c =
     (made_more (λ core. core.view) c.nodes-settings-items.result.now c.loop-settings.settings-index c.loop-settings.cores.items
     c.settings-item.result c.in_ok-core.core
     (slice_get_read c.nodes-settings-items.result.now _ c.loop-settings.settings-index c.settings-item.result refl c.loop-settings-test.true c.settings-item.is)
-    c.in_ok-core.ensures.fresh c.incarnation.ensures.whole c.loop-settings.invariant)
+    c.in_ok-core.ensures.fresh c.known.ensures c.loop-settings.invariant)
 
 pub invariant_of-result : goal.invariant_of-result
 invariant_of-result c =

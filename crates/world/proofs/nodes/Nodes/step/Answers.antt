@@ -12,7 +12,7 @@ invariant_of-self g c =
     kept_on (λ core. core.view) c.self.inside.cores.items c.args.node c.in-Some.place c.in-Some.ensures.found.0 c.index_mut.result.now
     c.make-reply.new.core c.index.result.now (g.C.Step.exchange c.args.made c.make-reply.result) c.self.invariant
     (subst (λ (ns : List NodeView). IsNode ns c.args.node c.in-Some.place c.in-Some.ensures.found.0) (sym c.self.view_is) c.in-Some.ensures.found.1)
-    c.index_mut.ensures.value c.make-reply.ensures c.index.ensures c.incarnation.ensures.whole
+    c.index_mut.ensures.value c.make-reply.ensures c.index.ensures c.known.ensures
 
 pub returns-clause-step : goal.returns-clause-step
 returns-clause-step g c =

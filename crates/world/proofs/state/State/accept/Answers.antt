@@ -1,7 +1,8 @@
-use Rattle.std.proofs.Common.{◌≡◌, ℕ, rules, List, length, slice_get, Some, refl, ap, sym, ◌∙◌}
+use Rattle.std.proofs.Common.{◌≡◌, ℕ, rules, List, length, slice_get, Some, refl, ap, sym, subst, ◌∙◌}
 use Rattle.world.specs.Table.{IsFound}
 use Rattle.world.specs.World.{World, Forward, IsForward}
 use Rattle.world.specs.Changes.{with_forward}
+use Rattle.world.specs.Facts.{AreWhole}
 use Rattle.world.specs.contracts.state.State.{the_view}
 use Rattle.world.proofs.Orders.{forward_keys, accepts_request, accepts_other, node_found, may_accept, no_cancel}
 use Rattle.world.proofs.state.State.accept.Goals as goal
@@ -21,6 +22,9 @@ set-requires-clause-flight c = (keys c).0
 
 pub set-requires-clause-origin : goal.set-requires-clause-origin
 set-requires-clause-origin c = (keys c).1
+
+pub come-requires-clause-whole : goal.come-requires-clause-whole
+come-requires-clause-whole c = subst (λ (w : World). AreWhole w.nodes) c.self.view_is c.get.ensures.whole
 
 pub returns-clause-step : goal.returns-clause-step
 returns-clause-step c =

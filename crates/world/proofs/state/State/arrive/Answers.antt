@@ -1,8 +1,8 @@
 use Rattle.std.proofs.Common.{◌≡◌, rules, List, length, refl, ap, sym, subst, ◌∙◌}
 use Rattle.world.specs.declared.reply.Reply.{Reply}
-use Rattle.world.specs.World.{Arrival, Connection, Taken}
+use Rattle.world.specs.World.{World, Arrival, Connection, Taken}
 use Rattle.world.specs.Changes.{and_then}
-use Rattle.world.specs.Facts.{Facts}
+use Rattle.world.specs.Facts.{AreWhole, Facts}
 use Rattle.world.specs.contracts.state.State.{the_view}
 use Rattle.world.proofs.Orders.{IsOrdered, IsNoted, order_taken, target_there, connection_to, new_connection, new_origin, refused_comes, unwait_comes, serve_comes}
 use Rattle.world.proofs.state.State.arrive.Goals as goal
@@ -18,7 +18,7 @@ next c =
 ordered : (c : After-note_arrival) → IsOrdered (the_view c.self.inside) c.args.node c.args.key c.cancel.result c.cancel.new.self
 ordered c = record {
   facts = subst Facts (sym c.self.view_is) c.requires.facts;
-  whole = c.get.ensures.whole;
+  whole = subst (λ (w : World). AreWhole w.nodes) (sym c.self.view_is) c.requires.whole;
   is_key = c.requires.key;
   step = c.cancel.ensures;
 }

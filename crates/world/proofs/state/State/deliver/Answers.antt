@@ -1,7 +1,11 @@
-use Rattle.std.proofs.Common.{◌≡◌, rules, length, arith, ap}
+use Rattle.std.proofs.Common.{◌≡◌, rules, length, arith, ap, subst}
 use Rattle.world.specs.World.{World}
+use Rattle.world.specs.Facts.{AreWhole}
 use Rattle.world.proofs.Orders.{node_found}
 use Rattle.world.proofs.state.State.deliver.Goals as goal
+
+pub come-requires-clause-whole : goal.come-requires-clause-whole
+come-requires-clause-whole c = subst (λ (w : World). AreWhole w.nodes) c.self.view_is c.get.ensures.whole
 
 pub returns-clause-step : goal.returns-clause-step
 returns-clause-step c =

@@ -1,6 +1,6 @@
-use Rattle.std.proofs.Common.{ap, subst, ◌∙◌}
+use Rattle.std.proofs.Common.{ap, ◌∙◌}
 use Rattle.std.proofs.lemmas.Bool.{false≢true}
-use Rattle.pg_ids.specs.Key.{IsKey, identity_of}
+use Rattle.pg_ids.specs.Key.{identity_of}
 use Rattle.pg_ids.specs.declared.any_key.{Identity.Identity}
 use Rattle.pg_ids.specs.declared.client_key.ClientKey.{ClientKey}
 use Rattle.world.proofs.Issuing.{given_there}
@@ -14,7 +14,7 @@ returns-in-Some c = (
       let found = c.in-Some.ensures in
       let new = rw (c.in-Short-Some.is-0, c.in-Short-Some.is-1, ← c.self.view_is) at never in
       absurd (given_there _ f c.args.node c.in-Short-Some.slot c.args.secret c.in-Some.field-0.place c.in-Some.field-0.row
-      (subst IsKey c.first_key-key.ensures.key c.first_key-key.ensures.ranges)
-      found.found (found.key ∙ c.identity.ensures ∙ ap (λ (k : ClientKey). Identity.Short (identity_of k)) c.first_key-key.ensures.key)
+      c.key_in_range.ensures
+      found.found (found.key ∙ c.identity.ensures ∙ ap (λ (k : ClientKey). Identity.Short (identity_of k)) c.first_key-key.ensures)
       new),
 )
