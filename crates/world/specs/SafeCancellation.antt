@@ -1,4 +1,4 @@
--- What is true of every world: a cancel request strikes nobody but the client who asked (own).
+-- What is true of every world: a cancel request interrupts nobody but the client who asked (own).
 use Rattle.std.specs.Prelude.{ℕ, ◌≡◌, ◌≤◌, List, Some, slice_get}
 use Rattle.pg_ids.specs.AnyKey.{IsAnyKey, any_identity_of, peer_of, short_of}
 use Rattle.world.specs.World.{World, Arrival, Connection, Interrupt, Issue, Taken, IsOwner}
@@ -10,8 +10,8 @@ pub record IsForOwner (issues : List Issue) (arrivals : List Arrival)
   pub there : slice_get arrivals arrival ≡ Some came
   pub owner : IsOwner issues (any_identity_of came.key) label
 
--- each interruption struck a server process while it ran a query of the request's owner: the client
--- that its key was given to
+-- each interrupted server process ran a query of the request's owner: the client that its key was
+-- given to
 abbrev pub OnlyOwnerStruck : World → Type 0
 OnlyOwnerStruck w = (place : ℕ) (struck : Interrupt) → slice_get w.interrupts place ≡ Some struck
     → IsForOwner w.issues w.arrivals struck.arrival struck.label
