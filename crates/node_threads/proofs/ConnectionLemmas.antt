@@ -12,6 +12,7 @@ use Rattle.startup.specs.declared.error_code.ErrorCode.TheVariants.{InvalidCatal
 use Rattle.node_threads.specs.StreamCalls.{SomeCalls}
 use Rattle.node_threads.specs.Asking.{SendsError}
 use Rattle.node_threads.specs.Cancelling.{Opens, IsCarried, ServesCancel}
+use Rattle.node_threads.specs.Leasing.{Logins, IsLogin}
 use Rattle.node_threads.specs.Serving.{ServesClient}
 use Rattle.node_threads.specs.Connection.{place_of, ServesAt}
 
@@ -24,39 +25,62 @@ place_is group read settings name found place was is of same =
     let one : read ≡ settings = ap (λ o. unwrap_or o read) (sym was ∙ is) in
     ap (λ (s : NodeSettings). place_of name s.databases) (sym one) ∙ sym of ∙ same
 
--- the database at this place has it, and these are the parameters that logins report
-pub serves_some : {T C : Type 0} (limit at : ℕ) (wrote gave : Effect T) (wrote' gave' : Effect C)
-    (a b : C)
+-- The database at this place has it, these are the parameters that logins report, and its links are
+-- opened by these settings.
+pub serves_some : {T C X : Type 0} (limit at : ℕ) (wrote gave : Effect T) (connects : X → Opens T)
+    (opener by : X) (group : Option NodeSettings) (settings read : NodeSettings)
+    (wrote' gave' : Effect C) (a b : C)
     (reports same : List Report) (place : Option ℕ) (database secret : ℕ) (kind : Kind)
-    (kept left : List ℕ) (old new : CallerView) → at ≡ limit → reports ≡ same
+    (kept left : List ℕ) (old new : CallerView) → at ≡ limit → by ≡ opener
+    → group ≡ Some read → group ≡ Some settings → reports ≡ same
     → place ≡ Some database
     → SomeCalls wrote' gave' a b
-    (λ calls. ServesClient at wrote gave reports database secret kind kept calls left old new)
+    (λ calls. ServesClient at wrote gave (IsLogin at wrote gave (connects by) read.databases) reports
+    database secret kind kept calls left old new)
     → SomeCalls wrote' gave' a b
-    (λ calls. ServesAt limit wrote gave same place kind kept calls left old new)
-serves_some limit at wrote gave wrote' gave' a b reports same place database secret kind kept left
-    old new
-    limit_is are is serves =
+    (λ calls. ServesAt limit wrote gave
+    (IsLogin limit wrote gave (connects opener) settings.databases) same place kind kept calls left
+    old new)
+serves_some limit at wrote gave connects opener by group settings read wrote' gave' a b reports same
+    place
+    database secret kind kept left old new limit_is by_is was is_set are is serves =
+    let one : read ≡ settings = ap (λ o. unwrap_or o read) (sym was ∙ is_set) in
     let here : SomeCalls wrote' gave' a b
-    (λ calls. ServesClient limit wrote gave reports database secret kind kept calls left old new) =
-    subst (λ (n : ℕ). SomeCalls wrote' gave' a b
-    (λ calls. ServesClient n wrote gave reports database secret kind kept calls left old new))
-    limit_is serves in
+    (λ calls. ServesClient limit wrote gave
+    (IsLogin limit wrote gave (connects opener) settings.databases) reports database secret kind
+    kept calls left old new) =
+    subst (λ (s : NodeSettings). SomeCalls wrote' gave' a b
+    (λ calls. ServesClient limit wrote gave
+    (IsLogin limit wrote gave (connects opener) s.databases) reports database secret kind kept calls
+    left old new)) one
+    (subst (λ o. SomeCalls wrote' gave' a b
+    (λ calls. ServesClient limit wrote gave
+    (IsLogin limit wrote gave (connects o) read.databases) reports database secret kind kept calls
+    left old new)) by_is
+    (subst (λ (n : ℕ). SomeCalls wrote' gave' a b
+    (λ calls. ServesClient n wrote gave (IsLogin n wrote gave (connects by) read.databases) reports
+    database secret kind kept calls left old new))
+    limit_is serves)) in
     subst (λ (rs : List Report). SomeCalls wrote' gave' a b
-    (λ calls. ServesAt limit wrote gave rs place kind kept calls left old new)) are
+    (λ calls. ServesAt limit wrote gave
+    (IsLogin limit wrote gave (connects opener) settings.databases) rs place kind kept calls left
+    old new)) are
     (subst (λ (p : Option ℕ). SomeCalls wrote' gave' a b
-    (λ calls. ServesAt limit wrote gave reports p kind kept calls left old new)) (sym is)
+    (λ calls. ServesAt limit wrote gave
+    (IsLogin limit wrote gave (connects opener) settings.databases) reports p kind kept calls left
+    old new)) (sym is)
     (here.0, here.1, (secret, here.2)))
 
 -- there is none at this place
-pub serves_none : {T C : Type 0} (limit : ℕ) (wrote gave : Effect T) (wrote' gave' : Effect C)
+pub serves_none : {T C : Type 0} (limit : ℕ) (wrote gave : Effect T) (logins : Logins)
+    (wrote' gave' : Effect C)
     (a b : C) (reports : List Report) (place : Option ℕ) (kind : Kind) (kept : List ℕ)
     (old : CallerView) → place ≡ None → SomeCalls wrote' gave' a b (SendsError InvalidCatalogName)
     → SomeCalls wrote' gave' a b
-    (λ calls. ServesAt limit wrote gave reports place kind kept calls kept old old)
-serves_none limit wrote gave wrote' gave' a b reports place kind kept old is said =
+    (λ calls. ServesAt limit wrote gave logins reports place kind kept calls kept old old)
+serves_none limit wrote gave logins wrote' gave' a b reports place kind kept old is said =
     subst (λ (p : Option ℕ). SomeCalls wrote' gave' a b
-    (λ calls. ServesAt limit wrote gave reports p kind kept calls kept old old)) (sym is)
+    (λ calls. ServesAt limit wrote gave logins reports p kind kept calls kept old old)) (sym is)
     (said.0, said.1, (said.2, refl, refl))
 
 -- a cancel request that was served over an opener that is another

@@ -1,5 +1,5 @@
 -- What is known of the lease that a client got.
-use Rattle.std.proofs.Common.{ℕ, ◌≡◌, ◌⊎◌, inl, inr, List, Option, Some, None, IfSome, refl, ap, sym, subst}
+use Rattle.std.proofs.Common.{ℕ, ◌≡◌, ◌⊎◌, inl, inr, List, Option, Some, None, IfSome, refl, ap, sym, ◌∙◌, subst}
 use Rattle.ini_config.specs.Node.{DatabaseSettings}
 use Rattle.lease.specs.LinkValue.{LinkValue}
 use Rattle.lease.specs.declared.link_place.LinkPlace.{LinkPlace}
@@ -10,15 +10,19 @@ use Rattle.link_pool.specs.declared.replies.AcquireReply.{AcquireReply}
 use Rattle.link_pool.specs.declared.replies.AcquireReply.TheVariants as acquire
 use Rattle.link_pool.specs.declared.replies.UpReply.{UpReply}
 use Rattle.link_pool.specs.declared.replies.UpReply.TheVariants as up
+use Rattle.lease.specs.declared.link_record.LinkRecord.{LinkRecord}
 use Rattle.node_core.specs.declared.exchange.Exchange.TheVariants as step
 use Rattle.locked_node.specs.Lock.{CallerView, Counted}
+use Rattle.startup.specs.declared.error_code.ErrorCode.{ErrorCode}
 use Rattle.startup.specs.declared.error_code.ErrorCode.TheVariants.{TooManyConnections}
 use Rattle.peer_forward.specs.Calls.{Effect}
+use Rattle.node_threads.specs.Balance.{Balanced, nothing}
 use Rattle.node_threads.specs.Cancelling.{Opens}
-use Rattle.node_threads.specs.Leasing.{OfLease, IsLoggedIn, WasAnswered, WentUp, IsDenied, IsAnswer, IsOpened, IsKept}
+use Rattle.node_threads.specs.Leasing.{OfLease, IsLoggedIn, Logins, IsLogin, IsThisLogin, WasAnswered, WentUp, IsGiven, IsUnopened, IsDenied, IsAnswer, IsOpened, IsKept}
 use Rattle.node_threads.specs.declared.session.link.Link.{Link}
 use Rattle.node_threads.specs.declared.session.leases.Acquired.{Acquired}
 use Rattle.node_threads.specs.declared.session.leases.Acquired.TheVariants.{Lease, Cancelled, Refused, Ended}
+use Rattle.node_threads.proofs.Balancing.{moves_on, moves_nothing}
 use Rattle.node_threads.proofs.Told.{said-counted}
 
 -- what follows of a lease from three facts about it
@@ -47,21 +51,24 @@ same_link limit wrote gave opens entries key at is link opened place stream logg
 pub was_answered : {S : Type 0} (pass : PassRecord)
     (reply : AcquireReply (LinkValue S) PermitRecord) (old new : CallerView)
     → Counted (step.Acquire pass (acquire_said reply)) reply acquire.Exhausted old new
-    → WasAnswered pass (acquire_said reply) new
-was_answered pass reply old new counted = (old, said-counted acquire_said _ _ _ _ _ counted)
+    → WasAnswered pass (acquire_said reply) old new
+was_answered pass reply old new counted =
+    (old, moves_nothing nothing old old refl, said-counted acquire_said _ _ _ _ _ counted)
 
 pub went_up : {S : Type 0} (permit : PermitRecord) (key : List ℕ) (stream : S)
     (reply : UpReply (LinkValue S) PermitRecord S) (old new : CallerView)
     → Counted (step.Up permit key (up_said reply)) reply (up.AtEnd stream) old new
-    → WentUp permit (up_said reply) old new
-went_up permit key stream reply old new counted = (key, said-counted up_said _ _ _ _ _ counted)
+    → WentUp (IsThisLogin permit.at.database key) permit (up_said reply) old new
+went_up permit key stream reply old new counted =
+    (key, (refl, refl), said-counted up_said _ _ _ _ _ counted)
 
 -- a client that has something already, or for whom no number is left
-pub is_denied : {S : Type 0} (pass : PassRecord) (reply : AcquireReply (LinkValue S) PermitRecord)
+pub is_denied : {S : Type 0} (logins : Logins) (pass : PassRecord)
+    (reply : AcquireReply (LinkValue S) PermitRecord)
     (old new : CallerView) → (reply ≡ acquire.Holding) ⊎ (reply ≡ acquire.Exhausted)
     → Counted (step.Acquire pass (acquire_said reply)) reply acquire.Exhausted old new
-    → IsDenied pass TooManyConnections new
-is_denied {S} pass reply old new is counted =
+    → IsDenied logins pass TooManyConnections old new
+is_denied {S} logins pass reply old new is counted =
     let was = was_answered pass reply old new counted in
     let said : AcquireReply (LinkValue S) PermitRecord → AcquireReply _ PermitRecord =
     λ r. acquire_said r in
@@ -69,36 +76,141 @@ is_denied {S} pass reply old new is counted =
       | inl holding ↦ (
         acquire.Holding,
         refl,
-        subst (λ r. WasAnswered pass r new) (ap said holding)
+        subst (λ r. WasAnswered pass r old new) (ap said holding)
             was,
       )
-      | inr none ↦ (acquire.Exhausted, refl, subst (λ r. WasAnswered pass r new) (ap said none) was)
+      | inr none ↦ (
+        acquire.Exhausted,
+        refl,
+        subst (λ r. WasAnswered pass r old new) (ap said none) was,
+      )
     ])
 
--- what came of a permit is the node's answer
-pub opened_answer : {L : Type 0} (pass : PassRecord) (permit : PermitRecord)
-    (opened : Acquired (LinkValue L)) (old new : CallerView)
-    → WasAnswered pass (acquire.Open permit) old → IsOpened permit opened old new
-    → IsAnswer pass opened new
-opened_answer pass permit (Lease lease) old new was is = inr (permit, old, was, is)
-opened_answer pass permit Cancelled old new was is = absurd is
-opened_answer pass permit (Refused code) old new was is = inr (permit, old, was, is)
-opened_answer pass permit Ended old new was is = tt
+-- the login that gave this key at this database is one of these
+pub is_login : {T : Type 0} (limit : ℕ) (wrote gave : Effect T) (opens : Opens T)
+    (entries : List DatabaseSettings) (database at : ℕ) (key : List ℕ) (stream : T)
+    → database ≡ at → IsLoggedIn limit wrote gave opens entries database key stream
+    → (number : ℕ) (given : List ℕ) → IsThisLogin at key number given
+    → IsLogin limit wrote gave opens entries number given
+is_login limit wrote gave opens entries database at key stream is logged number given this = (
+  stream,
+  subst (λ (k : List ℕ). IsLoggedIn limit wrote gave opens entries number k stream) (sym this.1)
+      (subst (λ n. IsLoggedIn limit wrote gave opens entries n key stream) (is ∙ sym this.0) logged),
+)
 
--- and stays so
-pub kept_answer : {L : Type 0} (pass : PassRecord) (opened result : Acquired (LinkValue L))
-    (old new : CallerView) → IsAnswer pass opened old → IsKept opened result old new
-    → IsAnswer pass result new
-kept_answer {L} pass opened result old new answer kept = elim kept [
-  | inl same ↦ subst (λ (v : CallerView). IsAnswer pass result v) (sym same.1)
-      (subst (λ (r : Acquired (LinkValue L)). IsAnswer pass r old) (sym same.0) answer)
-  | inr ended ↦ subst (λ (r : Acquired (LinkValue L)). IsAnswer pass r new) (sym ended) tt
+went_up_by : (P Q : Logins) (permit : PermitRecord)
+    (reply : UpReply LinkRecord PermitRecord (Unit {0})) (old new : CallerView)
+    → ((number : ℕ) (given : List ℕ) → P number given → Q number given)
+    → WentUp P permit reply old new → WentUp Q permit reply old new
+went_up_by P Q permit reply old new all up = (up.0, all permit.at.database up.0 up.1, up.2)
+
+unopened_by : (P Q : Logins) (permit : PermitRecord) (code : ErrorCode) (old new : CallerView)
+    → ((number : ℕ) (given : List ℕ) → P number given → Q number given)
+    → IsUnopened P permit code old new → IsUnopened Q permit code old new
+unopened_by P Q permit code old new all is = elim is [
+  | inl denied ↦ inl (
+    denied.0,
+    denied.1,
+    went_up_by P Q permit denied.0 old new all denied.2,
+  )
+  | inr rest ↦ elim rest [
+    | inl back ↦ inr (inl (
+      back.0,
+      back.1,
+      went_up_by P Q permit (up.Exhausted back.0 tt) old back.1 all back.2,
+      back.3,
+      back.4,
+    ))
+    | inr failed ↦ inr (inr failed)
+  ]
 ]
 
-pub kept_answers : {L : Type 0} (pass : PassRecord) (opened : Acquired (LinkValue L))
-    (found : Option (Acquired (LinkValue L))) (old new : CallerView) → IsAnswer pass opened old
-    → IfSome found (λ result. IsKept opened result old new)
-    → IfSome found (λ result. IsAnswer pass result new)
-kept_answers pass opened None old new answer kept = tt
-kept_answers pass opened (Some result) old new answer kept =
-    kept_answer pass opened result old new answer kept
+-- what came of a permit, where logins of one kind are of another
+pub opened_by : {L : Type 0} (P Q : Logins) (permit : PermitRecord)
+    (opened : Acquired (LinkValue L)) (old new : CallerView)
+    → ((number : ℕ) (given : List ℕ) → P number given → Q number given)
+    → IsOpened P permit opened old new → IsOpened Q permit opened old new
+opened_by P Q permit (Lease lease) old new all is =
+    (is.0, went_up_by P Q permit (up.Up lease.details) old new all is.1)
+opened_by P Q permit Cancelled old new all is = absurd is
+opened_by P Q permit (Refused code) old new all is = unopened_by P Q permit code old new all is
+opened_by P Q permit Ended old new all is = tt
+
+-- what came of a permit is the node's answer
+pub opened_answer : {L : Type 0} (logins : Logins) (pass : PassRecord) (permit : PermitRecord)
+    (opened : Acquired (LinkValue L)) (old asked new : CallerView)
+    → WasAnswered pass (acquire.Open permit) old asked → IsOpened logins permit opened asked new
+    → IsAnswer logins pass opened old new
+opened_answer logins pass permit (Lease lease) old asked new was is =
+    inr (permit, asked, was, is.0, is.1)
+opened_answer logins pass permit Cancelled old asked new was is = absurd is
+opened_answer logins pass permit (Refused code) old asked new was is = inr (permit, asked, was, is)
+opened_answer logins pass permit Ended old asked new was is = tt
+
+-- and stays so
+pub kept_answer : {L : Type 0} (logins : Logins) (pass : PassRecord)
+    (opened result : Acquired (LinkValue L)) (old middle new : CallerView)
+    → IsAnswer logins pass opened old middle → IsKept opened result middle new
+    → IsAnswer logins pass result old new
+kept_answer {L} logins pass opened result old middle new answer kept = elim kept [
+  | inl same ↦ subst (λ (v : CallerView). IsAnswer logins pass result old v) (sym same.1)
+      (subst (λ (r : Acquired (LinkValue L)). IsAnswer logins pass r old middle) (sym same.0)
+      answer)
+  | inr ended ↦ subst (λ (r : Acquired (LinkValue L)). IsAnswer logins pass r old new) (sym ended)
+      tt
+]
+
+pub kept_answers : {L : Type 0} (logins : Logins) (pass : PassRecord)
+    (opened : Acquired (LinkValue L))
+    (found : Option (Acquired (LinkValue L))) (old middle new : CallerView)
+    → IsAnswer logins pass opened old middle
+    → IfSome found (λ result. IsKept opened result middle new)
+    → IfSome found (λ result. IsAnswer logins pass result old new)
+kept_answers logins pass opened None old middle new answer kept = tt
+kept_answers logins pass opened (Some result) old middle new answer kept =
+    kept_answer logins pass opened result old middle new answer kept
+
+-- the node's answer to a client that held nothing before it asked
+later_was : (pass : PassRecord) (reply : AcquireReply LinkRecord PermitRecord)
+    (old middle new : CallerView) → Balanced old middle → WasAnswered pass reply middle new
+    → WasAnswered pass reply old new
+later_was pass reply old middle new moves was =
+    (was.0, moves_on nothing nothing nothing old middle was.0 moves was.1, was.2)
+
+later_given : (logins : Logins) (pass : PassRecord) (link : LinkRecord)
+    (old middle new : CallerView) → Balanced old middle → IsGiven logins pass link middle new
+    → IsGiven logins pass link old new
+later_given logins pass link old middle new moves given = elim given [
+  | inl got ↦ inl (later_was pass (acquire.Got link) old middle new moves got)
+  | inr is ↦ inr (
+    is.0,
+    is.1,
+    later_was pass (acquire.Open is.0) old middle is.1 moves is.2,
+    is.3,
+    is.4,
+  )
+]
+
+later_denied : (logins : Logins) (pass : PassRecord) (code : ErrorCode)
+    (old middle new : CallerView) → Balanced old middle → IsDenied logins pass code middle new
+    → IsDenied logins pass code old new
+later_denied logins pass code old middle new moves denied = elim denied [
+  | inl is ↦ inl (is.0, is.1, later_was pass is.0 old middle new moves is.2)
+  | inr is ↦ inr (
+    is.0,
+    is.1,
+    later_was pass (acquire.Open is.0) old middle is.1 moves is.2,
+    is.3,
+  )
+]
+
+pub later_answer : {L : Type 0} (logins : Logins) (pass : PassRecord)
+    (result : Acquired (LinkValue L)) (old middle new : CallerView) → Balanced old middle
+    → IsAnswer logins pass result middle new → IsAnswer logins pass result old new
+later_answer logins pass (Lease lease) old middle new moves is =
+    later_given logins pass lease.details old middle new moves is
+later_answer logins pass Cancelled old middle new moves is =
+    later_was pass acquire.Cancelled old middle new moves is
+later_answer logins pass (Refused code) old middle new moves is =
+    later_denied logins pass code old middle new moves is
+later_answer logins pass Ended old middle new moves is = tt

@@ -30,7 +30,7 @@ use Rattle.node_threads.specs.Stay.{Stay}
 use Rattle.node_threads.specs.Turn.{handed_in}
 use Rattle.node_threads.specs.Desks.{Tells}
 use Rattle.node_threads.specs.Balance.{Moves, nothing, a_pass}
-use Rattle.node_threads.specs.Leasing.{hand_of, OfLease, WasAnswered, IsDenied, IsAnswer}
+use Rattle.node_threads.specs.Leasing.{Logins, hand_of, OfLease, WasAnswered, IsDenied, IsAnswer}
 use Rattle.node_threads.specs.Serving.{Greets, TellsCancelled, Fate, Carried, Spoilt, Cancelled, Refused, Dropped, end_of, EndsWith, Gets, Comes, IsRequest, Serves, Requests, Stays, Joins, ServesClient, ComesOf}
 use Rattle.peer_forward.proofs.CallLemmas.{Makes-append, Wrote-append, WroteSome-append}
 use Rattle.node_threads.proofs.Told.{said-counted}
@@ -223,18 +223,18 @@ rides_on limit wrote gave wrote' gave' client client' lease stream request kept 
     stays told (none_of stayed is)
 
 -- what came of a request, by what came of asking for a link
-comes_of : {T : Type 0} (limit : ℕ) (wrote gave : Effect T) (pass : PassRecord) (database : ℕ)
+comes_of : {T : Type 0} (limit : ℕ) (wrote gave : Effect T) (logins : Logins) (pass : PassRecord) (database : ℕ)
     (given : Acquired (LinkValue (Link T))) (request : List ℕ) (end : Option (List ℕ))
     (kept : List ℕ) (calls : List Call) (left : List ℕ) (old between new : CallerView)
-    → IsAnswer pass given between → OfLease (λ lease. lease.details.at.database ≡ database) given
+    → IsAnswer logins pass given old between → OfLease (λ lease. lease.details.at.database ≡ database) given
     → Moves nothing old (hand_of given) between
     → ComesOf limit wrote gave given request end kept calls left between new
-    → (fate : Fate) × Comes limit wrote gave pass database request fate end kept calls left old new
+    → (fate : Fate) × Comes limit wrote gave logins pass database request fate end kept calls left old new
     × EndsWith fate end
-comes_of limit wrote gave pass database (acquired.Lease lease) request end kept calls left old
+comes_of limit wrote gave logins pass database (acquired.Lease lease) request end kept calls left old
     between new
     answer is moves comes =
-    let gets : Gets pass database lease.details old between =
+    let gets : Gets logins pass database lease.details old between =
     record { given = answer; place = is; moves = moves } in
     elim comes [
       | inl carried ↦ (
@@ -248,12 +248,12 @@ comes_of limit wrote gave pass database (acquired.Lease lease) request end kept 
         closed.1,
       )
     ]
-comes_of limit wrote gave pass database acquired.Cancelled request end kept calls left old between
+comes_of limit wrote gave logins pass database acquired.Cancelled request end kept calls left old between
     new
     answer is moves comes = (
       Cancelled,
       (
-        subst (λ (v : CallerView). WasAnswered pass acquire.Cancelled v) (sym comes.2) answer,
+        subst (λ (v : CallerView). WasAnswered pass acquire.Cancelled old v) (sym comes.2) answer,
         comes.0,
         comes.1,
       ),
@@ -263,50 +263,50 @@ comes_of limit wrote gave pass database acquired.Cancelled request end kept call
           → (end ≡ None) ⊎ (end ≡ Some [])
       ended None calls told = inl refl
       ended (Some reply) calls told = inr (ap Some told.1)
-comes_of limit wrote gave pass database (acquired.Refused code) request end kept calls left old
+comes_of limit wrote gave logins pass database (acquired.Refused code) request end kept calls left old
     between new
     answer is moves comes = (
       Refused code,
       (
-        subst (λ (v : CallerView). IsDenied pass code v) (sym comes.3) answer,
+        subst (λ (v : CallerView). IsDenied logins pass code old v) (sym comes.3) answer,
         comes.1,
         comes.2,
       ),
       comes.0,
     )
-comes_of limit wrote gave pass database acquired.Ended request end kept calls left old between new
+comes_of limit wrote gave logins pass database acquired.Ended request end kept calls left old between new
     answer
     is moves comes = (Dropped, (comes.1, comes.2), comes.0)
 
 -- a request is one of a session
-served_by : {T : Type 0} (limit : ℕ) (wrote gave : Effect T) (pass : PassRecord) (database : ℕ)
+served_by : {T : Type 0} (limit : ℕ) (wrote gave : Effect T) (logins : Logins) (pass : PassRecord) (database : ℕ)
     (end : Option (List ℕ)) (kept : List ℕ) (calls : List Call) (left : List ℕ)
-    (old new : CallerView) → IsRequest limit wrote gave pass database end kept calls left old new
-    → Serves limit wrote gave pass database end kept calls left old new
-served_by limit wrote gave pass database None kept calls left old new is = is
-served_by limit wrote gave pass database (Some reply) kept calls left old new is = inl is
+    (old new : CallerView) → IsRequest limit wrote gave logins pass database end kept calls left old new
+    → Serves limit wrote gave logins pass database end kept calls left old new
+served_by limit wrote gave logins pass database None kept calls left old new is = is
+served_by limit wrote gave logins pass database (Some reply) kept calls left old new is = inl is
 
 -- the next request was read, a link asked for, and it was served
-pub request_served : {T C : Type 0} (limit : ℕ) (wrote gave : Effect T) (wrote' gave' : Effect C)
+pub request_served : {T C : Type 0} (limit : ℕ) (wrote gave : Effect T) (logins : Logins) (wrote' gave' : Effect C)
     (a b c : C)
     (pass : PassRecord) (database : ℕ) (given : Acquired (LinkValue (Link T))) (request : List ℕ)
     (end : Option (List ℕ)) (kept behind left : List ℕ) (old between new : CallerView)
     → SomeCalls wrote' gave' a b (λ calls. AsksNext limit kept calls (Ok request) behind)
-    → IsAnswer pass given between → OfLease (λ lease. lease.details.at.database ≡ database) given
+    → IsAnswer logins pass given old between → OfLease (λ lease. lease.details.at.database ≡ database) given
     → Moves nothing old (hand_of given) between
     → SomeCalls wrote' gave' b c
     (λ calls. ComesOf limit wrote gave given request end behind calls left between new)
     → SomeCalls wrote' gave' a c
-    (λ calls. Serves limit wrote gave pass database end kept calls left old new)
-request_served limit wrote gave wrote' gave' a b c pass database given request end kept behind left
+    (λ calls. Serves limit wrote gave logins pass database end kept calls left old new)
+request_served limit wrote gave logins wrote' gave' a b c pass database given request end kept behind left
     old
     between new asks answer is moves comes =
-    let came = comes_of limit wrote gave pass database given request end behind comes.0 left old
+    let came = comes_of limit wrote gave logins pass database given request end behind comes.0 left old
     between
     new answer is moves comes.2 in (
       asks.0 ++ comes.0,
       Makes-append wrote' gave' a b c asks.0 comes.0 asks.1 comes.1,
-      served_by limit wrote gave pass database end kept (asks.0 ++ comes.0) left old new (record {
+      served_by limit wrote gave logins pass database end kept (asks.0 ++ comes.0) left old new (record {
         asks = asks.0;
         rest = comes.0;
         calls_are = refl;
@@ -319,24 +319,24 @@ request_served limit wrote gave wrote' gave' a b c pass database given request e
       }),
     )
 
-pub request_served_at : {T C : Type 0} (limit limit' : ℕ) (wrote gave : Effect T)
+pub request_served_at : {T C : Type 0} (limit limit' : ℕ) (wrote gave : Effect T) (logins : Logins)
     (wrote' gave' : Effect C)
     (a b c : C) (pass : PassRecord) (at database : ℕ) (given : Acquired (LinkValue (Link T)))
     (request : List ℕ) (end : Option (List ℕ)) (kept behind left : List ℕ)
     (old between new : CallerView) → at ≡ database → limit' ≡ limit
     → SomeCalls wrote' gave' a b (λ calls. AsksNext limit kept calls (Ok request) behind)
-    → IsAnswer pass given between → OfLease (λ lease. lease.details.at.database ≡ at) given
+    → IsAnswer logins pass given old between → OfLease (λ lease. lease.details.at.database ≡ at) given
     → Moves nothing old (hand_of given) between
     → SomeCalls wrote' gave' b c
     (λ calls. ComesOf limit' wrote gave given request end behind calls left between new)
     → SomeCalls wrote' gave' a c
-    (λ calls. Serves limit wrote gave pass database end kept calls left old new)
-request_served_at limit limit' wrote gave wrote' gave' a b c pass at database given request end
+    (λ calls. Serves limit wrote gave logins pass database end kept calls left old new)
+request_served_at limit limit' wrote gave logins wrote' gave' a b c pass at database given request end
     kept behind left old
     between new same limit_is asks answer is moves comes =
     subst (λ d. SomeCalls wrote' gave' a c
-    (λ calls. Serves limit wrote gave pass d end kept calls left old new)) same
-    (request_served limit wrote gave wrote' gave' a b c pass at given request end kept behind left
+    (λ calls. Serves limit wrote gave logins pass d end kept calls left old new)) same
+    (request_served limit wrote gave logins wrote' gave' a b c pass at given request end kept behind left
     old between
     new asks answer is moves
     (subst (λ (n : ℕ). SomeCalls wrote' gave' b c
@@ -344,36 +344,36 @@ request_served_at limit limit' wrote gave wrote' gave' a b c pass at database gi
     comes))
 
 -- the client leaves
-pub request_left : {T C : Type 0} (limit : ℕ) (wrote gave : Effect T) (wrote' gave' : Effect C)
+pub request_left : {T C : Type 0} (limit : ℕ) (wrote gave : Effect T) (logins : Logins) (wrote' gave' : Effect C)
     (a b : C)
     (pass : PassRecord) (database : ℕ) (reply kept left : List ℕ) (old : CallerView)
     → SomeCalls wrote' gave' a b (λ calls. AsksNext limit kept calls (Err reply) left)
     → SomeCalls wrote' gave' a b
-    (λ calls. Serves limit wrote gave pass database (Some reply) kept calls left old old)
-request_left limit wrote gave wrote' gave' a b pass database reply kept left old asks =
+    (λ calls. Serves limit wrote gave logins pass database (Some reply) kept calls left old old)
+request_left limit wrote gave logins wrote' gave' a b pass database reply kept left old asks =
     (asks.0, asks.1, inr (asks.2.0, asks.2.1, refl))
 
 -- one request more
-requests_more : {T : Type 0} (limit : ℕ) (wrote gave : Effect T) (pass : PassRecord) (database : ℕ)
+requests_more : {T : Type 0} (limit : ℕ) (wrote gave : Effect T) (logins : Logins) (pass : PassRecord) (database : ℕ)
     (each : List (List Call)) (kept : List ℕ) (calls : List Call) (behind : List ℕ)
     (first : List Call) (left : List ℕ) (old between new : CallerView)
-    → Requests limit wrote gave pass database each kept calls behind old between
-    → Serves limit wrote gave pass database None behind first left between new
-    → Requests limit wrote gave pass database (each ++ first ∷ []) kept (calls ++ first) left old
+    → Requests limit wrote gave logins pass database each kept calls behind old between
+    → Serves limit wrote gave logins pass database None behind first left between new
+    → Requests limit wrote gave logins pass database (each ++ first ∷ []) kept (calls ++ first) left old
     new
-requests_more limit wrote gave pass database [] kept calls behind first left old between new so_far
+requests_more limit wrote gave logins pass database [] kept calls behind first left old between new so_far
     one = (
       [],
       ap (λ xs. xs ++ first) so_far.0 ∙ sym (append-nil first),
       left,
       new,
-      subst (λ v. Serves limit wrote gave pass database None kept first left v new) so_far.2
+      subst (λ v. Serves limit wrote gave logins pass database None kept first left v new) so_far.2
           (subst
-          (λ xs. Serves limit wrote gave pass database None xs first left between new) so_far.1
+          (λ xs. Serves limit wrote gave logins pass database None xs first left between new) so_far.1
           one),
       (refl, refl, refl),
     )
-requests_more limit wrote gave pass database (head ∷ others) kept calls behind first left old
+requests_more limit wrote gave logins pass database (head ∷ others) kept calls behind first left old
     between new
     so_far one = (
       so_far.0 ++ first,
@@ -381,13 +381,13 @@ requests_more limit wrote gave pass database (head ∷ others) kept calls behind
       so_far.2,
       so_far.3,
       so_far.4,
-      requests_more limit wrote gave pass database others so_far.2 so_far.0 behind first left
+      requests_more limit wrote gave logins pass database others so_far.2 so_far.0 behind first left
           so_far.3
           between new so_far.5 one,
     )
 
 -- A session of a client that took its greeting, so far.
-pub record Serving {T C : Type 0} (limit : ℕ) (wrote gave : Effect T) (wrote' gave' : Effect C)
+pub record Serving {T C : Type 0} (limit : ℕ) (wrote gave : Effect T) (logins : Logins) (wrote' gave' : Effect C)
     (reports : List Report) (pass : PassRecord) (database : ℕ) (kept : List ℕ) (client client' : C)
     (left : List ℕ) (old new : CallerView) : Type 0 where
   pub greeting : List Call
@@ -395,14 +395,14 @@ pub record Serving {T C : Type 0} (limit : ℕ) (wrote gave : Effect T) (wrote' 
   pub made : Makes wrote' gave' client (greeting ++ served) client'
   pub greets : Greets reports pass.key None greeting
   pub each : List (List Call)
-  pub requests : Requests limit wrote gave pass database each kept served left old new
+  pub requests : Requests limit wrote gave logins pass database each kept served left old new
 
-pub serving_start : {T C : Type 0} (limit : ℕ) (wrote gave : Effect T) (wrote' gave' : Effect C)
+pub serving_start : {T C : Type 0} (limit : ℕ) (wrote gave : Effect T) (logins : Logins) (wrote' gave' : Effect C)
     (reports : List Report) (pass : PassRecord) (database : ℕ) (kept : List ℕ) (client client' : C)
     (old : CallerView)
     → SomeCalls wrote' gave' client client' (Greets reports pass.key None)
-    → Serving limit wrote gave wrote' gave' reports pass database kept client client' kept old old
-serving_start limit wrote gave wrote' gave' reports pass database kept client client' old greets =
+    → Serving limit wrote gave logins wrote' gave' reports pass database kept client client' kept old old
+serving_start limit wrote gave logins wrote' gave' reports pass database kept client client' old greets =
     record {
       greeting = greets.0;
       served = [];
@@ -412,15 +412,15 @@ serving_start limit wrote gave wrote' gave' reports pass database kept client cl
       requests = (refl, refl, refl);
     }
 
-pub serving_more : {T C : Type 0} (limit : ℕ) (wrote gave : Effect T) (wrote' gave' : Effect C)
+pub serving_more : {T C : Type 0} (limit : ℕ) (wrote gave : Effect T) (logins : Logins) (wrote' gave' : Effect C)
     (reports : List Report) (pass : PassRecord) (database : ℕ) (kept : List ℕ)
     (client client' client'' : C) (behind left : List ℕ) (old between new : CallerView)
-    → Serving limit wrote gave wrote' gave' reports pass database kept client client' behind old
+    → Serving limit wrote gave logins wrote' gave' reports pass database kept client client' behind old
     between
     → SomeCalls wrote' gave' client' client''
-    (λ calls. Serves limit wrote gave pass database None behind calls left between new)
-    → Serving limit wrote gave wrote' gave' reports pass database kept client client'' left old new
-serving_more limit wrote gave wrote' gave' reports pass database kept client client' client''
+    (λ calls. Serves limit wrote gave logins pass database None behind calls left between new)
+    → Serving limit wrote gave logins wrote' gave' reports pass database kept client client'' left old new
+serving_more limit wrote gave logins wrote' gave' reports pass database kept client client' client''
     behind left
     old between new so_far one = record {
       greeting = so_far.greeting;
@@ -432,21 +432,21 @@ serving_more limit wrote gave wrote' gave' reports pass database kept client cli
           so_far.made one.1);
       greets = so_far.greets;
       each = so_far.each ++ one.0 ∷ [];
-      requests = requests_more limit wrote gave pass database so_far.each kept so_far.served behind
+      requests = requests_more limit wrote gave logins pass database so_far.each kept so_far.served behind
           one.0
           left old between new so_far.requests one.2;
     }
 
-pub serving_ends : {T C : Type 0} (limit : ℕ) (wrote gave : Effect T) (wrote' gave' : Effect C)
+pub serving_ends : {T C : Type 0} (limit : ℕ) (wrote gave : Effect T) (logins : Logins) (wrote' gave' : Effect C)
     (reports : List Report) (pass : PassRecord) (database : ℕ) (kept : List ℕ)
     (client client' client'' : C) (behind left reply : List ℕ) (old between new : CallerView)
-    → Serving limit wrote gave wrote' gave' reports pass database kept client client' behind old
+    → Serving limit wrote gave logins wrote' gave' reports pass database kept client client' behind old
     between
     → SomeCalls wrote' gave' client' client''
-    (λ calls. Serves limit wrote gave pass database (Some reply) behind calls left between new)
+    (λ calls. Serves limit wrote gave logins pass database (Some reply) behind calls left between new)
     → SomeCalls wrote' gave' client client''
-    (λ calls. Stays limit wrote gave reports pass database reply kept calls left old new)
-serving_ends limit wrote gave wrote' gave' reports pass database kept client client' client''
+    (λ calls. Stays limit wrote gave logins reports pass database reply kept calls left old new)
+serving_ends limit wrote gave logins wrote' gave' reports pass database kept client client' client''
     behind left
     reply old between new so_far last = (
       so_far.greeting ++ (so_far.served ++ last.0),
@@ -470,41 +470,41 @@ serving_ends limit wrote gave wrote' gave' reports pass database kept client cli
     )
 
 -- a client that isn't greeted
-pub stays_unmade : {T C : Type 0} (limit : ℕ) (wrote gave : Effect T) (wrote' gave' : Effect C)
+pub stays_unmade : {T C : Type 0} (limit : ℕ) (wrote gave : Effect T) (logins : Logins) (wrote' gave' : Effect C)
     (client : C)
     (reports : List Report) (pass : PassRecord) (database : ℕ) (reply kept : List ℕ)
     (old : CallerView)
     → IsError OutOfMemory reply
     → SomeCalls wrote' gave' client client
-    (λ calls. Stays limit wrote gave reports pass database reply kept calls kept old old)
-stays_unmade limit wrote gave wrote' gave' client reports pass database reply kept old error =
+    (λ calls. Stays limit wrote gave logins reports pass database reply kept calls kept old old)
+stays_unmade limit wrote gave logins wrote' gave' client reports pass database reply kept old error =
     ([], refl, inr (inl (error, refl), refl, refl))
 
-pub stays_ungreeted : {T C : Type 0} (limit : ℕ) (wrote gave : Effect T) (wrote' gave' : Effect C)
+pub stays_ungreeted : {T C : Type 0} (limit : ℕ) (wrote gave : Effect T) (logins : Logins) (wrote' gave' : Effect C)
     (client client' : C) (reports : List Report) (pass : PassRecord) (database : ℕ)
     (reply kept : List ℕ)
     (old : CallerView) → SomeCalls wrote' gave' client client'
     (Greets reports pass.key (Some reply))
     → SomeCalls wrote' gave' client client'
-    (λ calls. Stays limit wrote gave reports pass database reply kept calls kept old old)
-stays_ungreeted limit wrote gave wrote' gave' client client' reports pass database reply kept old
+    (λ calls. Stays limit wrote gave logins reports pass database reply kept calls kept old old)
+stays_ungreeted limit wrote gave logins wrote' gave' client client' reports pass database reply kept old
     greets =
     (greets.0, greets.1, inr (greets.2, refl, refl))
 
 -- a client that got a slot
-pub client_served : {T C : Type 0} (limit : ℕ) (wrote gave : Effect T) (wrote' gave' : Effect C)
+pub client_served : {T C : Type 0} (limit : ℕ) (wrote gave : Effect T) (logins : Logins) (wrote' gave' : Effect C)
     (a b c : C)
     (reports : List Report) (database secret : ℕ) (kind : Kind) (pass : PassRecord)
     (reply text kept left : List ℕ) (old joined done new : CallerView) (whole : Bool)
     → Joins database secret kind (Ok pass) old joined
     → SomeCalls wrote' gave' a b
-    (λ calls. Stays limit wrote gave reports pass database reply kept calls left joined done)
+    (λ calls. Stays limit wrote gave logins reports pass database reply kept calls left joined done)
     → Moves a_pass done nothing new → text ≡ reply
     → (whole ≡ true → SomeCalls wrote' gave' b c (Wrote text))
     → (whole ≡ false → SomeCalls wrote' gave' b c (WroteSome text))
     → SomeCalls wrote' gave' a c
-    (λ calls. ServesClient limit wrote gave reports database secret kind kept calls left old new)
-client_served limit wrote gave wrote' gave' a b c reports database secret kind pass reply text kept
+    (λ calls. ServesClient limit wrote gave logins reports database secret kind kept calls left old new)
+client_served limit wrote gave logins wrote' gave' a b c reports database secret kind pass reply text kept
     left
     old joined done new whole joins stays leaves is did some =
     let said = sends_same wrote' gave' b c text reply is (sends wrote' gave' b c text whole did
@@ -527,7 +527,7 @@ client_served limit wrote gave wrote' gave' a b c reports database secret kind p
     )
 
 -- a client that got none
-pub client_refused : {T C : Type 0} (limit : ℕ) (wrote gave : Effect T) (wrote' gave' : Effect C)
+pub client_refused : {T C : Type 0} (limit : ℕ) (wrote gave : Effect T) (logins : Logins) (wrote' gave' : Effect C)
     (a b : C)
     (reports : List Report) (database secret : ℕ) (kind : Kind)
     (answer : Result PassRecord JoinRefusal) (kept : List ℕ)
@@ -535,86 +535,86 @@ pub client_refused : {T C : Type 0} (limit : ℕ) (wrote gave : Effect T) (wrote
     → Joins database secret kind answer old new
     → SomeCalls wrote' gave' a b (SendsError TooManyConnections)
     → SomeCalls wrote' gave' a b
-    (λ calls. ServesClient limit wrote gave reports database secret kind kept calls kept old new)
-client_refused limit wrote gave wrote' gave' a b reports database secret kind (Ok pass) kept old
+    (λ calls. ServesClient limit wrote gave logins reports database secret kind kept calls kept old new)
+client_refused limit wrote gave logins wrote' gave' a b reports database secret kind (Ok pass) kept old
     new none
     joins said =
     absurd (none pass refl)
-client_refused limit wrote gave wrote' gave' a b reports database secret kind (Err refusal) kept
+client_refused limit wrote gave logins wrote' gave' a b reports database secret kind (Err refusal) kept
     old new
     none joins said = (said.0, said.1, inr (refusal, joins, said.2, refl))
 
 -- the session goes on with a request more, and is as at its start
-pub serving_next : {T C : Type 0} (limit : ℕ) (wrote gave : Effect T) (wrote' gave' : Effect C)
+pub serving_next : {T C : Type 0} (limit : ℕ) (wrote gave : Effect T) (logins : Logins) (wrote' gave' : Effect C)
     (reports : List Report) (pass : PassRecord) (database : ℕ) (kept : List ℕ)
     (client client' client'' : C)
     (behind left : List ℕ) (old between new : CallerView) (session next : Session)
     (result : Option (List ℕ)) → session ≡ begun limit database → result ≡ None
     → (result ≡ None → next ≡ begun session.limit session.database)
-    → Serving limit wrote gave wrote' gave' reports pass database kept client client' behind old
+    → Serving limit wrote gave logins wrote' gave' reports pass database kept client client' behind old
     between
     → SomeCalls wrote' gave' client' client''
-    (λ calls. Serves session.limit wrote gave pass session.database result behind calls left
+    (λ calls. Serves session.limit wrote gave logins pass session.database result behind calls left
     between new)
     → (next ≡ begun limit database)
-    × Serving limit wrote gave wrote' gave' reports pass database kept client client'' left old new
-serving_next limit wrote gave wrote' gave' reports pass database kept client client' client''
+    × Serving limit wrote gave logins wrote' gave' reports pass database kept client client'' left old new
+serving_next limit wrote gave logins wrote' gave' reports pass database kept client client' client''
     behind left
     old between new session next result is none after so_far one =
     let same : session.database ≡ database = ap (λ (s : Session). s.database) is in
     let limit_is : session.limit ≡ limit = ap (λ (s : Session). s.limit) is in (
       after none ∙ ap (λ (s : Session). begun s.limit s.database) is,
-      serving_more limit wrote gave wrote' gave' reports pass database kept client client' client''
+      serving_more limit wrote gave logins wrote' gave' reports pass database kept client client' client''
           behind
           left old between new so_far
           (subst (λ (r : Option (List ℕ)). SomeCalls wrote' gave' client' client''
-          (λ calls. Serves limit wrote gave pass database r behind calls left between new)) none
+          (λ calls. Serves limit wrote gave logins pass database r behind calls left between new)) none
           (subst (λ d. SomeCalls wrote' gave' client' client''
-          (λ calls. Serves limit wrote gave pass d result behind calls left between new)) same
+          (λ calls. Serves limit wrote gave logins pass d result behind calls left between new)) same
           (subst (λ (n : ℕ). SomeCalls wrote' gave' client' client''
-          (λ calls. Serves n wrote gave pass session.database result behind calls left between new))
+          (λ calls. Serves n wrote gave logins pass session.database result behind calls left between new))
           limit_is one))),
     )
 
 -- the session ends
-pub serving_last : {T C : Type 0} (limit : ℕ) (wrote gave : Effect T) (wrote' gave' : Effect C)
+pub serving_last : {T C : Type 0} (limit : ℕ) (wrote gave : Effect T) (logins : Logins) (wrote' gave' : Effect C)
     (reports : List Report) (pass : PassRecord) (database : ℕ) (kept : List ℕ)
     (client client' client'' : C)
     (behind left : List ℕ) (old between new : CallerView) (session : Session)
     (result : Option (List ℕ)) (reply : List ℕ) → session ≡ begun limit database
     → result ≡ Some reply
-    → Serving limit wrote gave wrote' gave' reports pass database kept client client' behind old
+    → Serving limit wrote gave logins wrote' gave' reports pass database kept client client' behind old
     between
     → SomeCalls wrote' gave' client' client''
-    (λ calls. Serves session.limit wrote gave pass session.database result behind calls left
+    (λ calls. Serves session.limit wrote gave logins pass session.database result behind calls left
     between new)
     → SomeCalls wrote' gave' client client''
-    (λ calls. Stays limit wrote gave reports pass database reply kept calls left old new)
-serving_last limit wrote gave wrote' gave' reports pass database kept client client' client''
+    (λ calls. Stays limit wrote gave logins reports pass database reply kept calls left old new)
+serving_last limit wrote gave logins wrote' gave' reports pass database kept client client' client''
     behind left
     old between new session result reply is some so_far last =
     let same : session.database ≡ database = ap (λ (s : Session). s.database) is in
     let limit_is : session.limit ≡ limit = ap (λ (s : Session). s.limit) is in
-    serving_ends limit wrote gave wrote' gave' reports pass database kept client client' client''
+    serving_ends limit wrote gave logins wrote' gave' reports pass database kept client client' client''
     behind
     left reply old between new so_far
     (subst (λ (r : Option (List ℕ)). SomeCalls wrote' gave' client' client''
-    (λ calls. Serves limit wrote gave pass database r behind calls left between new)) some
+    (λ calls. Serves limit wrote gave logins pass database r behind calls left between new)) some
     (subst (λ d. SomeCalls wrote' gave' client' client''
-    (λ calls. Serves limit wrote gave pass d result behind calls left between new)) same
+    (λ calls. Serves limit wrote gave logins pass d result behind calls left between new)) same
     (subst (λ (n : ℕ). SomeCalls wrote' gave' client' client''
-    (λ calls. Serves n wrote gave pass session.database result behind calls left between new))
+    (λ calls. Serves n wrote gave logins pass session.database result behind calls left between new))
     limit_is last)))
 
 -- a client that is greeted
-pub serving_greeted : {T C : Type 0} (limit : ℕ) (wrote gave : Effect T) (wrote' gave' : Effect C)
+pub serving_greeted : {T C : Type 0} (limit : ℕ) (wrote gave : Effect T) (logins : Logins) (wrote' gave' : Effect C)
     (reports : List Report) (pass : PassRecord) (database : ℕ) (kept : List ℕ) (client client' : C)
     (old : CallerView) (result : Option (List ℕ)) → result ≡ None
     → SomeCalls wrote' gave' client client' (Greets reports pass.key result)
-    → Serving limit wrote gave wrote' gave' reports pass database kept client client' kept old old
-serving_greeted limit wrote gave wrote' gave' reports pass database kept client client' old result
+    → Serving limit wrote gave logins wrote' gave' reports pass database kept client client' kept old old
+serving_greeted limit wrote gave logins wrote' gave' reports pass database kept client client' old result
     none
     greets =
-    serving_start limit wrote gave wrote' gave' reports pass database kept client client' old
+    serving_start limit wrote gave logins wrote' gave' reports pass database kept client client' old
     (subst (λ (r : Option (List ℕ)). SomeCalls wrote' gave' client client'
     (Greets reports pass.key r)) none greets)

@@ -17,7 +17,7 @@ use Rattle.locked_node.specs.Lock.{CallerView, Counted}
 use Rattle.peer_forward.specs.Calls.{Effect}
 use Rattle.startup.specs.declared.error_code.ErrorCode.{ErrorCode}
 use Rattle.startup.specs.declared.error_code.ErrorCode.TheVariants.{TooManyConnections, ConnectionFailure, AdminShutdown}
-use Rattle.node_threads.specs.Balance.{Hand, nothing, a_lease}
+use Rattle.node_threads.specs.Balance.{Hand, Balanced, nothing, a_lease}
 use Rattle.node_threads.specs.Cancelling.{Opens}
 use Rattle.node_threads.specs.LoggingIn.{LogsIn}
 use Rattle.node_threads.specs.StreamCalls.{SomeCalls}
@@ -57,16 +57,33 @@ pub record IsLoggedIn {T : Type 0} (limit : ℕ) (wrote gave : Effect T) (opens 
   pub opened : opens database (Ok before)
   pub logs_in : SomeCalls wrote gave before stream (LogsIn limit entry.user entry.dbname key)
 
--- the caller's last step asked for a link for the client of this pass, and got this answer
-abbrev pub WasAnswered : PassRecord → AcquireReply LinkRecord PermitRecord → CallerView → Type 0
-WasAnswered pass reply new =
-    (old : CallerView) × Counted (step.Acquire pass reply) reply acquire.Exhausted old new
+-- which logins at the server of the database with a number may have given a key
+abbrev pub Logins : Type 1
+Logins = ℕ → List ℕ → Type 0
 
--- it was reported to the node that the link of a permit is up, and gave this answer
-abbrev pub WentUp : PermitRecord → UpReply LinkRecord PermitRecord (Unit {0}) → CallerView
+-- those over a stream that was opened for it, as the user and to the database of its entry
+abbrev pub IsLogin : {T : Type 0} → ℕ → Effect T → Effect T → Opens T → List DatabaseSettings
+    → Logins
+IsLogin {T} limit wrote gave opens entries database key =
+    (stream : T) × IsLoggedIn limit wrote gave opens entries database key stream
+
+-- the one that gave this key at this database
+abbrev pub IsThisLogin : ℕ → List ℕ → Logins
+IsThisLogin database key number given = (number ≡ database) × (given ≡ key)
+
+-- The caller's last step, which it made since then, asked for a link for the client of this pass,
+-- and got this answer.
+abbrev pub WasAnswered : PassRecord → AcquireReply LinkRecord PermitRecord → CallerView
     → CallerView → Type 0
-WentUp permit reply old new =
-    (key : List ℕ) × Counted (step.Up permit key reply) reply (up.AtEnd tt) old new
+WasAnswered pass reply old new = (before : CallerView) × Balanced old before
+    × Counted (step.Acquire pass reply) reply acquire.Exhausted before new
+
+-- It was reported to the node that the link of a permit is up, with the key of a login at its
+-- database, and it gave this answer.
+abbrev pub WentUp : Logins → PermitRecord → UpReply LinkRecord PermitRecord (Unit {0}) → CallerView
+    → CallerView → Type 0
+WentUp logins permit reply old new = (key : List ℕ) × logins permit.at.database key
+    × Counted (step.Up permit key reply) reply (up.AtEnd tt) old new
 
 -- it was reported to the node that the link of a permit couldn't be opened
 abbrev pub HasFailed : PermitRecord → CallerView → CallerView → Type 0
@@ -75,10 +92,11 @@ HasFailed permit old new =
 
 -- By the last steps the client of this pass got this link: it was there, or it was opened for the
 -- permit that the client got.
-abbrev pub IsGiven : PassRecord → LinkRecord → CallerView → Type 0
-IsGiven pass link new = WasAnswered pass (acquire.Got link) new
+abbrev pub IsGiven : Logins → PassRecord → LinkRecord → CallerView → CallerView → Type 0
+IsGiven logins pass link old new = WasAnswered pass (acquire.Got link) old new
     ⊎ ((permit : PermitRecord) × (asked : CallerView)
-    × WasAnswered pass (acquire.Open permit) asked × WentUp permit (up.Up link) asked new)
+    × WasAnswered pass (acquire.Open permit) old asked × (link.at ≡ permit.at)
+    × WentUp logins permit (up.Up link) asked new)
 
 -- the error of a client whose pass is stale, or for whom the node has no number left
 abbrev pub IsDenial : AcquireReply LinkRecord PermitRecord → ErrorCode → Type 0
@@ -99,37 +117,39 @@ IsUpDenial (up.Up link) code = ⊥
 
 -- No link came of a permit, and this is the error because of that: the node has no use for the
 -- permit; it has no number left for a link; or its server can't be reached.
-abbrev pub IsUnopened : PermitRecord → ErrorCode → CallerView → CallerView → Type 0
-IsUnopened permit code old new =
+abbrev pub IsUnopened : Logins → PermitRecord → ErrorCode → CallerView → CallerView → Type 0
+IsUnopened logins permit code old new =
     ((reply : UpReply LinkRecord PermitRecord (Unit {0})) × IsUpDenial reply code
-    × WentUp permit reply old new)
+    × WentUp logins permit reply old new)
     ⊎ ((back : PermitRecord) × (between : CallerView)
-    × WentUp permit (up.Exhausted back tt) old between × HasFailed back between new
+    × WentUp logins permit (up.Exhausted back tt) old between × HasFailed back between new
     × (code ≡ TooManyConnections))
     ⊎ (HasFailed permit old new × (code ≡ ConnectionFailure))
 
 -- by the last steps the client of this pass gets no link, and this is the error because of that
-abbrev pub IsDenied : PassRecord → ErrorCode → CallerView → Type 0
-IsDenied pass code new =
+abbrev pub IsDenied : Logins → PassRecord → ErrorCode → CallerView → CallerView → Type 0
+IsDenied logins pass code old new =
     ((reply : AcquireReply LinkRecord PermitRecord) × IsDenial reply code
-    × WasAnswered pass reply new)
+    × WasAnswered pass reply old new)
     ⊎ ((permit : PermitRecord) × (asked : CallerView)
-    × WasAnswered pass (acquire.Open permit) asked × IsUnopened permit code asked new)
+    × WasAnswered pass (acquire.Open permit) old asked × IsUnopened logins permit code asked new)
 
 -- what came of a client's asking for a link is what the node answered last
-abbrev pub IsAnswer : {L : Type 0} → PassRecord → Acquired (LinkValue L) → CallerView → Type 0
-IsAnswer pass (Lease lease) new = IsGiven pass lease.details new
-IsAnswer pass Cancelled new = WasAnswered pass acquire.Cancelled new
-IsAnswer pass (Refused code) new = IsDenied pass code new
-IsAnswer pass Ended new = Unit {0}
+abbrev pub IsAnswer : {L : Type 0} → Logins → PassRecord → Acquired (LinkValue L) → CallerView
+    → CallerView → Type 0
+IsAnswer logins pass (Lease lease) old new = IsGiven logins pass lease.details old new
+IsAnswer logins pass Cancelled old new = WasAnswered pass acquire.Cancelled old new
+IsAnswer logins pass (Refused code) old new = IsDenied logins pass code old new
+IsAnswer logins pass Ended old new = Unit {0}
 
 -- what came of a permit is what the node answered
-abbrev pub IsOpened : {L : Type 0} → PermitRecord → Acquired (LinkValue L) → CallerView → CallerView
-    → Type 0
-IsOpened permit (Lease lease) old new = WentUp permit (up.Up lease.details) old new
-IsOpened permit Cancelled old new = ⊥
-IsOpened permit (Refused code) old new = IsUnopened permit code old new
-IsOpened permit Ended old new = Unit {0}
+abbrev pub IsOpened : {L : Type 0} → Logins → PermitRecord → Acquired (LinkValue L) → CallerView
+    → CallerView → Type 0
+IsOpened logins permit (Lease lease) old new =
+    (lease.details.at ≡ permit.at) × WentUp logins permit (up.Up lease.details) old new
+IsOpened logins permit Cancelled old new = ⊥
+IsOpened logins permit (Refused code) old new = IsUnopened logins permit code old new
+IsOpened logins permit Ended old new = Unit {0}
 
 -- what came of a client's asking stays so, unless its session ends without a word
 abbrev pub IsKept : {L : Type 0} → Acquired L → Acquired L → CallerView → CallerView → Type 0

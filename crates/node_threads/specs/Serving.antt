@@ -31,7 +31,7 @@ use Rattle.node_threads.specs.Finding.{AsksNext}
 use Rattle.node_threads.specs.Stay.{Stay}
 use Rattle.node_threads.specs.Turn.{handed_in}
 use Rattle.node_threads.specs.Desks.{Tells}
-use Rattle.node_threads.specs.Leasing.{WasAnswered, IsGiven, IsDenied}
+use Rattle.node_threads.specs.Leasing.{Logins, WasAnswered, IsGiven, IsDenied}
 use Rattle.node_threads.specs.Balance.{Moves, nothing, a_pass, a_lease}
 
 -- The client of this key is greeted: it took all messages of a login that reports these
@@ -84,9 +84,9 @@ EndsWith (Refused code) end = EndsByError code end
 EndsWith Dropped end = end ≡ Some []
 
 -- The client of a pass got a link of its database, and nothing else.
-pub record Gets (pass : PassRecord) (database : ℕ) (link : LinkRecord) (old new : CallerView)
-    : Type 0 where
-  pub given : IsGiven pass link new
+pub record Gets (logins : Logins) (pass : PassRecord) (database : ℕ) (link : LinkRecord)
+    (old new : CallerView) : Type 0 where
+  pub given : IsGiven logins pass link old new
   pub place : link.at.database ≡ database
   pub moves : Moves nothing old a_lease new
 
@@ -102,24 +102,25 @@ pub record Carries {T : Type 0} (limit : ℕ) (wrote gave : Effect T) (link : Li
 
 -- A request was dealt with so. `kept` is what was read of the client before, the calls are those on
 -- its stream, and `left` is what is kept of its input then.
-abbrev pub Comes : {T : Type 0} → ℕ → Effect T → Effect T → PassRecord → ℕ → List ℕ → Fate
+abbrev pub Comes : {T : Type 0} → ℕ → Effect T → Effect T → Logins → PassRecord → ℕ → List ℕ → Fate
     → Option (List ℕ) → List ℕ → List Call → List ℕ → CallerView → CallerView → Type 0
-Comes limit wrote gave pass database request (Carried link stayed) end kept calls left old new =
-    (got : CallerView) × Gets pass database link old got
+Comes limit wrote gave logins pass database request (Carried link stayed) end kept calls left old new =
+    (got : CallerView) × Gets logins pass database link old got
     × Carries limit wrote gave link request kept stayed calls left got new
-Comes limit wrote gave pass database request (Spoilt link) end kept calls left old new =
-    (got : CallerView) × Gets pass database link old got × Tells (call.Close link) got new
+Comes limit wrote gave logins pass database request (Spoilt link) end kept calls left old new =
+    (got : CallerView) × Gets logins pass database link old got × Tells (call.Close link) got new
     × (calls ≡ []) × (left ≡ kept)
-Comes limit wrote gave pass database request Cancelled end kept calls left old new =
-    WasAnswered pass acquire.Cancelled new × TellsCancelled end calls × (left ≡ kept)
-Comes limit wrote gave pass database request (Refused code) end kept calls left old new =
-    IsDenied pass code new × (calls ≡ []) × (left ≡ kept)
-Comes limit wrote gave pass database request Dropped end kept calls left old new =
+Comes limit wrote gave logins pass database request Cancelled end kept calls left old new =
+    WasAnswered pass acquire.Cancelled old new × TellsCancelled end calls × (left ≡ kept)
+Comes limit wrote gave logins pass database request (Refused code) end kept calls left old new =
+    IsDenied logins pass code old new × (calls ≡ []) × (left ≡ kept)
+Comes limit wrote gave logins pass database request Dropped end kept calls left old new =
     (calls ≡ []) × (left ≡ kept)
 
 -- The client's next request was read, and this came of it: the session goes on, or ends, and this
 -- is written then.
-pub record IsRequest {T : Type 0} (limit : ℕ) (wrote gave : Effect T) (pass : PassRecord)
+pub record IsRequest {T : Type 0} (limit : ℕ) (wrote gave : Effect T) (logins : Logins)
+    (pass : PassRecord)
     (database : ℕ)
     (end : Option (List ℕ)) (kept : List ℕ) (calls : List Call) (left : List ℕ)
     (old new : CallerView) : Type 0 where
@@ -130,7 +131,7 @@ pub record IsRequest {T : Type 0} (limit : ℕ) (wrote gave : Effect T) (pass : 
   pub behind : List ℕ
   pub asked : AsksNext limit kept asks (Ok request) behind
   pub fate : Fate
-  pub comes : Comes limit wrote gave pass database request fate end behind rest left old new
+  pub comes : Comes limit wrote gave logins pass database request fate end behind rest left old new
   pub ends : EndsWith fate end
 
 -- The client leaves before another request was whole, and this is written then.
@@ -139,27 +140,28 @@ IsLeft limit reply kept calls left old new =
     (leaving : Leaving) × Leaves limit leaving kept calls reply left × (new ≡ old)
 
 -- a session goes on by the client's next request; or ends, by that or because the client leaves
-abbrev pub Serves : {T : Type 0} → ℕ → Effect T → Effect T → PassRecord → ℕ → Option (List ℕ)
+abbrev pub Serves : {T : Type 0} → ℕ → Effect T → Effect T → Logins → PassRecord → ℕ → Option (List ℕ)
     → List ℕ → List Call → List ℕ → CallerView → CallerView → Type 0
-Serves limit wrote gave pass database None kept calls left old new =
-    IsRequest limit wrote gave pass database None kept calls left old new
-Serves limit wrote gave pass database (Some reply) kept calls left old new =
-    IsRequest limit wrote gave pass database (Some reply) kept calls left old new
+Serves limit wrote gave logins pass database None kept calls left old new =
+    IsRequest limit wrote gave logins pass database None kept calls left old new
+Serves limit wrote gave logins pass database (Some reply) kept calls left old new =
+    IsRequest limit wrote gave logins pass database (Some reply) kept calls left old new
     ⊎ IsLeft limit reply kept calls left old new
 
 -- that many requests, one after another, with each of which the session goes on
-abbrev pub Requests : {T : Type 0} → ℕ → Effect T → Effect T → PassRecord → ℕ → List (List Call)
+abbrev pub Requests : {T : Type 0} → ℕ → Effect T → Effect T → Logins → PassRecord → ℕ → List (List Call)
     → List ℕ → List Call → List ℕ → CallerView → CallerView → Type 0
-Requests limit wrote gave pass database [] kept calls left old new =
+Requests limit wrote gave logins pass database [] kept calls left old new =
     (calls ≡ []) × (left ≡ kept) × (new ≡ old)
-Requests limit wrote gave pass database (first ∷ others) kept calls left old new =
+Requests limit wrote gave logins pass database (first ∷ others) kept calls left old new =
     (rest : List Call) × (calls ≡ first ++ rest) × (behind : List ℕ) × (between : CallerView)
-    × Serves limit wrote gave pass database None kept first behind old between
-    × Requests limit wrote gave pass database others behind rest left between new
+    × Serves limit wrote gave logins pass database None kept first behind old between
+    × Requests limit wrote gave logins pass database others behind rest left between new
 
 -- A session of a client with a pass, which took its greeting, up to its end, at which this is to be
 -- written.
-pub record GreetedSession {T : Type 0} (limit : ℕ) (wrote gave : Effect T) (reports : List Report)
+pub record GreetedSession {T : Type 0} (limit : ℕ) (wrote gave : Effect T) (logins : Logins)
+    (reports : List Report)
     (pass : PassRecord) (database : ℕ) (reply kept : List ℕ) (calls : List Call) (left : List ℕ)
     (old new : CallerView) : Type 0 where
   pub greeting : List Call
@@ -170,14 +172,14 @@ pub record GreetedSession {T : Type 0} (limit : ℕ) (wrote gave : Effect T) (re
   pub each : List (List Call)
   pub behind : List ℕ
   pub between : CallerView
-  pub requests : Requests limit wrote gave pass database each kept served behind old between
-  pub ends : Serves limit wrote gave pass database (Some reply) behind last left between new
+  pub requests : Requests limit wrote gave logins pass database each kept served behind old between
+  pub ends : Serves limit wrote gave logins pass database (Some reply) behind last left between new
 
 -- the session of a client with a pass, whether it took its greeting or not
-abbrev pub Stays : {T : Type 0} → ℕ → Effect T → Effect T → List Report → PassRecord → ℕ → List ℕ
+abbrev pub Stays : {T : Type 0} → ℕ → Effect T → Effect T → Logins → List Report → PassRecord → ℕ → List ℕ
     → List ℕ → List Call → List ℕ → CallerView → CallerView → Type 0
-Stays limit wrote gave reports pass database reply kept calls left old new =
-    GreetedSession limit wrote gave reports pass database reply kept calls left old new
+Stays limit wrote gave logins reports pass database reply kept calls left old new =
+    GreetedSession limit wrote gave logins reports pass database reply kept calls left old new
     ⊎ (Greets reports pass.key (Some reply) calls × (left ≡ kept) × (new ≡ old))
 
 -- the node was asked for a slot for a client of this database, with this secret and a key of this
@@ -188,7 +190,8 @@ Joins database secret kind answer old new =
 
 -- A client that got a slot was served, gave its pass back, and was written what it is to read at
 -- the end.
-pub record HasServed {T : Type 0} (limit : ℕ) (wrote gave : Effect T) (reports : List Report)
+pub record HasServed {T : Type 0} (limit : ℕ) (wrote gave : Effect T) (logins : Logins)
+    (reports : List Report)
     (database secret : ℕ) (kind : Kind) (kept : List ℕ) (calls : List Call) (left : List ℕ)
     (old new : CallerView) : Type 0 where
   pub pass : PassRecord
@@ -199,15 +202,15 @@ pub record HasServed {T : Type 0} (limit : ℕ) (wrote gave : Effect T) (reports
   pub calls_are : calls ≡ served ++ last
   pub reply : List ℕ
   pub done : CallerView
-  pub stays : Stays limit wrote gave reports pass database reply kept served left joined done
+  pub stays : Stays limit wrote gave logins reports pass database reply kept served left joined done
   pub leaves : Moves a_pass done nothing new
   pub told : Sends reply last
 
 -- A client was served from its login to its end, or refused since the node gave it no slot.
-abbrev pub ServesClient : {T : Type 0} → ℕ → Effect T → Effect T → List Report → ℕ → ℕ → Kind
+abbrev pub ServesClient : {T : Type 0} → ℕ → Effect T → Effect T → Logins → List Report → ℕ → ℕ → Kind
     → List ℕ → List Call → List ℕ → CallerView → CallerView → Type 0
-ServesClient limit wrote gave reports database secret kind kept calls left old new =
-    HasServed limit wrote gave reports database secret kind kept calls left old new
+ServesClient limit wrote gave logins reports database secret kind kept calls left old new =
+    HasServed limit wrote gave logins reports database secret kind kept calls left old new
     ⊎ ((refusal : JoinRefusal) × Joins database secret kind (Err refusal) old new
     × SendsError TooManyConnections calls × (left ≡ kept))
 

@@ -1,5 +1,5 @@
 //! A client's connection, from its first packet to its end.
-ghost use Rattle.std.specs.Prelude.{◌≡◌, ◌≤◌, ◌⊎◌, length, slice_get};
+ghost use Rattle.std.specs.Prelude.{◌≡◌, ◌≤◌, ◌⊎◌, length, slice_get, Some};
 ghost use Rattle.std.specs.Arc.{arc_value};
 ghost use Rattle.std.specs.Option.{ForSome};
 ghost use Rattle.stat_board.specs.Seats.{SeatView};
@@ -7,6 +7,7 @@ ghost use Rattle.peer_forward.specs.Finishing.{Finishes};
 ghost use Rattle.node_threads.specs.Balance.{Balanced};
 ghost use Rattle.node_threads.specs.StreamCalls.{SomeCalls};
 ghost use Rattle.node_threads.specs.Cancelling.{IsCarried, ServesCancel};
+ghost use Rattle.node_threads.specs.Leasing.{IsLogin};
 ghost use Rattle.node_threads.specs.Connection.{place_of, ServesAt, ServesConnection};
 
 use crate::login::refuse;
@@ -45,6 +46,8 @@ where
         (slice_get (arc_value (arc_value calling.old.node).group) (arc_value calling.old.node).place)
         (λ settings. ServesConnection
         limit.now ⟦<O::Stream as WriteCalls>⟧.wrote ⟦<O::Stream as ReadCalls>⟧.gave C.wrote C.gave
+        (IsLogin limit.now ⟦<O::Stream as WriteCalls>⟧.wrote ⟦<O::Stream as ReadCalls>⟧.gave
+        (O.connects opener.now) settings.databases)
         (IsCarried ⟦<O::Stream as WriteCalls>⟧.wrote ⟦<O::Stream as ReadCalls>⟧.gave
         (O.cancels opener.now))
         (IsCarried ⟦<O::Stream as WriteCalls>⟧.wrote ⟦<O::Stream as ReadCalls>⟧.gave
@@ -110,6 +113,9 @@ where
         (slice_get (arc_value (arc_value calling.old.node).group) (arc_value calling.old.node).place)
         (λ settings. SomeCalls C.wrote C.gave client.old client.new (λ calls. ServesAt
         visit.entry.limit.now ⟦<O::Stream as WriteCalls>⟧.wrote ⟦<O::Stream as ReadCalls>⟧.gave
+        (IsLogin
+        visit.entry.limit.now ⟦<O::Stream as WriteCalls>⟧.wrote ⟦<O::Stream as ReadCalls>⟧.gave
+        (O.connects visit.entry.opener.now) settings.databases)
         visit.entry.reports.now (place_of name.now settings.databases) kind cutter.old.bytes
         calls cutter.new.bytes calling.old.caller calling.new.caller)) }
 {
@@ -169,7 +175,7 @@ where
         context,
         &calling.node.shared,
         &mut calling.caller,
-        &mut seat.counting,
+        seat.counting(),
         opener,
         client,
         key,
@@ -184,6 +190,8 @@ impl<'a, R, O: Opener, G> Visit<'a, R, O, G> {
         ensures opener { result.opener.now ≡ self.now.opener.now }
         ensures reports { result.reports.now ≡ self.now.reports.now }
         ensures limit { result.limit.now ≡ self.now.limit.now }
+        ensures settings { slice_get (arc_value node.now.group) node.now.place
+            ≡ Some result.settings.now }
     {
         Service {
             rt: self.rt,

@@ -2,9 +2,9 @@
 ghost use Rattle.std.specs.Prelude.{ℕ, Result};
 ghost use Rattle.std.specs.declared.io.Error.{Error};
 
+use peer_forward::{ReadCalls, WriteCalls};
 use pg_ids::{DatabaseNo, PeerNo};
 use std::io;
-use std::io::{Read, Write};
 use std::sync::Wait;
 
 /// Whose message is above the limit.
@@ -19,8 +19,9 @@ pub enum Sender {
 /// What connects a client's connection to the servers of a node's databases and to its peers, and
 /// knows how the client and a link do. There is one for each connection.
 pub trait Opener {
-    /// A connection. It is closed when it is dropped.
-    type Stream: Read + Write + Drop;
+    /// A connection, known by its calls: any reader and writer of std is one. It is closed when it
+    /// is dropped.
+    type Stream: WriteCalls + ReadCalls + Drop;
 
     /// What may come of connecting to the server of a database, for a link.
     ghost connects: { Self → ℕ → Result Self.Stream Error → Type 0 };

@@ -3,16 +3,17 @@ ghost use Rattle.std.specs.Prelude.{ℕ, Result};
 ghost use Rattle.std.specs.declared.io.Error.{Error};
 
 use crate::Opener;
+use peer_forward::{ReadCalls, WriteCalls};
 use pg_ids::{DatabaseNo, PeerNo};
 use std::io;
-use std::io::{Read, Write};
 use std::sync::Wait;
 
 /// What connects a cancel request to a server or to a peer. Connecting consumes it, and it can't be
 /// copied: code that knows nothing else of its type opens one connection at most.
 pub trait CancelOpener: Drop {
-    /// A connection. It is closed when it is dropped.
-    type Stream: Read + Write + Drop;
+    /// A connection, known by its calls: any reader and writer of std is one. It is closed when it
+    /// is dropped.
+    type Stream: WriteCalls + ReadCalls + Drop;
 
     /// What may come of connecting to the server of a database.
     ghost cancels: { Self → ℕ → Result Self.Stream Error → Type 0 };

@@ -22,9 +22,15 @@ pub struct Seats {
 
 /// A seat that a cancel connection has, which has to be given back.
 pub struct Seat {
-    /// What it counts by.
-    pub counting: Counting,
+    counting: Counting,
     purpose: Purpose,
+}
+
+impl Seat {
+    /// What it counts by.
+    pub fn counting(&mut self) -> &mut Counting {
+        &mut self.counting
+    }
 }
 
 // The 255 seats for requests: those that are free, and what the others are for.
@@ -122,13 +128,15 @@ impl Free {
         alike
     }
 
-    // Gives back a seat that was taken here.
+    // Gives back a seat that was taken here. If none is noted as taken for its purpose, another's
+    // note goes: no seat is lost.
     fn give_back(&mut self, seat: Seat)
-        ensures given { Contains self.old.taken.items seat.purpose
+        ensures given { 0 < vec_len self.old.taken
             → vec_len self.new.seats ≡ vec_len self.old.seats + 1 }
     {
         let Seat { counting, purpose } = seat;
-        if let Some(place) = self.find(&purpose) {
+        let place = self.find(&purpose).unwrap_or(0);
+        if place < self.taken.len() {
             self.taken.swap_remove(place);
             self.seats.push_reserved(counting);
         }

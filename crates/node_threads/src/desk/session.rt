@@ -7,16 +7,17 @@ use lease::{Lease, Ticket};
 use std::sync::Wait;
 
 /// A node behind its lock, where a client's session hands its lease in. Where the next message on a
-/// link that is closed is above the limit, it reports that to the opener.
+/// link that is closed is above the limit, it reports that to the opener. The stream of a link is a
+/// type parameter without bounds that reads or writes, so no call is made on it here.
 #[derive(Drop)]
-pub(crate) struct SessionDesk<'a, O: Opener> {
+pub(crate) struct SessionDesk<'a, O, L> {
     /// The node.
-    pub desk: LockDesk<'a, Link<O::Stream>>,
+    pub desk: LockDesk<'a, Link<L>>,
     /// The opener.
     pub opener: &'a O,
 }
 
-impl<O: Opener> Desk<Link<O::Stream>> for SessionDesk<'_, O> {
+impl<O: Opener, L: Drop> Desk<Link<L>> for SessionDesk<'_, O, L> {
     ghost use Rattle.std.specs.Prelude.{⊤};
     ghost use Rattle.node_threads.specs.Desks.{Tells};
     ghost use Rattle.node_threads.specs.declared.desk.call.DeskCall.TheVariants as call;
@@ -37,7 +38,7 @@ impl<O: Opener> Desk<Link<O::Stream>> for SessionDesk<'_, O> {
         self.desk.failed(rt, ticket);
     }
 
-    fn release<R: Wait>(&mut self, rt: &R, lease: Lease<Link<O::Stream>>)
+    fn release<R: Wait>(&mut self, rt: &R, lease: Lease<Link<L>>)
         requires ready { self.old.desk.caller.now.lock ≡ self.old.desk.shared.now }
         ensures told { (self.new.desk.caller.ghost_name ≡ self.old.desk.caller.ghost_name)
             × Tells (call.Release lease.details) self.old.desk.caller.now self.new.desk.caller.now }
@@ -46,7 +47,7 @@ impl<O: Opener> Desk<Link<O::Stream>> for SessionDesk<'_, O> {
         self.desk.release(rt, lease);
     }
 
-    fn close<R: Wait>(&mut self, rt: &R, lease: Lease<Link<O::Stream>>)
+    fn close<R: Wait>(&mut self, rt: &R, lease: Lease<Link<L>>)
         requires ready { self.old.desk.caller.now.lock ≡ self.old.desk.shared.now }
         ensures told { (self.new.desk.caller.ghost_name ≡ self.old.desk.caller.ghost_name)
             × Tells (call.Close lease.details) self.old.desk.caller.now self.new.desk.caller.now }

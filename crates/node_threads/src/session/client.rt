@@ -7,7 +7,7 @@ ghost use Rattle.node_threads.specs.Balance.{Moves, Balanced, nothing, a_pass, a
 ghost use Rattle.node_threads.specs.Desks.{Tells};
 ghost use Rattle.node_threads.specs.Turn.{handed_in, GoesOnWithout};
 ghost use Rattle.node_threads.specs.Progress.{asking};
-ghost use Rattle.node_threads.specs.Leasing.{hand_of};
+ghost use Rattle.node_threads.specs.Leasing.{hand_of, IsLogin};
 ghost use Rattle.node_threads.specs.Asking.{IsError};
 ghost use Rattle.node_threads.specs.StreamCalls.{SomeCalls};
 ghost use Rattle.node_threads.specs.Stay.{Stay};
@@ -57,6 +57,9 @@ where
     // The client was served from its login to its end, and told why it ended; or it was refused.
     ensures served { SomeCalls C.wrote C.gave client.old client.new (λ calls. ServesClient
         service.entry.limit.now ⟦<O::Stream as WriteCalls>⟧.wrote ⟦<O::Stream as ReadCalls>⟧.gave
+        (IsLogin
+        service.entry.limit.now ⟦<O::Stream as WriteCalls>⟧.wrote ⟦<O::Stream as ReadCalls>⟧.gave
+        (O.connects service.entry.opener.now) service.entry.settings.now.databases)
         service.entry.reports.now database secret kind cutter.old.bytes calls cutter.new.bytes
         caller.old caller.new) }
 {
@@ -91,6 +94,9 @@ where
     ensures balanced { Balanced caller.old caller.new }
     ensures stays { SomeCalls C.wrote C.gave client.old client.new (λ calls. Stays
         service.entry.limit.now ⟦<O::Stream as WriteCalls>⟧.wrote ⟦<O::Stream as ReadCalls>⟧.gave
+        (IsLogin
+        service.entry.limit.now ⟦<O::Stream as WriteCalls>⟧.wrote ⟦<O::Stream as ReadCalls>⟧.gave
+        (O.connects service.entry.opener.now) service.entry.settings.now.databases)
         service.entry.reports.now pass.now database result cutter.old.bytes calls cutter.new.bytes
         caller.old caller.new) }
 {
@@ -169,6 +175,9 @@ where
     ensures limit { cutter.new.limit ≡ cutter.old.limit }
     ensures serves { SomeCalls C.wrote C.gave client.old client.new (λ calls. Serves
         session.old.limit ⟦<O::Stream as WriteCalls>⟧.wrote ⟦<O::Stream as ReadCalls>⟧.gave
+        (IsLogin
+        service.entry.limit.now ⟦<O::Stream as WriteCalls>⟧.wrote ⟦<O::Stream as ReadCalls>⟧.gave
+        (O.connects service.entry.opener.now) service.entry.settings.now.databases)
         pass.now session.old.database result cutter.old.bytes calls cutter.new.bytes caller.old
         caller.new) }
 {

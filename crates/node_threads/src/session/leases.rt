@@ -5,7 +5,7 @@ ghost use Rattle.link_pool.specs.declared.replies.UpReply.TheVariants as up;
 ghost use Rattle.node_core.specs.declared.exchange.Exchange.TheVariants as step;
 ghost use Rattle.locked_node.specs.Lock.{CallerStep};
 ghost use Rattle.node_threads.specs.Balance.{Moves, nothing, a_lease, a_permit};
-ghost use Rattle.node_threads.specs.Leasing.{hand_of, hand_of_answer, OfLease, OfAnswer, IsLoggedIn, IsAnswer, IsOpened, IsKept};
+ghost use Rattle.node_threads.specs.Leasing.{hand_of, hand_of_answer, OfLease, OfAnswer, IsLoggedIn, IsLogin, IsThisLogin, IsAnswer, IsOpened, IsKept};
 ghost use Rattle.node_threads.specs.declared.session.leases.Acquired.{Acquired};
 
 use crate::login::{LinkError, LoggedIn, log_in};
@@ -49,7 +49,11 @@ pub fn acquire<R: Wait, O: Opener, G: Gate>(
     ensures moves { Moves nothing caller.old (hand_of result) caller.new }
     ensures database { OfLease (λ lease. lease.details.at.database ≡ database) result }
     // It is what the node answered last.
-    ensures answer { IsAnswer pass.now result caller.new }
+    ensures answer { IsAnswer
+        (IsLogin
+        service.entry.limit.now ⟦<O::Stream as WriteCalls>⟧.wrote ⟦<O::Stream as ReadCalls>⟧.gave
+        (O.connects service.entry.opener.now) service.entry.settings.now.databases)
+        pass.now result caller.old caller.new }
 {
     if !entrance.try_enter() {
         service.opener.begin_wait();
@@ -78,7 +82,11 @@ fn ask<R: Wait, O: Opener, G: Gate>(
     requires own { caller.old.lock ≡ service.shared.now }
     ensures moves { Moves nothing caller.old (hand_of_answer result) caller.new }
     ensures database { OfAnswer (λ lease. lease.details.at.database ≡ database) result }
-    ensures answer { IfSome result (λ acquired. IsAnswer pass.now acquired caller.new) }
+    ensures answer { IfSome result (λ acquired. IsAnswer
+        (IsLogin
+        service.entry.limit.now ⟦<O::Stream as WriteCalls>⟧.wrote ⟦<O::Stream as ReadCalls>⟧.gave
+        (O.connects service.entry.opener.now) service.entry.settings.now.databases)
+        pass.now acquired caller.old caller.new) }
 {
     let answer = service.shared.acquire(service.rt, caller, pass);
     if entrance.needs_asked() {
@@ -151,7 +159,11 @@ fn open<R: Wait, O: Opener, G: Gate>(
         (O.connects service.entry.opener.now) service.entry.settings.now.databases
         lease.details.at.database key lease.stream.stream
         × CallerStep caller.old (step.Up permit key (up.Up lease.details)) caller.new) result }
-    ensures opened { IsOpened permit result caller.old caller.new }
+    ensures opened { IsOpened
+        (IsLogin
+        service.entry.limit.now ⟦<O::Stream as WriteCalls>⟧.wrote ⟦<O::Stream as ReadCalls>⟧.gave
+        (O.connects service.entry.opener.now) service.entry.settings.now.databases)
+        permit result caller.old caller.new }
 {
     match connect(service, permit.details().at.database) {
         Ok(opened) => put_up(service, caller, permit, opened),
@@ -207,7 +219,8 @@ fn put_up<R: Wait, O: Opener, G: Gate>(
     // The node has the key that the server gave.
     ensures key { OfLease (λ lease. CallerStep caller.old
         (step.Up permit opened.key (up.Up lease.details)) caller.new) result }
-    ensures opened { IsOpened permit result caller.old caller.new }
+    ensures opened { IsOpened (IsThisLogin permit.at.database opened.key) permit result caller.old
+        caller.new }
 {
     let shared = service.shared;
     match shared.up(service.rt, caller, permit, opened.link, opened.key) {

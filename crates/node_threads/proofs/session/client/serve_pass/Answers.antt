@@ -6,24 +6,24 @@ use Rattle.node_threads.proofs.session.client.serve_pass.Goals as goal
 
 pub returns-in_default-clause-stays : goal.returns-in_default-clause-stays
 returns-in_default-clause-stays g c =
-    stays_unmade _ _ _ _ _ _ _ _ _ c.error.result c.args.cutter.now.bytes _ c.error.ensures
+    stays_unmade _ _ _ _ _ _ _ _ _ _ c.error.result c.args.cutter.now.bytes _ c.error.ensures
 
 pub returns-in-Some-clause-stays : goal.returns-in-Some-clause-stays
 returns-in-Some-clause-stays g c =
-    stays_ungreeted _ _ _ _ _ _ _ _ _ _ c.in-Some.end c.args.cutter.now.bytes _ c.in-Some.ensures
+    stays_ungreeted _ _ _ _ _ _ _ _ _ _ _ c.in-Some.end c.args.cutter.now.bytes _ c.in-Some.ensures
 
 pub loop-init : goal.loop-init
 loop-init g c = (
   moves_nothing nothing _ _ refl,
   c.with_limit-session.ensures,
-  serving_greeted _ _ _ _ _ _ _ c.args.database c.args.cutter.now.bytes _ _ _ c.greet.result
+  serving_greeted _ _ _ _ _ _ _ _ c.args.database c.args.cutter.now.bytes _ _ _ c.greet.result
       c.in_default-greet.is c.greet.ensures,
   c.requires.cutter,
 )
 
 pub loop-preserved : goal.loop-preserved
 loop-preserved g c =
-    let on = serving_next _ _ _ _ _ _ _ c.args.database c.args.cutter.now.bytes _ _ _
+    let on = serving_next _ _ _ _ _ _ _ _ c.args.database c.args.cutter.now.bytes _ _ _
     c.loop.cutter.bytes _ _ _ _
     c.loop.session _ c.serve_request-ended.result c.loop.invariant.1 c.in_default-ended.is
     c.serve_request-ended.ensures.session c.loop.invariant.2 c.serve_request-ended.ensures.serves
@@ -37,7 +37,7 @@ loop-preserved g c =
 
 pub returns-in-Some-ended-clause-stays : goal.returns-in-Some-ended-clause-stays
 returns-in-Some-ended-clause-stays g c =
-    serving_last _ _ _ _ _ _ _ c.args.database c.args.cutter.now.bytes _ _ _ c.loop.cutter.bytes _
+    serving_last _ _ _ _ _ _ _ _ c.args.database c.args.cutter.now.bytes _ _ _ c.loop.cutter.bytes _
     _ _ _
     c.loop.session c.serve_request-ended.result c.in-Some-ended.end c.loop.invariant.1
     c.in-Some-ended.is c.loop.invariant.2 c.serve_request-ended.ensures.serves

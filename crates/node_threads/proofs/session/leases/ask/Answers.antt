@@ -11,7 +11,7 @@ returns-in-Got g c = record {
   moves = moves_on nothing a_lease (hand_of_answer c.take.result) _ _ _
       (acquire_moves c.args.pass.now _ _ _ _ _ c.in-Got.ensures.counted) c.take.ensures.moves;
   database = c.take.ensures.database;
-  answer = kept_answers _ (acquired.Lease c.in-Got.lease) c.take.result _ _
+  answer = kept_answers _ _ (acquired.Lease c.in-Got.lease) c.take.result _ _ _
       (inl (was_answered _ _ _ _ c.in-Got.ensures.counted)) c.take.ensures.kept;
 }
 
@@ -23,8 +23,8 @@ returns-in-Open g c = record {
       c.open-opened.ensures.moves)
       c.unless_gone.ensures.moves;
   database = c.unless_gone.ensures.database;
-  answer = kept_answer _ c.open-opened.result c.unless_gone.result _ _
-      (opened_answer _ _ c.open-opened.result _ _
+  answer = kept_answer _ _ c.open-opened.result c.unless_gone.result _ _ _
+      (opened_answer _ _ _ c.open-opened.result _ _ _
       (was_answered _ _ _ _ c.in-Open.ensures.counted) c.open-opened.ensures.opened)
       c.unless_gone.ensures.kept;
 }
@@ -41,5 +41,5 @@ returns-in-Holding g c = record {
   moves = not_given_moves c.args.pass.now c.acquire-answer.result _ _ _ _ c.in-Holding.is
       c.acquire-answer.ensures.counted;
   database = tt;
-  answer = is_denied _ c.acquire-answer.result _ _ c.in-Holding.is c.acquire-answer.ensures.counted;
+  answer = is_denied _ _ c.acquire-answer.result _ _ c.in-Holding.is c.acquire-answer.ensures.counted;
 }

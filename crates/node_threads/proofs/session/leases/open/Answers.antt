@@ -1,7 +1,7 @@
 use Rattle.std.proofs.Common.{◌∙◌, inr, refl, ap, sym}
 use Rattle.lease.specs.declared.permit.PermitRecord.{PermitRecord}
 use Rattle.node_threads.proofs.Balancing.{up_failed_moves}
-use Rattle.node_threads.proofs.LeaseLemmas.{of_lease, same_link}
+use Rattle.node_threads.proofs.LeaseLemmas.{of_lease, same_link, is_login, opened_by}
 use Rattle.node_threads.proofs.session.leases.open.Goals as goal
 
 pub returns-in-Ok-clause-logged_in : goal.returns-in-Ok-clause-logged_in
@@ -15,6 +15,13 @@ returns-in-Ok-clause-logged_in g c =
       key,
     ))
     c.put_up.result c.put_up.ensures.at c.put_up.ensures.link c.put_up.ensures.key
+
+pub returns-in-Ok-clause-opened : goal.returns-in-Ok-clause-opened
+returns-in-Ok-clause-opened g c =
+    opened_by _ _ c.args.permit c.put_up.result _ _
+    (is_login _ _ _ _ _ _ _ c.in-Ok.opened.key _
+    (ap (λ (p : PermitRecord). p.at.database) c.details.ensures) c.in-Ok.ensures.logged_in)
+    c.put_up.ensures.opened
 
 pub returns-in-Lost-clause-moves : goal.returns-in-Lost-clause-moves
 returns-in-Lost-clause-moves g c =

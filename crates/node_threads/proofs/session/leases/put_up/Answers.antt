@@ -1,4 +1,4 @@
-use Rattle.std.proofs.Common.{inl, inr, refl}
+use Rattle.std.proofs.Common.{rules, inl, inr, refl}
 use Rattle.node_threads.specs.Balance.{a_permit, nothing}
 use Rattle.node_threads.proofs.Balancing.{moves_on, up_moves, up_failed_moves}
 use Rattle.node_threads.proofs.LeaseLemmas.{went_up}
@@ -22,7 +22,7 @@ returns-in-Exhausted g c = record {
 }
 
 pub returns-in-Up-clause-opened : goal.returns-in-Up-clause-opened
-returns-in-Up-clause-opened g c = went_up _ _ _ _ _ _ c.in-Up.ensures.counted
+returns-in-Up-clause-opened g c = (search rules, went_up _ _ _ _ _ _ c.in-Up.ensures.counted)
 
 pub returns-in-Stale-clause-opened : goal.returns-in-Stale-clause-opened
 returns-in-Stale-clause-opened g c =
