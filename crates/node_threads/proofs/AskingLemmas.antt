@@ -19,7 +19,7 @@ use Rattle.node_threads.specs.Finding.{gathering, Comes, Finds, Quits, IsRefusal
 use Rattle.pg_frames.specs.Pending.{Pending, with_piece}
 use Rattle.peer_forward.proofs.CallLemmas.{Makes-append}
 use Rattle.node_threads.proofs.CallLists.{Read-append, Read-nothing, ReadToEnd-append}
-use Rattle.node_threads.proofs.ReadingLemmas.{fault_here}
+use Rattle.node_threads.proofs.FaultLemmas.{fault_here}
 
 -- a fault that stands ends the session
 pub quits_faulty : (limit : ℕ) (kept : List ℕ) (error : FrameError) (reply : List ℕ)

@@ -17,7 +17,7 @@ use Rattle.node_threads.specs.Asking.{SendsError}
 use Rattle.node_threads.specs.Words.{AreRead}
 use Rattle.node_threads.specs.ConsoleSession.{NeedsMore, ReadsOn, Parting, Faulty, Silent, NoMemory, Parts, Awaits, IsTextOf, IsReadAs, IsMoment, IsReply, TakesQuery, Takes, Answered, IsAnswered, Answer, EndsConsole, Queries, GreetsConsole, ServesConsole}
 use Rattle.peer_forward.proofs.CallLemmas.{Makes-append}
-use Rattle.node_threads.proofs.ReadingLemmas.{fault_here}
+use Rattle.node_threads.proofs.FaultLemmas.{fault_here}
 
 -- ---- reads
 

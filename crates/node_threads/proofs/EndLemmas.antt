@@ -52,7 +52,7 @@ pub ends_with : (limit : ℕ) (stream written : List ℕ) (frames : List Frame) 
     (text : List ℕ)
     (reads tells : List Call) → HasHead limit end → AllByRecursion (IsPassedOn limit) frames
     → stream ≡ heard frames end
-    → ReadsReply end [] reads → StopsAt frames end stream reads
+    → ReadsReply end [] reads → StopsAt limit frames end stream reads
     → written ++ text ≡ passed_on frames end → WritesReply end text tells
     → Finishes limit stream written end reads tells
 ends_with limit stream written frames end text reads tells head each stream_is read stops text_is
@@ -79,7 +79,7 @@ ends_now : (limit : ℕ) (stream written : List ℕ) (frames : List Frame) (end 
     → Finishes limit stream written end [] tells
 ends_now limit stream written frames end text tells head each stream_is read text_is told =
     ends_with limit stream written frames end text [] tells head each stream_is read
-    (stops_nothing frames end stream) text_is told
+    (stops_nothing limit frames end stream) text_is told
 
 -- a ReadyForQuery that the client took
 pub ready_told : (limit : ℕ) (stream written : List ℕ) (status : ℕ) (passage : Passage)

@@ -9,7 +9,7 @@ use Rattle.node_threads.specs.Asking.{Leaving, Says, Faulty, Silent, NoMemory, L
 use Rattle.node_threads.specs.Finding.{AsksNext}
 use Rattle.peer_forward.proofs.CallLemmas.{Makes-append}
 use Rattle.node_threads.proofs.CallLists.{Read-append, ReadToEnd-append, ReadToEnd-failed}
-use Rattle.node_threads.proofs.ReadingLemmas.{no_frame-nothing, fault_at-nothing}
+use Rattle.node_threads.proofs.FaultLemmas.{no_frame-nothing, fault_at-nothing}
 
 -- a client leaves after more was read
 leaves_after : (limit : ℕ) (kept bytes : List ℕ) (calls calls' : List Call) (leaving : Leaving)

@@ -3,6 +3,7 @@ pub mod Balancing
 pub mod CarryingLemmas
 pub mod CallLists
 pub mod HandingLemmas
+pub mod FaultLemmas
 pub mod EndLemmas
 pub mod ReadingLemmas
 pub mod PassingLemmas

@@ -1,7 +1,8 @@
 -- A reply that is passed on, one reading after another.
 use Rattle.std.proofs.Common.{◌≡◌, IfSome, ℕ, ◌≤◌, List, [], ◌∷◌, ◌++◌, length, Option, Some, None, refl, sym, ◌∙◌, subst, append_assoc, append-nil}
 use Rattle.peer_forward.specs.Calls.{Call, Effect, Makes}
-use Rattle.pg_frames.specs.Passage.{Passage, head_text, HasNoNext}
+use Rattle.pg_frames.specs.FrameText.{HasFault}
+use Rattle.pg_frames.specs.Passage.{Passage, after, head_text, HasNoNext}
 use Rattle.client_state.specs.Acts.{ready_text}
 use Rattle.node_threads.specs.declared.session.place.Place.{Place}
 use Rattle.node_threads.specs.declared.session.place.Place.TheVariants.{Between}
@@ -108,6 +109,7 @@ pub passing_more : {L C : Type 0} (limit : ℕ) (wrote gave : Effect L) (wrote' 
     (so_far : Passing limit wrote gave wrote' gave' link client before place passage link' client')
     → HandedOut limit (before ++ so_far.bytes) so_far.text place' handed
     → HasNoNext handed.limit handed.left handed.bytes
+    → HasFault handed.limit (after handed) None
     → ((call : Call) × Makes wrote gave link' (call ∷ []) link''
     × SomeCalls wrote' gave' client' client''
     (λ tells. (bytes : List ℕ) × Read bytes (call ∷ []) × (text : List ℕ) × Wrote text tells
@@ -116,7 +118,7 @@ pub passing_more : {L C : Type 0} (limit : ℕ) (wrote gave : Effect L) (wrote' 
     → Passing limit wrote gave wrote' gave' link client before place' passage' link'' client''
 passing_more limit wrote gave wrote' gave' link link' link'' client client' client'' before place
     place'
-    passage handed passage' so_far out dry more =
+    passage handed passage' so_far out dry sound more =
     let told = more.2 in
     let here = told.2.4 limit (before ++ so_far.bytes) so_far.text out in
     record {
@@ -135,6 +137,7 @@ passing_more limit wrote gave wrote' gave' link link' link'' client client' clie
             passage = handed;
             out = out;
             dry = subst (λ (n : ℕ). HasNoNext n handed.left handed.bytes) out.limit_is dry;
+            sound = subst (λ (n : ℕ). HasFault n (after handed) None) out.limit_is sound;
           });
       text = so_far.text ++ told.2.2;
       told = Wrote-append so_far.text told.2.2 so_far.tells told.0 so_far.told told.2.3;

@@ -1,12 +1,10 @@
 -- A reply is passed on as far as it was handed out, and more of it is read, or it ends.
-use Rattle.std.proofs.Common.{◌≡◌, ◌≢◌, ◌⊎◌, inl, inr, true, false, is_some, ltb, ℕ, ◌+◌, ◌-◌, ◌<◌, ◌≤◌, List, [], ◌∷◌, ◌++◌, length, take, drop, Option, Some, None, refl, sym, ap, ◌∙◌, subst, arith, append_assoc, append-nil, unwrap_or}
+use Rattle.std.proofs.Common.{◌≡◌, ◌≢◌, ◌⊎◌, inl, inr, true, false, is_some, ltb, ℕ, ◌-◌, ◌<◌, ◌≤◌, List, [], ◌∷◌, ◌++◌, length, take, drop, Option, Some, None, refl, sym, ap, ◌∙◌, subst, arith, append_assoc, append-nil, unwrap_or}
 use Rattle.std.proofs.lemmas.Bool.{false≢true, le-ltb}
 use Rattle.std.proofs.lemmas.List.{drop_all}
-use Rattle.std.specs.List.{AllByRecursion}
 use Rattle.peer_forward.specs.Calls.{Call}
-use Rattle.pg_frames.specs.declared.frame.Frame.{Frame}
 use Rattle.pg_frames.specs.declared.error.FrameError.{FrameError}
-use Rattle.pg_frames.specs.FrameText.{text, texts, IsFrame, BeginsNoFrame, fault_at, HasFault}
+use Rattle.pg_frames.specs.FrameText.{texts, fault_at, HasFault}
 use Rattle.pg_frames.specs.Passage.{Passage, head_text, after, fed, forgotten, HasNoNext, BeginsNoHead}
 use Rattle.startup.specs.declared.error_code.ErrorCode.TheVariants.{ConnectionFailure}
 use Rattle.node_threads.specs.declared.session.place.Place.{Place}
@@ -18,38 +16,9 @@ use Rattle.node_threads.specs.Asking.{IsError}
 use Rattle.node_threads.specs.Replying.{Faulty, Lost, Cut, Untold, IsForClient}
 use Rattle.node_threads.specs.Progress.{withheld, IsShown, HandedOut, EndsHere}
 use Rattle.node_threads.proofs.CallLists.{Read-nothing, ReadToEnd-failed}
-use Rattle.node_threads.proofs.HandingLemmas.{text_is}
+use Rattle.node_threads.proofs.FaultLemmas.{no_frame, fault_here, no_frame-nothing, fault_at-nothing}
 use Rattle.node_threads.proofs.EndLemmas.{front_is, last_is, ends_with}
-
--- where no head stands, no frame does
-no_frame : (limit : ℕ) (bytes : List ℕ) → BeginsNoHead limit bytes → BeginsNoFrame limit bytes
-no_frame limit bytes none frame more is e =
-    none frame.kind (4 + length frame.body) (frame.body ++ more)
-    (record { type_byte = is.type_byte; low = omega arith; high = is.size; fits = is.fits })
-    (e ∙ ap (λ xs. xs ++ more) (text_is frame.kind frame.body)
-    ∙ append_assoc (head_text frame.kind (4 + length frame.body)) frame.body more)
-
--- the fault of a stream that begins with no frame
-pub fault_here : (limit : ℕ) (stream : List ℕ) (fault : Option FrameError)
-    → BeginsNoFrame limit stream
-    → HasFault limit stream fault → fault_at limit stream ≡ fault
-fault_here limit stream fault none has =
-    go has.frames has.cuts.each has.cuts.whole
-  where
-    go : (frames : List Frame) → AllByRecursion (IsFrame limit) frames
-        → stream ≡ texts frames ++ has.rest → fault_at limit stream ≡ fault
-    go [] each whole = ap (fault_at limit) whole ∙ has.stands
-    go (frame ∷ frames) each whole = absurd (none frame (texts frames ++ has.rest) each.0
-        (whole ∙ append_assoc (text frame) (texts frames) has.rest))
-
--- no frame begins no bytes, and no fault stands there
-pub no_frame-nothing : (limit : ℕ) → BeginsNoFrame limit []
-unfolding text
-no_frame-nothing limit frame more is e = cc
-
-pub fault_at-nothing : (limit : ℕ) → fault_at limit [] ≡ None
-unfolding fault_at
-fault_at-nothing limit = refl
+use Rattle.node_threads.proofs.StoppingLemmas.{stops_nothing}
 
 none_some : (fault : FrameError) → None ≡ Some fault → ⊥
 none_some fault e = cc
@@ -133,7 +102,7 @@ faulty_between limit stream written passage fault tells reply stayed out dry has
       ends_with limit stream written out.frames (Faulty passage.bytes fault) out.front [] tells tt
           out.each
           (out.stream_is ∙ ap (λ xs. texts out.frames ++ (xs ++ passage.bytes)) out.is_shown.1)
-          Read-nothing tt
+          Read-nothing (stops_nothing limit out.frames (Faulty passage.bytes fault) stream)
           (out.written_is ∙ ap (λ xs. texts out.frames ++ xs) out.is_shown.1
           ∙ append-nil (texts out.frames))
           (subst (λ xs. Wrote xs tells)
@@ -250,7 +219,7 @@ no_fault-ready limit enough =
     let test : ltb limit 5 ≡ false = le-ltb _ _ enough in rw test refl
 
 -- no fault was found
-none_found : (found : Option FrameError) → is_some found ≡ false → found ≡ None
+pub none_found : (found : Option FrameError) → is_some found ≡ false → found ≡ None
 none_found None clean = refl
 none_found (Some fault) clean = absurd (false≢true (sym clean))
 

@@ -1,11 +1,11 @@
 -- A reply that isn't over yet: no whole reply stands in what was read.
-use Rattle.std.proofs.Common.{◌≡◌, ◌⊎◌, inl, inr, ℕ, zero, suc, ◌+◌, ◌/◌, ◌%◌, ◌<◌, ◌≤◌, List, [], ◌∷◌, ◌++◌, length, take, drop, get_or, Option, refl, sym, ap, ◌∙◌, subst, arith, append_assoc, append-nil, length-append, take-append-drop}
-use Rattle.std.proofs.lemmas.List.{take-append-le, nil_from_length}
+use Rattle.std.proofs.Common.{◌≡◌, ◌⊎◌, inl, inr, ℕ, zero, suc, ◌+◌, ◌/◌, ◌%◌, ◌<◌, ◌≤◌, List, [], ◌∷◌, ◌++◌, length, take, drop, get_or, Option, None, unwrap_or, refl, sym, ap, ◌∙◌, subst, arith, append_assoc, append-nil, length-append, take-append-drop}
+use Rattle.std.proofs.lemmas.List.{take-append-le, nil_from_length, drop_all}
 use Rattle.std.specs.List.{AllByRecursion}
 use Rattle.peer_forward.specs.Calls.{Call}
 use Rattle.pg_frames.specs.declared.frame.Frame.{Frame}
-use Rattle.pg_frames.specs.FrameText.{text, texts, IsFrame}
-use Rattle.pg_frames.specs.Passage.{Passage, IsHead, head_text, HasNoNext}
+use Rattle.pg_frames.specs.FrameText.{text, texts, IsFrame, fault_at, HasFault}
+use Rattle.pg_frames.specs.Passage.{Passage, IsHead, head_text, after, HasNoNext}
 use Rattle.client_state.specs.LinkMessage.{link_message}
 use Rattle.client_state.specs.declared.link_message.LinkMessage.TheVariants.{PassOn, Ready as IsReady, Refused}
 use Rattle.startup.specs.declared.error_code.ErrorCode.{ErrorCode}
@@ -13,19 +13,21 @@ use Rattle.node_threads.specs.declared.session.place.Place.{Place}
 use Rattle.node_threads.specs.declared.session.place.Place.TheVariants.{Between, Inside, AtReady, Status}
 use Rattle.node_threads.specs.StreamCalls.{given, Read}
 use Rattle.node_threads.specs.declared.session.outcome.Stayed.{Stayed}
-use Rattle.node_threads.specs.Replying.{IsPassedOn, ReplyEnd, Ready, Unclear, Unfit, Faulty, Lost, Cut, Untold, heard, ReadsNoFurther, StopsAt, EndsStay}
+use Rattle.node_threads.specs.Replying.{IsPassedOn, ReplyEnd, Ready, Unclear, Unfit, Faulty, Lost, Cut, Untold, heard, ReadsNoFurther, ReadsNoFault, StopsAt, EndsStay}
 use Rattle.node_threads.specs.Progress.{HasHead, withheld, IsShown, HandedOut}
 use Rattle.pg_frames.proofs.TextLemmas.{same_front, text_is}
 use Rattle.std.proofs.Math.Seq.{take-append_seam}
 use Rattle.node_threads.proofs.CallLists.{given-append}
+use Rattle.node_threads.proofs.FaultLemmas.{no_frame, fault_here, fault_at-nothing, no_fault-head}
 
--- of a reply this was read, and nothing more of it can be handed out
+-- of a reply this was read, nothing more of it can be handed out, and no fault stands behind that
 pub record IsUnfinished (limit : ℕ) (stream : List ℕ) : Type 0 where
   pub written : List ℕ
   pub place : Place
   pub passage : Passage
   pub out : HandedOut limit stream written place passage
   pub dry : HasNoNext limit passage.left passage.bytes
+  pub sound : HasFault limit (after passage) None
 
 -- two heads at the front of one text are the same
 same_head : (limit : ℕ) (kind size kind' size' : ℕ) (more more' : List ℕ) → IsHead limit kind size
@@ -218,21 +220,94 @@ is_longer limit stream bytes frames kind size more after unfinished each over e 
           (drop (length whole) stream)))
     ]
 
+-- no fault stands in what is read of the frame at a place
+no_fault_shown : (limit : ℕ) (place : Place) (left : Option ℕ) (bytes shown : List ℕ)
+    → IsShown limit place left shown → HasNoNext limit left bytes
+    → HasFault limit (drop (unwrap_or left 0) bytes) None
+    → fault_at limit (shown ++ (withheld place ++ bytes)) ≡ None
+no_fault_shown limit Between left bytes shown is dry sound =
+    ap (λ xs. fault_at limit (xs ++ bytes)) is.1
+    ∙ fault_here limit bytes None
+    (no_frame limit bytes (subst (λ l. HasNoNext limit l bytes) is.0 dry))
+    (subst (λ l. HasFault limit (drop (unwrap_or l 0) bytes) None) is.0 sound)
+no_fault_shown limit Inside left bytes shown is dry sound =
+    ap (λ xs. fault_at limit (xs ++ bytes)) is.6
+    ∙ ap (fault_at limit) (append_assoc (head_text is.0 is.1) is.2 bytes)
+    ∙ no_fault-head limit is.0 is.1 (is.2 ++ bytes) is.4
+no_fault_shown limit AtReady left bytes shown is dry sound =
+    ap (λ xs. fault_at limit (xs ++ (head_text 90 5 ++ bytes))) is.1
+    ∙ no_fault-head limit 90 5 bytes (ready_head limit is.2)
+no_fault_shown limit (Status status) left bytes shown is dry sound =
+    let none = (subst (λ l. HasNoNext limit l bytes) is.0 dry).0 in absurd (omega (arith, none))
+
+-- nor behind frames that are passed on
+no_fault_behind : (limit : ℕ) (place : Place) (left : Option ℕ) (bytes shown rest : List ℕ)
+    → IsShown limit place left shown → HasNoNext limit left bytes
+    → HasFault limit (drop (unwrap_or left 0) bytes) None
+    → (mine frames : List Frame) → AllByRecursion (IsPassedOn limit) mine
+    → AllByRecursion (IsPassedOn limit) frames
+    → texts mine ++ (shown ++ (withheld place ++ bytes)) ≡ texts frames ++ rest
+    → fault_at limit rest ≡ None
+no_fault_behind limit place left bytes shown rest is dry sound [] [] each each' e =
+    ap (fault_at limit) (sym e) ∙ no_fault_shown limit place left bytes shown is dry sound
+no_fault_behind limit place left bytes shown rest is dry sound [] (frame ∷ frames) each each' e =
+    absurd (frame_misses limit place left bytes shown frame (texts frames ++ rest) is dry each'.0
+    (e ∙ append_assoc (text frame) (texts frames) rest))
+no_fault_behind limit place left bytes shown rest is dry sound (frame ∷ mine) [] each each' e =
+    let there = shown ++ (withheld place ++ bytes) in
+    ap (fault_at limit) (sym e ∙ append_assoc (text frame) (texts mine) there
+    ∙ text_is frame (texts mine ++ there))
+    ∙ no_fault-head limit frame.kind (4 + length frame.body) (frame.body ++ (texts mine ++ there))
+    (head_of limit frame each.0.is_frame)
+no_fault_behind limit place left bytes shown rest is dry sound (frame ∷ mine) (frame' ∷ frames) each
+    each' e =
+    let there = shown ++ (withheld place ++ bytes) in
+    let same = same_front limit frame frame' (texts mine ++ there) (texts frames ++ rest)
+    each.0.is_frame
+    each'.0.is_frame (sym (append_assoc (text frame) (texts mine) there) ∙ e
+    ∙ append_assoc (text frame') (texts frames) rest) in
+    no_fault_behind limit place left bytes shown rest is dry sound mine frames each.1 each'.1 same.1
+
+-- so no fault was there before what was read later
+no_fault_yet : (limit : ℕ) (stream bytes : List ℕ) (frames : List Frame) (rest : List ℕ)
+    → IsUnfinished limit stream → AllByRecursion (IsPassedOn limit) frames
+    → stream ++ bytes ≡ texts frames ++ rest
+    → fault_at limit (drop (length (texts frames)) stream) ≡ None
+no_fault_yet limit stream bytes frames rest unfinished each e =
+    let whole : List ℕ = texts frames in
+    elim (less_or_not (length stream) (length whole)) [
+      | inl less ↦
+          ap (fault_at limit) (drop_all (length whole) stream (omega (arith, less)))
+          ∙ fault_at-nothing limit
+      | inr not ↦
+          let front : take (length whole) stream ≡ whole =
+          sym (take-append-le (length whole) stream bytes not) ∙ ap (take (length whole)) e
+          ∙ take-append_seam whole rest in
+          let is : stream ≡ whole ++ drop (length whole) stream =
+          sym (take-append-drop (length whole) stream)
+          ∙ ap (λ xs. xs ++ drop (length whole) stream) front in
+          let out = unfinished.out in
+          no_fault_behind limit unfinished.place unfinished.passage.left unfinished.passage.bytes
+          out.shown (drop (length whole) stream) out.is_shown unfinished.dry unfinished.sound
+          out.frames frames out.each each (sym out.stream_is ∙ is)
+    ]
+
 no_last : (earlier : List Call) (last : Call) → [] ≡ earlier ++ last ∷ [] → ⊥
 no_last earlier last e = omega (arith, ap length e, length-append earlier (last ∷ []))
 
 -- where nothing is read, nothing is read behind the end
-pub stops_nothing : (frames : List Frame) (end : ReplyEnd) (before : List ℕ)
-    → StopsAt frames end before []
-stops_nothing frames (Ready status after) before = λ earlier last e. absurd (no_last earlier last e)
-stops_nothing frames (Unclear status after) before =
+pub stops_nothing : (limit : ℕ) (frames : List Frame) (end : ReplyEnd) (before : List ℕ)
+    → StopsAt limit frames end before []
+stops_nothing limit frames (Ready status after) before = λ earlier last e. absurd (no_last earlier last e)
+stops_nothing limit frames (Unclear status after) before =
     λ earlier last e. absurd (no_last earlier last e)
-stops_nothing frames (Unfit kind size after) before =
+stops_nothing limit frames (Unfit kind size after) before =
     λ earlier last e. absurd (no_last earlier last e)
-stops_nothing frames (Faulty rest fault) before = tt
-stops_nothing frames (Lost rest) before = tt
-stops_nothing frames (Cut kind size body) before = tt
-stops_nothing frames (Untold begun after) before = tt
+stops_nothing limit frames (Faulty rest fault) before =
+    λ earlier last e. absurd (no_last earlier last e)
+stops_nothing limit frames (Lost rest) before = tt
+stops_nothing limit frames (Cut kind size body) before = tt
+stops_nothing limit frames (Untold begun after) before = tt
 
 -- the last of some calls after others is one of them, or the last of the others
 split_last : (xs ys earlier : List Call) (last : Call) → xs ++ ys ≡ earlier ++ last ∷ []
@@ -331,11 +406,39 @@ no_further limit frames kind size more after before bytes rest xs reads each ove
           (stops at.0 last at.1)
     ]
 
+-- no read was made behind a fault, before these reads or with them
+faultless : (limit : ℕ) (frames : List Frame) (rest before bytes more : List ℕ)
+    (xs reads : List Call) → AllByRecursion (IsPassedOn limit) frames
+    → Read bytes xs → Unfinished limit before xs
+    → (before ++ bytes) ++ more ≡ texts frames ++ rest
+    → ReadsNoFault limit (texts frames) (before ++ bytes) reads
+    → ReadsNoFault limit (texts frames) before (xs ++ reads)
+faultless limit frames rest before bytes more xs reads each read unfinished is stops earlier last e
+    =
+    elim (split_last xs reads earlier last e) [
+      | inl at ↦
+          let parts : bytes ≡ given earlier ++ given (last ∷ []) =
+          sym read.whole ∙ ap given at.1 ∙ given-append earlier (last ∷ []) in
+          no_fault_yet limit (before ++ given earlier) (given (last ∷ []) ++ more) frames rest
+          (unfinished earlier last at.1) each
+          (sym (append_assoc (before ++ given earlier) (given (last ∷ [])) more)
+          ∙ ap (λ ys. ys ++ more) (append_assoc before (given earlier) (given (last ∷ [])))
+          ∙ ap (λ ys. (before ++ ys) ++ more) (sym parts) ∙ is)
+      | inr at ↦
+          let same : before ++ given earlier ≡ (before ++ bytes) ++ given at.0 =
+          ap (λ ys. before ++ given ys) at.2 ∙ ap (λ ys. before ++ ys) (given-append xs at.0)
+          ∙ ap (λ ys. before ++ (ys ++ given at.0)) read.whole
+          ∙ sym (append_assoc before bytes (given at.0)) in
+          subst (λ ys. fault_at limit (drop (length (texts frames)) ys) ≡ None) (sym same)
+          (stops at.0 last at.1)
+    ]
+
 pub stops_after : (limit : ℕ) (frames : List Frame) (end : ReplyEnd) (before bytes rest : List ℕ)
     (xs reads : List Call) → AllByRecursion (IsPassedOn limit) frames → CanEnd limit end
     → Read bytes xs
     → Unfinished limit before xs → (before ++ bytes) ++ rest ≡ heard frames end
-    → StopsAt frames end (before ++ bytes) reads → StopsAt frames end before (xs ++ reads)
+    → StopsAt limit frames end (before ++ bytes) reads
+    → StopsAt limit frames end before (xs ++ reads)
 stops_after limit frames (Ready status after) before bytes rest xs reads each can read unfinished
     is stops =
     no_further limit frames 90 5 (status ∷ []) after before bytes rest xs reads each (ready_over
@@ -355,7 +458,8 @@ stops_after limit frames (Unfit kind size after) before bytes rest xs reads each
     (is ∙ ap (λ ys. texts frames ++ (ys ++ after)) (sym none))
     (subst (λ ys. ReadsNoFurther (texts frames ++ ys) (before ++ bytes) reads) (sym none) stops))
 stops_after limit frames (Faulty rest' fault) before bytes rest xs reads each can read unfinished
-    is stops = tt
+    is stops =
+    faultless limit frames rest' before bytes rest xs reads each read unfinished is stops
 stops_after limit frames (Lost rest') before bytes rest xs reads each can read unfinished is stops
     = tt
 stops_after limit frames (Cut kind size body) before bytes rest xs reads each can read unfinished

@@ -170,6 +170,7 @@ unfinished_first limit call =
       passage = start limit;
       out = nothing_out limit;
       dry = no_head-short limit [] (omega arith);
+      sound = has_none limit;
     })
 
 -- a reply whose first bytes were read by one call

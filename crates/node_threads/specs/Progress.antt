@@ -144,7 +144,7 @@ pub record Finishes (limit : ℕ) (stream written : List ℕ) (end : ReplyEnd)
     pub bytes : List ℕ
     pub bytes_are : stream ++ bytes ≡ heard frames end
     pub read : ReadsReply end bytes reads
-    pub stops : StopsAt frames end stream reads
+    pub stops : StopsAt limit frames end stream reads
     pub text : List ℕ
     pub text_is : written ++ text ≡ passed_on frames end
     pub told : WritesReply end text tells

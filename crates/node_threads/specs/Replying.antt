@@ -1,7 +1,7 @@
 -- How a reply is read from the link and passed on to the client, how it may end, and what each end
 -- means for the stay (own, after PgBouncer's transaction pooling; PostgreSQL manual, "Message
 -- Flow").
-use Rattle.std.specs.Prelude.{◌≡◌, ◌⊎◌, ℕ, ◌+◌, ◌<◌, List, [], ◌∷◌, ◌++◌, length, Some, None}
+use Rattle.std.specs.Prelude.{◌≡◌, ◌⊎◌, ℕ, ◌+◌, ◌<◌, List, [], ◌∷◌, ◌++◌, length, drop, Some, None}
 use Rattle.std.specs.List.{AllByRecursion}
 use Rattle.peer_forward.specs.Calls.{Call}
 use Rattle.pg_frames.specs.declared.frame.Frame.{Frame}
@@ -79,19 +79,26 @@ abbrev pub ReadsNoFurther : List ℕ → List ℕ → List Call → Type 0
 ReadsNoFurther whole before reads = (earlier : List Call) (last : Call)
     → reads ≡ earlier ++ last ∷ [] → length (before ++ given earlier) < length whole
 
--- nothing is read behind a ReadyForQuery, nor behind the head of a frame that isn't passed on: what
--- stands there came with the same read
-abbrev pub StopsAt : List Frame → ReplyEnd → List ℕ → List Call → Type 0
-StopsAt frames (Ready status after) before reads =
+-- no read is made once a fault is there behind this
+abbrev pub ReadsNoFault : ℕ → List ℕ → List ℕ → List Call → Type 0
+ReadsNoFault limit front before reads = (earlier : List Call) (last : Call)
+    → reads ≡ earlier ++ last ∷ []
+    → fault_at limit (drop (length front) (before ++ given earlier)) ≡ None
+
+-- nothing is read behind a ReadyForQuery, nor behind the head of a frame that isn't passed on, nor
+-- behind bytes that are no frame: what stands there came with the same read
+abbrev pub StopsAt : ℕ → List Frame → ReplyEnd → List ℕ → List Call → Type 0
+StopsAt limit frames (Ready status after) before reads =
     ReadsNoFurther (texts frames ++ ready_text status) before reads
-StopsAt frames (Unclear status after) before reads =
+StopsAt limit frames (Unclear status after) before reads =
     ReadsNoFurther (texts frames ++ ready_text status) before reads
-StopsAt frames (Unfit kind size after) before reads =
+StopsAt limit frames (Unfit kind size after) before reads =
     ReadsNoFurther (texts frames ++ head_text kind size) before reads
-StopsAt frames (Faulty rest fault) before reads = Unit {0}
-StopsAt frames (Lost rest) before reads = Unit {0}
-StopsAt frames (Cut kind size body) before reads = Unit {0}
-StopsAt frames (Untold begun after) before reads = Unit {0}
+StopsAt limit frames (Faulty rest fault) before reads =
+    ReadsNoFault limit (texts frames) before reads
+StopsAt limit frames (Lost rest) before reads = Unit {0}
+StopsAt limit frames (Cut kind size body) before reads = Unit {0}
+StopsAt limit frames (Untold begun after) before reads = Unit {0}
 
 -- the calls that write it to the client: all of it, unless the client doesn't take it
 abbrev pub WritesReply : ReplyEnd → List ℕ → List Call → Type 0
@@ -107,7 +114,7 @@ pub record Replies (limit : ℕ) (before : List ℕ) (frames : List Frame) (end 
   pub bytes : List ℕ
   pub bytes_are : before ++ bytes ≡ heard frames end
   pub read : ReadsReply end bytes reads
-  pub stops : StopsAt frames end before reads
+  pub stops : StopsAt limit frames end before reads
   pub told : WritesReply end (passed_on frames end) tells
 
 -- what the client doesn't take: a ReadyForQuery that it was to get, or a part of a frame, or what

@@ -197,6 +197,7 @@ fn read_on<C: WriteCalls + ReadCalls, L: WriteCalls + ReadCalls>(
         × ((limit : ℕ) (stream written : List ℕ)
         → HandedOut limit stream written place link.old.flow
         → HandedOut limit (stream ++ bytes) (written ++ text) place link.new.flow)) }
+    ensures sound { result ≡ None → HasFault link.old.flow.limit (after link.old.flow) None }
     ensures session { result ≡ None → session.new ≡ session.old }
     ensures ends { IfSome result (λ stayed.
         SomeCalls L.wrote L.gave link.old.stream link.new.stream

@@ -130,8 +130,8 @@ fn whole_reply(limit: MessageLimit, bytes: &[u8]) -> Option<u8>
     ensures whole { IfSome result (IsWhole limit bytes.now) }
     ensures known { IfSome result IsKnown }
 {
-    // The range of a limit is known of its number alone.
-    let _limit = limit.get();
+    // Each limit admits a ReadyForQuery.
+    prove!(limit.get() as usize >= READY_LEN);
     if bytes.len() < READY_LEN {
         return None;
     }

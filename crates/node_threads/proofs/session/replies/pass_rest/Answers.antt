@@ -30,7 +30,8 @@ loop-preserved g c =
     let so_far = c.loop.invariant.0 in
     let out = c.in-More.ensures.handed _ _ _ so_far.out in (
       passing_more _ _ _ _ _ _ _ _ _ _ _ c.args.link.now.flow.bytes _ _ _ _ _ so_far out
-          c.in-More.ensures.dry (c.read_on.ensures.more c.in_default.is),
+          c.in-More.ensures.dry (c.read_on.ensures.sound c.in_default.is)
+          (c.read_on.ensures.more c.in_default.is),
       c.read_on.ensures.session c.in_default.is ∙ c.in-More.ensures.session ∙ c.loop.invariant.1,
     )
 

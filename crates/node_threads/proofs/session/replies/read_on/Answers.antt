@@ -1,8 +1,9 @@
-use Rattle.std.proofs.Common.{◌∙◌, refl, sym, ap, subst, []}
+use Rattle.std.proofs.Common.{◌∙◌, refl, sym, ap, subst, [], Option}
 use Rattle.pg_frames.specs.Passage.{Passage, after, fed}
+use Rattle.pg_frames.specs.declared.error.FrameError.{FrameError}
 use Rattle.pg_frames.specs.FrameText.{HasFault}
 use Rattle.node_threads.specs.declared.session.outcome.Stayed.TheVariants.{End}
-use Rattle.node_threads.proofs.ReadingLemmas.{untold_ends, faulty_ends, cut_ends, lost_ends, more_read}
+use Rattle.node_threads.proofs.ReadingLemmas.{none_found, untold_ends, faulty_ends, cut_ends, lost_ends, more_read}
 use Rattle.node_threads.proofs.session.replies.read_on.Goals as goal
 
 pub returns-then-not-pass_on-clause-ends : goal.returns-then-not-pass_on-clause-ends
@@ -59,6 +60,15 @@ returns-then-read_more-clause-more g c _ =
         ),
       ),
     )
+
+pub returns-then-read_more-clause-sound : goal.returns-then-read_more-clause-sound
+returns-then-read_more-clause-sound g c _ =
+    let has = subst (λ (p : Passage). HasFault p.limit (after p) c.fault.result)
+    c.pass_on.ensures.flow
+    c.fault.ensures in
+    subst (λ (f : Option FrameError). HasFault c.args.link.now.flow.limit
+    (after c.args.link.now.flow) f)
+    (none_found c.fault.result (sym c.is_some.ensures ∙ c.if-is_some.false)) has
 
 pub returns-in-Inside-clause-ends : goal.returns-in-Inside-clause-ends
 returns-in-Inside-clause-ends g c =

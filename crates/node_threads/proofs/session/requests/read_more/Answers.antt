@@ -1,6 +1,6 @@
 use Rattle.std.proofs.Common.{refl, inl, inr, [], arith}
 use Rattle.node_threads.proofs.CallLists.{ReadToEnd-failed}
-use Rattle.node_threads.proofs.ReadingLemmas.{fault_here}
+use Rattle.node_threads.proofs.FaultLemmas.{fault_here}
 use Rattle.node_threads.proofs.AskingLemmas.{quits_faulty}
 use Rattle.node_threads.proofs.session.requests.read_more.Goals as goal
 
