@@ -31,7 +31,8 @@ place_of name databases = position (λ d. bytes_eq name d.name) databases
 
 -- A session was served on the database at this place, with a key of this kind, or refused where
 -- there is none.
-abbrev pub ServesAt : {T : Type 0} → ℕ → Effect T → Effect T → Logins → List Report → Option ℕ → Kind
+abbrev pub ServesAt : {T : Type 0} → ℕ → Effect T → Effect T → Logins → List Report → Option ℕ
+    → Kind
     → List ℕ
     → List Call → List ℕ → CallerView → CallerView → Type 0
 ServesAt limit wrote gave logins reports None kind kept calls left old new =
@@ -42,7 +43,8 @@ ServesAt limit wrote gave logins reports (Some database) kind kept calls left ol
 
 -- What the first packets lead to, behind which this was read of the client. A cancel request for
 -- which no seat is free is given up without an order.
-abbrev pub ServesOpened : {T C : Type 0} → ℕ → Effect T → Effect T → Effect C → Effect C → Logins → Carries
+abbrev pub ServesOpened : {T C : Type 0} → ℕ → Effect T → Effect T → Effect C → Effect C
+    → Logins → Carries
     → Carries → List Report → NodeSettings → Opened → List ℕ → C → C → CallerView
     → CallerView → Type 0
 ServesOpened limit wrote gave wrote' gave' logins ToServer ToPeer reports settings (Session name kind)

@@ -140,7 +140,8 @@ IsLeft limit reply kept calls left old new =
     (leaving : Leaving) × Leaves limit leaving kept calls reply left × (new ≡ old)
 
 -- a session goes on by the client's next request; or ends, by that or because the client leaves
-abbrev pub Serves : {T : Type 0} → ℕ → Effect T → Effect T → Logins → PassRecord → ℕ → Option (List ℕ)
+abbrev pub Serves : {T : Type 0} → ℕ → Effect T → Effect T → Logins → PassRecord → ℕ
+    → Option (List ℕ)
     → List ℕ → List Call → List ℕ → CallerView → CallerView → Type 0
 Serves limit wrote gave logins pass database None kept calls left old new =
     IsRequest limit wrote gave logins pass database None kept calls left old new
@@ -149,7 +150,8 @@ Serves limit wrote gave logins pass database (Some reply) kept calls left old ne
     ⊎ IsLeft limit reply kept calls left old new
 
 -- that many requests, one after another, with each of which the session goes on
-abbrev pub Requests : {T : Type 0} → ℕ → Effect T → Effect T → Logins → PassRecord → ℕ → List (List Call)
+abbrev pub Requests : {T : Type 0} → ℕ → Effect T → Effect T → Logins → PassRecord → ℕ
+    → List (List Call)
     → List ℕ → List Call → List ℕ → CallerView → CallerView → Type 0
 Requests limit wrote gave logins pass database [] kept calls left old new =
     (calls ≡ []) × (left ≡ kept) × (new ≡ old)
@@ -176,7 +178,8 @@ pub record GreetedSession {T : Type 0} (limit : ℕ) (wrote gave : Effect T) (lo
   pub ends : Serves limit wrote gave logins pass database (Some reply) behind last left between new
 
 -- the session of a client with a pass, whether it took its greeting or not
-abbrev pub Stays : {T : Type 0} → ℕ → Effect T → Effect T → Logins → List Report → PassRecord → ℕ → List ℕ
+abbrev pub Stays : {T : Type 0} → ℕ → Effect T → Effect T → Logins → List Report → PassRecord
+    → ℕ → List ℕ
     → List ℕ → List Call → List ℕ → CallerView → CallerView → Type 0
 Stays limit wrote gave logins reports pass database reply kept calls left old new =
     GreetedSession limit wrote gave logins reports pass database reply kept calls left old new
@@ -207,7 +210,8 @@ pub record HasServed {T : Type 0} (limit : ℕ) (wrote gave : Effect T) (logins 
   pub told : Sends reply last
 
 -- A client was served from its login to its end, or refused since the node gave it no slot.
-abbrev pub ServesClient : {T : Type 0} → ℕ → Effect T → Effect T → Logins → List Report → ℕ → ℕ → Kind
+abbrev pub ServesClient : {T : Type 0} → ℕ → Effect T → Effect T → Logins → List Report → ℕ → ℕ
+    → Kind
     → List ℕ → List Call → List ℕ → CallerView → CallerView → Type 0
 ServesClient limit wrote gave logins reports database secret kind kept calls left old new =
     HasServed limit wrote gave logins reports database secret kind kept calls left old new
