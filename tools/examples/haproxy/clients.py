@@ -8,7 +8,7 @@ import time
 
 HERE = os.path.dirname(os.path.realpath(__file__))
 sys.dont_write_bytecode = True
-sys.path.insert(0, os.path.join(HERE, "../../tools"))
+sys.path.insert(0, os.path.join(HERE, "../.."))
 
 from hard.wire import CLEAN, Client, Late, Lost, Refused, cancel, wait_until
 
