@@ -117,6 +117,7 @@ class Postgres:
     """A PostgreSQL server of the scenario's own: user `app`, database `shop`."""
 
     count = 0
+    servers = []
 
     def __init__(self, trial, settings=None):
         Postgres.count += 1
@@ -124,6 +125,7 @@ class Postgres:
         self.options, self.port, self.process, self.watcher = trial.options, trial.port(), None, None
         self.data = f"{trial.folder}/data{Postgres.count}"
         self.log = open(f"{trial.folder}/server{Postgres.count}.log", "a")
+        Postgres.servers.append(self)
         subprocess.run(["cp", "-a", self.options.template, self.data], check=True)
         self.start()
 
@@ -167,6 +169,15 @@ class Postgres:
         self.process.send_signal(signal.SIGINT)
         self.process.wait(20)
         self.start()
+
+
+def stop_servers():
+    """Ends all servers at once. They remove their shared memory, which a killed one would leave."""
+    started = [server.process for server in Postgres.servers if server.process]
+    for process in started:
+        process.send_signal(signal.SIGQUIT)
+    for process in started:
+        process.wait(10)
 
 
 def as_owner(options):

@@ -144,7 +144,7 @@ def main():
 
     print("== pooler 3 is stopped")
     os.kill(processes[1], signal.SIGTERM)
-    wait_until(lambda: not answers(NODES[2]), 10)
+    require(wait_until(lambda: not answers(NODES[2]), 10) is not None, "it doesn't answer")
     ask(PORTS["NODES"], 30)
     time.sleep(4)
     counts = interrupt(PORTS["NODES"], NODES[:2], 12)

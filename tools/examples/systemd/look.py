@@ -81,13 +81,6 @@ def of_process(process, file, name):
         return next(line.removeprefix(name).split() for line in lines if line.startswith(name))
 
 
-def seed_of(process):
-    """The seed in the arguments of a process, if it is there."""
-    with open(f"/proc/{process}/cmdline") as arguments:
-        words = arguments.read().split("\0")
-    return words[words.index("--seed") + 1] if "--seed" in words else None
-
-
 def main():
     require(systemctl("start", "pgpeer") == 0, "systemctl start pgpeer")
     require(wait_until(answers, 20) is not None, "it answers a query")
@@ -109,11 +102,11 @@ def main():
         anew = wait_until(lambda: is_anew(shell), 20) is not None
         require(anew, f"{who} killed, it is started again")
         require(wait_until(answers, 20) is not None, "it answers a query")
-    seeds = [seed_of(pooler())]
     require(systemctl("restart", "pgpeer") == 0, "systemctl restart pgpeer")
     require(wait_until(answers, 20) is not None, "it answers a query")
-    seeds.append(seed_of(pooler()))
-    require(seeds[0] is None or seeds[0] != seeds[1], "its seed is another one")
+    with open(f"/proc/{pooler()}/cmdline") as arguments:
+        words = arguments.read().split("\0")
+    require("/dev/urandom" in words and "--seed" not in words, "its seed isn't in its arguments")
 
     drains()
 
