@@ -224,7 +224,7 @@ CLEAN, MARKED, RESET, OPEN = "clean end", "byte 45", "reset", "no end"
 
 
 def read_end(stream, timeout):
-    """How a cancel's connection ends: cleanly, with the byte 45, by a reset, or not in this time."""
+    """How a cancel's connection ends: cleanly, after the byte 45 or an error, by a reset, or not in this time."""
     deadline, came = time.monotonic() + timeout, b""
     while True:
         left = deadline - time.monotonic()
@@ -238,7 +238,7 @@ def read_end(stream, timeout):
         except OSError:
             return RESET
         if not more:
-            return {b"": CLEAN, b"E": MARKED}.get(came, f"bytes {came.hex()}")
+            return CLEAN if not came else MARKED if came[:1] == b"E" else f"bytes {came.hex()}"
         came += more
 
 
