@@ -9,7 +9,7 @@ const MIN_WAITING: u64 = 2;
 
 // How many threads may wait for a connection: one that has served a connection and finds as many
 // ends.
-const MAX_WAITING: u64 = 8;
+pub const MAX_WAITING: u64 = 8;
 
 // How often a thread that accepted a connection checks whether another one waits, and how many
 // milliseconds it waits each time.

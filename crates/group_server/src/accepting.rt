@@ -4,12 +4,14 @@ use crate::client_stream::{ClientStream, ConnectionContext, Serves};
 use crate::connection_limit::ConnectionLimit;
 use crate::connections::PendingId;
 use crate::ending::end;
+use crate::final_error::{fatal_error, write_refusal};
 use crate::keepalive::keep_alive;
 use crate::limits::{ALONE_MILLIS, EVICTION_AGE_MILLIS, FIRST_PACKETS_MILLIS};
 use crate::log::{Event, Value};
 use crate::{Connection, Deadline, Host, Log, Machine, Serving};
 use libc::net as c;
 use node_threads::Front;
+use startup::ErrorCode;
 use std::alloc::{AllocError, Global};
 use std::io::ErrorKind;
 use std::net::{TcpListener, TcpStream};
@@ -90,10 +92,14 @@ impl<M: Machine> Acceptor<M> {
             return Ok(());
         };
         let Some(pending) = self.limit.admit(host, socket.as_raw_fd()) else {
+            refuse(alloc, &socket);
             return Err(io::Error::new(ErrorKind::QuotaExceeded, "too many connections"));
         };
         let connection = Connection::metered(socket, node.meter());
         let served = self.serve_admitted(host, alloc, node, &connection, pending, serves);
+        if served.is_err() {
+            refuse(alloc, connection.socket());
+        }
         self.limit.closing(host, pending);
         drop(connection);
         self.limit.closed(host);
@@ -101,7 +107,7 @@ impl<M: Machine> Acceptor<M> {
     }
 
     // Serves an admitted connection. If no caller of the node can be made, only a cancel request is
-    // served.
+    // served. On an error nothing was read or written.
     fn serve_admitted(
         &self,
         host: &M,
@@ -149,6 +155,11 @@ impl<M: Machine> Acceptor<M> {
         self.log
             .write(host, None, event, &[("error", Value::Error(error))]);
     }
+}
+
+// Tells a client that its connection isn't served.
+fn refuse(alloc: Global, socket: &TcpStream) {
+    write_refusal(socket, fatal_error(alloc, ErrorCode::TooManyConnections));
 }
 
 // Returns the time limit for the first packets of a connection.

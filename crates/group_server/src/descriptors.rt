@@ -1,6 +1,7 @@
 //! The number of connections that the process's descriptors allow.
 ghost use Rattle.std.specs.Prelude.{◌≡◌, ◌+◌, ◌-◌, ◌*◌, ◌/◌, ◌≤◌, min};
 
+use crate::accept_threads::MAX_WAITING;
 use crate::connections::Capacity;
 use crate::limits::{CANCELS_PER_NODE, PENDING_PER_NODE, SPARE_CONNECTIONS};
 use ini_config::Group;
@@ -10,9 +11,13 @@ use pg_ids::DatabaseNo;
 // The resource number of the limit of open descriptors.
 const RLIMIT_NOFILE: i32 = 7;
 
-// Descriptors of the process itself: the standard streams, the group's listener, those of name
-// look-ups, and some to spare.
-const OWN: usize = 16;
+// Descriptors of a listener: its own, and one for each thread that waits for a connection, which
+// Linux reserves before there is one.
+const LISTENER: usize = 1 + MAX_WAITING as usize;
+
+// Descriptors of the process itself: those of the group's listener, the standard streams, those of
+// name look-ups, and some to spare.
+const OWN: usize = 15 + LISTENER;
 
 /// What a group needs descriptors for beside connections.
 #[derive(Clone, Copy, Debug, PartialEq, Eq)]
@@ -44,12 +49,14 @@ impl Needs {
     /// as the pools may have, but at most half of them, and cancel requests at most an eighth.
     pub fn capacity(self, descriptors: usize) -> Capacity
         // The process, the links and the cancel requests keep theirs.
-        ensures kept { result.connections + min self.links ((descriptors - (24 + self.nodes)) / 2)
-            + min (256 * self.nodes) ((descriptors - (24 + self.nodes)) / 8)
-            ≡ descriptors - (24 + self.nodes) }
+        ensures kept { result.connections + min self.links ((descriptors - (32 + 9 * self.nodes)) / 2)
+            + min (256 * self.nodes) ((descriptors - (32 + 9 * self.nodes)) / 8)
+            ≡ descriptors - (32 + 9 * self.nodes) }
     {
-        let own = OWN
-            .saturating_add(self.nodes)
+        let own = self
+            .nodes
+            .saturating_mul(LISTENER)
+            .saturating_add(OWN)
             .saturating_add(SPARE_CONNECTIONS);
         let left = descriptors.saturating_sub(own);
         let links = self.links.min(left / 2);

@@ -21,6 +21,7 @@ pub fn end<M: Machine>(machine: &M, connection: &Connection, client: &mut Client
         // sender couldn't be written: so the connection is reset.
         LastCall::Failed => {}
         LastCall::Read if connection.is_given_up() => {}
+        LastCall::Read if client.is_pending() => client.refuse(),
         LastCall::Read => settle(connection, client),
         LastCall::Wrote => {
             settle(connection, client);

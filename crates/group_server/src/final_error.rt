@@ -1,6 +1,8 @@
-//! The final error of a session that a server or the group ends.
+//! The final error of a session that a server or the group ends, and of a connection that isn't served.
 use startup::{ErrorCode, Severity, write_error};
 use std::alloc::{AllocError, Global};
+use std::io::Write;
+use std::net::TcpStream;
 use std::os::fd::RawFd;
 
 // PostgreSQL's message at a shutdown.
@@ -17,17 +19,32 @@ const HEAD: usize = 5;
 pub fn final_error(alloc: Global, link: RawFd) -> Result<Vec<u8>, AllocError> {
     let mut buffer = [0; MAX_BYTES];
     let count = read_rest(link, &mut buffer);
+    let Some(error) = find_error(buffer.get(..count).unwrap_or(&[])) else {
+        return fatal_error(alloc, ErrorCode::ConnectionFailure);
+    };
     let mut message = Vec::new(alloc);
-    match find_error(buffer.get(..count).unwrap_or(&[])) {
-        Some(error) => message.extend_from_slice(error)?,
-        None => {
-            let lost = ErrorCode::ConnectionFailure;
-            if write_error(Severity::Fatal, lost.code(), lost.message(), &mut message).is_err() {
-                return Err(AllocError);
-            }
-        }
-    }
+    message.extend_from_slice(error)?;
     Ok(message)
+}
+
+/// Returns this error, after which a connection is closed.
+pub fn fatal_error(alloc: Global, error: ErrorCode) -> Result<Vec<u8>, AllocError> {
+    let mut message = Vec::new(alloc);
+    match write_error(Severity::Fatal, error.code(), error.message(), &mut message) {
+        Ok(()) => Ok(message),
+        Err(_) => Err(AllocError),
+    }
+}
+
+/// Writes an error to a client whose connection isn't served, or only its first byte if there is no
+/// memory for it. The sender of a cancel request, which may not have arrived yet, so gets a byte
+/// before the end, and doesn't take the request for one that was served.
+pub fn write_refusal(socket: &TcpStream, error: Result<Vec<u8>, AllocError>) {
+    let mut socket = socket;
+    let _ = match &error {
+        Ok(error) => socket.write_all(error.as_slice()),
+        Err(_) => socket.write_all(b"E"),
+    };
 }
 
 /// Returns the error of a session that ends because the group drains.

@@ -16,10 +16,11 @@ fn links_and_cancels_keep_theirs(rt: HostRuntime) {
         nodes: 3,
         links: 60,
     };
-    // 16 of the process, 3 listeners and 8 to spare leave 997: 60 for links, 124 for cancels.
-    assert_eq!(&rt; shares(needs, 1_024), (813, 211));
+    // 15 of the process, 8 to spare, and 9 for each of 4 listeners leave 965: 60 for links, 120 for
+    // cancels.
+    assert_eq!(&rt; shares(needs, 1_024), (785, 239));
     // 768 for cancels is all that three nodes carry at a time.
-    assert_eq!(&rt; shares(needs, 65_536), (64_681, 855));
+    assert_eq!(&rt; shares(needs, 65_536), (64_649, 887));
     assert_eq!(&rt; needs.capacity(1_024).pending, 960);
 }
 
@@ -29,7 +30,7 @@ fn few_descriptors_are_shared(rt: HostRuntime) {
         nodes: 1,
         links: 1_000,
     };
-    // 25 leave 75: 37 for links, 9 for cancels.
-    assert_eq!(&rt; shares(needs, 100), (29, 71));
+    // 41 leave 59: 29 for links, 7 for cancels.
+    assert_eq!(&rt; shares(needs, 100), (23, 77));
     assert_eq!(&rt; shares(needs, 10), (0, 10));
 }

@@ -159,14 +159,14 @@ fn who_waits_is_served(rt: HostRuntime) -> Result<(), Fail> {
     expect_waiting(&rt, group)
 }
 
-// A connection in its first packets is closed without a word.
+// A connection in its first packets gets the same error.
 fn expect_unserved<R: TestHost>(rt: &R, group: Draining) -> Result<(), Fail> {
     let mut stranger = Client::connect(rt, group.port)?;
     stranger.send(b"\0\0\0")?;
     let (mut idle, _) = Client::log_in(rt, group.port)?;
     drop(group.input);
     expect_shutdown(rt, &mut idle, &[])?;
-    stranger.expect_end(rt, b"")
+    expect_shutdown(rt, &mut stranger, &[])
 }
 
 #[test]

@@ -2,10 +2,12 @@
 ghost use Rattle.std.specs.Io.{ReadsAtMost};
 
 use super::{ClientStream, Serves, Stage};
+use crate::final_error::{fatal_error, shutdown_error, write_refusal};
 use crate::first_packet::{Asks, FirstPacket, Next};
 use crate::log::Event;
 use crate::poll::wait_readable;
 use crate::{Connection, Deadline, Machine};
+use startup::ErrorCode;
 use std::io;
 use std::io::{ErrorKind, Read};
 
@@ -70,6 +72,18 @@ impl<'a, M: Machine> ClientStream<'a, M> {
         } else {
             Err(io::Error::from(ErrorKind::ConnectionAborted))
         }
+    }
+
+    /// Tells the client that its connection is closed before its first packets were complete.
+    pub fn refuse(&self) {
+        let error = if self.context.limit.is_draining() {
+            shutdown_error(self.alloc)
+        } else if self.activate().is_err() {
+            fatal_error(self.alloc, ErrorCode::TooManyConnections)
+        } else {
+            fatal_error(self.alloc, ErrorCode::ProtocolViolation)
+        };
+        write_refusal(self.connection.socket(), error);
     }
 
     // Returns the last byte of a cancel request, and leaves it unread in the socket: if this process

@@ -129,6 +129,11 @@ impl<'a, M: Machine> ClientStream<'a, M> {
         }
     }
 
+    /// Returns whether its first packets aren't complete.
+    pub fn is_pending(&self) -> bool {
+        matches!(self.stage, Stage::First(..))
+    }
+
     /// Returns whether the last byte of a cancel request is unread.
     pub fn holds_cancel(&self) -> bool {
         matches!(self.stage, Stage::Cancel)

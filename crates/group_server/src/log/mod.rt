@@ -44,6 +44,8 @@ struct Counts {
     began: Option<Duration>,
     given: u32,
     left_out: u64,
+    // When the first of those left out was.
+    left_since: Duration,
     total: u64,
 }
 
@@ -54,6 +56,7 @@ impl Log {
             began: None,
             given: 0,
             left_out: 0,
+            left_since: Duration::ZERO,
             total: 0,
         };
         Log {
@@ -105,7 +108,7 @@ impl Log {
         match verdict {
             Verdict::Write => {
                 let line = line_of(rt, self.alloc, node, event, names, fields);
-                self.queue.lock(rt).push(event, line.ok());
+                self.queue.lock(rt).push(event, line.ok(), now);
             }
             Verdict::LeaveOutFirst => {}
             Verdict::LeaveOut => return,
@@ -140,7 +143,7 @@ impl Log {
     }
 
     /// Takes the next line, if there is one: from the queue, or one that says how many of a kind were
-    /// left out in a second that is over.
+    /// left out since a second ago or longer.
     pub fn next<R: Wait + Clock>(&self, rt: &R) -> Option<String> {
         let Ok(now) = rt.monotonic() else {
             return None;
@@ -150,7 +153,7 @@ impl Log {
             queue.is_writing = true;
             return Some(line);
         }
-        let (event, count) = queue.take_left_out(now)?;
+        let (event, count) = queue.take_left_out(Some(now))?;
         left_out_line(rt, self.alloc, event, count).ok()
     }
 
@@ -166,9 +169,16 @@ impl Log {
         }
     }
 
-    /// Waits until the queued lines are written, at most for `LAST_LINES_MILLIS`.
+    /// Queues how many lines of each kind were left out, and waits until the queued lines are written,
+    /// at most for `LAST_LINES_MILLIS`.
     pub fn finish<R: Wait + Clock>(&self, rt: &R) {
-        let queue = self.queue.lock(rt);
+        let mut queue = self.queue.lock(rt);
+        for _ in KINDS {
+            if let Some((event, count)) = queue.take_left_out(None) {
+                queue.keep(left_out_line(rt, self.alloc, event, count).ok());
+            }
+        }
+        self.filled.notify_one();
         let limit = Duration::from_millis(LAST_LINES_MILLIS);
         let _ = self
             .emptied
@@ -201,7 +211,7 @@ impl Queue {
             counts.given += 1;
             return Verdict::Write;
         }
-        counts.left_out = counts.left_out.saturating_add(1);
+        counts.leave_out(now);
         if counts.left_out == 1 {
             Verdict::LeaveOutFirst
         } else {
@@ -210,10 +220,9 @@ impl Queue {
     }
 
     // Queues a line. Counts it as left out if there is no memory for it or the queue is full.
-    fn push(&mut self, event: Event, line: Option<String>) {
+    fn push(&mut self, event: Event, line: Option<String>, now: Duration) {
         if !self.keep(line) {
-            let counts = &mut self.counts[event.place()];
-            counts.left_out = counts.left_out.saturating_add(1);
+            self.counts[event.place()].leave_out(now);
         }
     }
 
@@ -235,11 +244,12 @@ impl Queue {
         self.counts.iter().any(|counts| counts.left_out > 0)
     }
 
-    // Takes a kind of which lines were left out in a second that is over, and their number.
-    fn take_left_out(&mut self, now: Duration) -> Option<(Event, u64)> {
+    // Takes a kind of which lines were left out since a second before `now` or longer, if that is
+    // given, and their number.
+    fn take_left_out(&mut self, now: Option<Duration>) -> Option<(Event, u64)> {
         for event in KINDS {
             let counts = &mut self.counts[event.place()];
-            if counts.left_out > 0 && counts.is_over(now) {
+            if counts.left_out > 0 && counts.is_due(now) {
                 let count = counts.left_out;
                 counts.left_out = 0;
                 return Some((event, count));
@@ -250,6 +260,23 @@ impl Queue {
 }
 
 impl Counts {
+    // Counts a line that is left out.
+    fn leave_out(&mut self, now: Duration) {
+        if self.left_out == 0 {
+            self.left_since = now;
+        }
+        self.left_out = self.left_out.saturating_add(1);
+    }
+
+    // Returns whether the first line of those left out was a second before `now` or earlier, if that
+    // is given.
+    fn is_due(&self, now: Option<Duration>) -> bool {
+        match now {
+            Some(now) => now.saturating_sub(self.left_since) >= second(),
+            None => true,
+        }
+    }
+
     // Returns whether the current second is over.
     fn is_over(&self, now: Duration) -> bool {
         match self.began {
