@@ -14,6 +14,8 @@ use std::time::Duration;
 #[inline(never)]
 pub fn end<M: Machine>(machine: &M, connection: &Connection, client: &mut ClientStream<'_, M>) {
     if let Some(error) = client.take_final_error() {
+        let limit = Duration::from_millis(ENDING_MILLIS);
+        let _ = connection.socket().set_write_timeout(Some(limit));
         let _ = client.write_all(error.as_slice());
     }
     match client.last_call() {

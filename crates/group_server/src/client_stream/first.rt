@@ -78,7 +78,7 @@ impl<'a, M: Machine> ClientStream<'a, M> {
     pub fn refuse(&self) {
         let error = if self.context.limit.is_draining() {
             shutdown_error(self.alloc)
-        } else if self.activate().is_err() {
+        } else if self.context.serves == Serves::Cancels || self.activate().is_err() {
             fatal_error(self.alloc, ErrorCode::TooManyConnections)
         } else {
             fatal_error(self.alloc, ErrorCode::ProtocolViolation)
