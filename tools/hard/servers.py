@@ -66,27 +66,6 @@ def slow_login(t):
     t.check(came == "ok:waited", "the client itself", came, "ok:waited")
 
 
-@scenario("impatient-clients", limit=40)
-def impatient_clients(t):
-    """a server takes a second for a login, and clients leave before: a later one finds the connection"""
-
-    def log_in(backend):
-        time.sleep(1.0)
-        backend.send(backend.greeting())
-
-    server = FakeServer(t.port(), on_login=log_in)
-    pooler = Pooler(t, {"shop": server.port}, pool=2)
-    came = []
-    for number in range(6):
-        client = pooler.client()
-        client.start(f"select 'own {number}'")
-        came.append(outcome(lambda client=client: client.read_reply(0.6)[0][0]))
-        client.vanish()
-    count = sum(text.startswith("ok:own") for text in came)
-    t.check(count >= 3, "clients that waited for 0.6 s", f"{count} of 6 served, {len(server.backends)} logins",
-            "most of them, from the third on")
-
-
 @scenario("restart-idle", limit=40)
 def restart_idle(t):
     """the server is restarted while the server connections are idle: no session ends"""

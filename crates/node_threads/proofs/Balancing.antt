@@ -416,14 +416,6 @@ release_shifts lease (release.Closed stream) = refl
 release_shifts lease (release.Stale stream) = refl
 release_shifts lease (release.Exhausted stream) = refl
 
-pub release_moves : {R : Type 0} (lease : LinkRecord) (said : ReleaseReply (Unit {0}))
-    (reply at_end : R)
-    (old new : CallerView) → Counted (step.Release lease said) reply at_end old new
-    → Moves a_lease old nothing new
-release_moves lease said reply at_end old new =
-    step_moves (step.Release lease said) reply at_end old new a_lease nothing
-    (release_shifts lease said)
-
 close_shifts : (lease : LinkRecord) (reply : CloseReply (Unit {0}))
     → Shifts a_lease (step.Close lease reply) nothing
 close_shifts lease (close.Closed stream) = refl
@@ -442,7 +434,8 @@ close_moves lease said reply at_end old new =
 pub handed_in_moves : (end : Stayed) (lease : LinkRecord) (old new : CallerView)
     → Tells (handed_in end lease) old new → Moves a_lease old nothing new
 handed_in_moves stayed.Release lease old new told =
-    release_moves lease told.0 told.0 (release.Exhausted tt) old new told.1
+    step_moves (step.Release lease told.0) told.0 (release.Exhausted tt) old new a_lease nothing
+    (release_shifts lease told.0) told.1
 handed_in_moves stayed.Close lease old new told =
     close_moves lease told.0 told.0 (close.Exhausted tt) old new told.1
 handed_in_moves (stayed.End reply) lease old new told =

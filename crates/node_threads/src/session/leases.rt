@@ -177,8 +177,8 @@ fn open<R: Wait, O: Opener, G: Gate>(
     }
 }
 
-// The link of a client that left while it was opened is released unused: its request isn't to run.
-// One of another database is closed.
+// The link of a client that left while it was opened is closed: its request isn't to run. So is one
+// of another database.
 fn unless_gone<R: Wait, O: Opener, G: Gate>(
     service: Service<'_, R, Link<O::Stream>, O, G>,
     caller: &mut Caller<Link<O::Stream>>,
@@ -192,13 +192,8 @@ fn unless_gone<R: Wait, O: Opener, G: Gate>(
 {
     match opened {
         Acquired::Lease(lease) => {
-            if is_of(&lease, database) {
-                if !service.opener.is_gone() {
-                    return Acquired::Lease(lease);
-                }
-                service.gate.pass(service.rt, Point::Ready);
-                let _released = service.shared.release(service.rt, caller, lease);
-                return Acquired::Ended;
+            if is_of(&lease, database) && !service.opener.is_gone() {
+                return Acquired::Lease(lease);
             }
             service.gate.pass(service.rt, Point::Ready);
             let _closed = service.shared.close(service.rt, caller, lease);

@@ -1,14 +1,8 @@
 use Rattle.std.proofs.Common.{ap, subst, sym}
 use Rattle.node_threads.specs.Balance.{Hand, Moves, nothing}
 use Rattle.node_threads.specs.Leasing.{hand_of}
-use Rattle.node_threads.proofs.Balancing.{close_moves, release_moves}
+use Rattle.node_threads.proofs.Balancing.{close_moves}
 use Rattle.node_threads.proofs.session.leases.unless_gone.Goals as goal
-
-pub returns-then-is_of-clause-moves : goal.returns-then-is_of-clause-moves
-returns-then-is_of-clause-moves g c =
-    subst (λ (h : Hand). Moves h c.args.caller.now nothing c.release-released.new.caller)
-    (sym (ap hand_of c.in-Lease.is))
-    (release_moves c.in-Lease.lease.details _ _ _ _ _ c.release-released.ensures.counted)
 
 pub returns-else-is_of-clause-moves : goal.returns-else-is_of-clause-moves
 returns-else-is_of-clause-moves g c =
