@@ -1,16 +1,12 @@
 //! Accepts the connections of a listener and serves them.
-use crate::accept_threads::AcceptThreads;
-use crate::client_stream::{ClientStream, ConnectionContext, Serves};
-use crate::connection_limit::ConnectionLimit;
-use crate::connections::PendingId;
-use crate::ending::end;
-use crate::final_error::{fatal_error, write_refusal};
-use crate::keepalive::keep_alive;
+use crate::Serving;
 use crate::limits::{ALONE_MILLIS, EVICTION_AGE_MILLIS, FIRST_PACKETS_MILLIS};
-use crate::log::{Event, Value};
-use crate::{Connection, Deadline, Host, Log, Machine, Serving};
 use libc::net as c;
 use node_threads::Front;
+use sockets::{
+    AcceptThreads, ClientStream, Connection, ConnectionContext, ConnectionLimit, Deadline, Host,
+    Machine, PendingId, Serves, end, fatal_error, keep_alive, write_refusal,
+};
 use startup::ErrorCode;
 use std::alloc::{AllocError, Global};
 use std::io::ErrorKind;
@@ -19,6 +15,7 @@ use std::os::fd::AsRawFd;
 use std::sync::{Arc, Mutex};
 use std::time::Duration;
 use std::{io, thread};
+use telemetry::{Event, Log, Value};
 
 // How many milliseconds pass after an error until accepting a connection or starting a thread is
 // tried again. Without a pause it would fail again at once if no descriptor or thread is left.

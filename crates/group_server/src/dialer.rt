@@ -1,19 +1,17 @@
 //! Connections to a node's servers and peers.
-use crate::connecting::connect;
-use crate::inspector::Inspector;
 use crate::limits::{CANCEL_CONNECT_MILLIS, CANCEL_END_MILLIS, LOGIN_MILLIS};
-use crate::log::{Event, Field, Value, put_fields};
-use crate::metrics::{Meter, NodeCounters};
-use crate::origin::Origin;
-use crate::{CancelEnd, Connection, Deadline, LinkStream, Log, Machine, Target};
 use ini_config::{Database, Group, Peer, Settings};
 use node_threads::{Opener, Sender};
 use pg_ids::{DatabaseNo, PeerNo};
+use sockets::{
+    CancelEnd, Connection, Deadline, Inspector, LinkStream, Machine, Origin, Target, connect,
+};
 use startup::Reports;
 use std::alloc::{AllocError, Global};
 use std::io;
 use std::io::ErrorKind;
 use std::sync::{Arc, Wait};
+use telemetry::{Event, Field, Log, Meter, NodeCounters, Value, put_fields};
 
 /// Connects a node to its servers and peers over TCP.
 #[derive(Drop)]

@@ -1,14 +1,14 @@
 //! Draining: the group stops accepting connections, and its sessions end between transactions.
+use crate::ServeError;
 use crate::accepting::Acceptor;
-use crate::connection_limit::ConnectionLimit;
 use crate::limits::{DRAIN_MILLIS, DRAIN_PACKETS_MILLIS, DRAIN_PAUSE_MILLIS};
-use crate::log::{Event, Value};
-use crate::{Deadline, Host, Log, ServeError};
+use sockets::{ConnectionLimit, Deadline, Host};
 use std::alloc::Global;
 use std::io::{ErrorKind, Read};
 use std::sync::Arc;
 use std::thread;
 use std::time::Duration;
+use telemetry::{Event, Log, Value};
 
 /// Waits until this input ends or can't be read.
 pub fn wait_for_end<H: Host, I: Read>(host: &H, input: &mut I) {

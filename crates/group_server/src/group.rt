@@ -6,22 +6,21 @@ ghost use Rattle.node_core.specs.View.{IsFresh};
 ghost use Rattle.node_threads.specs.Secrets.{drawing_of};
 
 use crate::accepting::{Acceptor, keep_accepting};
-use crate::connection_limit::ConnectionLimit;
-use crate::connections::Capacity;
-use crate::descriptors::{Needs, descriptor_limit};
 use crate::draining::{drain, wait_for_end, write_end};
 use crate::limits::METRICS_READERS;
-use crate::metrics::{Counters, Exporter, Sources, keep_exporting};
+use crate::metrics::{Exporter, Sources, keep_exporting};
 use crate::options::{ServeOptions, copy_of, write_start};
-use crate::{Dialer, DrainSignal, Host, Log, ServeError, Serving, Unbound};
+use crate::{Dialer, ServeError, Serving, Unbound};
 use ini_config::Group;
 use node_threads::Calling;
 use pg_ids::Boot;
+use sockets::{Capacity, ConnectionLimit, DrainSignal, Host, Needs, descriptor_limit};
 use std::alloc::{AllocError, Global};
 use std::io::{Read, Write};
 use std::net::TcpListener;
 use std::sync::Arc;
 use std::thread;
+use telemetry::{Counters, Log};
 
 /// A group whose addresses are bound: one for the group, and one of each node.
 #[derive(Drop)]

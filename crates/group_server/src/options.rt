@@ -1,11 +1,11 @@
 //! What a group is served with.
-use crate::log::{Event, Level, Log, Value, put_fields};
 use ini_config::{Group, Settings};
 use pg_frames::MessageLimit;
 use startup::Reports;
 use std::alloc::{AllocError, Global};
 use std::sync::Wait;
 use std::time::Clock;
+use telemetry::{Event, Level, Log, Value, put_fields};
 
 // The parameter without which some drivers quote values wrongly.
 const STRINGS: &str = "standard_conforming_strings";

@@ -1,10 +1,12 @@
 //! A node that serves connections.
-use crate::metrics::{Census, Meter};
-use crate::{ClientStream, Connection, Dialer, LinkStream, Machine};
+use crate::Dialer;
+use crate::metrics::Census;
 use node_threads::{Calling, Context, Open, serve_connection};
 use pg_frames::MessageLimit;
+use sockets::{ClientStream, Connection, LinkStream, Machine};
 use std::alloc::{AllocError, Global};
 use std::sync::{Mutex, Wait};
+use telemetry::Meter;
 
 /// A node that serves connections, with its free callers. A caller's totals are large, so callers
 /// are boxed.

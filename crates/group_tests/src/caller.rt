@@ -4,14 +4,16 @@ use crate::host::TestHost;
 use crate::log_lines::{expect_line, expect_no_line};
 use crate::reported::reports_of;
 use crate::settings::group;
-use group_server::{CancelEnd, Connection, Dialer, Level, LinkStream, Log, Target};
+use group_server::Dialer;
 use node_threads::Opener;
 use pg_ids::DatabaseNo;
+use sockets::{CancelEnd, Connection, LinkStream, Target};
 use std::alloc::Global;
 use std::io::{Read, Write};
 use std::net::{TcpListener, TcpStream};
 use std::sync::Arc;
 use std::test::Fail;
+use telemetry::{Level, Log};
 
 // Node 1, for the client of one connection, with its log.
 #[derive(Drop)]

@@ -2,16 +2,18 @@
 use crate::group::ANY_PORT;
 use crate::host::TestHost;
 use crate::settings::group;
-use group_server::{Connection, Dialer, Level, LinkStream, Log, Machine, MessageLimit};
+use group_server::{Dialer, MessageLimit};
 use ini_config::Group;
 use node_threads::{Calling, Context, Gate, Point, serve_connection};
 use pg_ids::Boot;
+use sockets::{Connection, LinkStream, Machine};
 use startup::Reports;
 use std::alloc::{AllocError, Global};
 use std::net::{TcpListener, TcpStream};
 use std::sync::{Arc, Condvar, Mutex, Wait};
 use std::test::Fail;
 use std::thread;
+use telemetry::{Level, Log};
 
 // A gate that is closed before a link is given back, until it is opened for all.
 #[derive(Drop)]

@@ -3,7 +3,7 @@ use crate::client::TURNS;
 use crate::host::TestHost;
 use crate::reported::reports_of;
 use crate::settings::group_before;
-use group_server::{Level, Listening, MessageLimit, ServeOptions};
+use group_server::{Listening, MessageLimit, ServeOptions};
 use ini_config::Group;
 use startup::Reports;
 use std::alloc::{AllocError, Global};
@@ -14,6 +14,7 @@ use std::test::Fail;
 use std::thread;
 use std::time::Duration;
 use stub_server::{Mode, Server, serve};
+use telemetry::Level;
 
 // An address at which any free port is bound.
 pub(crate) const ANY_PORT: &str = "127.0.0.1:0";

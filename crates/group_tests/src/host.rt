@@ -1,5 +1,5 @@
 //! The capabilities that tests need.
-use group_server::Host;
+use sockets::Host;
 use std::process::Abort;
 
 // What a test of a group needs.

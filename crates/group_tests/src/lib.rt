@@ -1,10 +1,11 @@
 //! Tests of whole groups over TCP on this machine: nodes, a stand-in server, clients and cancel
-//! requests, each connection in its own thread. And of what a group decides about a connection,
-//! without sockets.
+//! requests, each connection in its own thread.
 #![tactic(auto)]
 
 #[cfg(test)]
 mod caller;
+#[cfg(test)]
+mod cancel_lines;
 #[cfg(test)]
 mod cancels;
 #[cfg(test)]
@@ -12,31 +13,17 @@ mod circle;
 #[cfg(test)]
 mod client;
 #[cfg(test)]
-mod client_lines;
-#[cfg(test)]
 mod commands;
 #[cfg(test)]
 mod condemned;
-#[cfg(test)]
-mod connections;
 #[cfg(test)]
 mod console_client;
 #[cfg(test)]
 mod databases;
 #[cfg(test)]
-mod descriptors;
-#[cfg(test)]
 mod drains;
 #[cfg(test)]
-mod dropped;
-#[cfg(test)]
-mod ends;
-#[cfg(test)]
 mod files;
-#[cfg(test)]
-mod final_error;
-#[cfg(test)]
-mod first_packets;
 #[cfg(test)]
 mod front;
 #[cfg(test)]
@@ -46,13 +33,9 @@ mod group;
 #[cfg(test)]
 mod host;
 #[cfg(test)]
-mod levels;
-#[cfg(test)]
 mod link_lines;
 #[cfg(test)]
 mod log_lines;
-#[cfg(test)]
-mod login_answers;
 #[cfg(test)]
 mod long_keys;
 #[cfg(test)]

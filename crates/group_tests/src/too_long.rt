@@ -7,11 +7,12 @@ use crate::log_lines::{expect_line, expect_no_line};
 use crate::messages::{joined, put_message};
 use crate::reported::{LOGIN, LOST};
 use crate::scripted::{Script, start};
-use group_server::{Log, MessageLimit};
+use group_server::MessageLimit;
 use std::alloc::{AllocError, Global};
 use std::net::TcpListener;
 use std::sync::Arc;
 use std::test::Fail;
+use telemetry::Log;
 
 // A server whose answer begins with a row whose length field is 8,193.
 const ROW: &[Script] = &[Script {

@@ -3,10 +3,12 @@ ghost use Rattle.std.specs.Prelude.{◌≡◌};
 
 use crate::standing_in::stand_in_for_servers;
 use command_line::{LogLevel, ServeRequest, version};
-use group_server::{Host, Level, MessageLimit, ServeError, ServeOptions, serve_group};
+use group_server::{MessageLimit, ServeError, ServeOptions, serve_group};
 use ini_config::Group;
+use sockets::Host;
 use std::alloc::Global;
 use std::io::{Read, Write};
+use telemetry::Level;
 
 /// Serves the nodes of a group, with stand-in servers if the request asks for them, and with secrets
 /// from this seed. Returns on an error, or when the group has drained.

@@ -1,8 +1,9 @@
 //! Stand-in servers: `stub` runs one, and `serve --stand-in` those that its settings name.
 use command_line::{StubMode, StubRequest};
-use group_server::{Host, ServeError, listen, say_listening};
+use group_server::{ServeError, listen, say_listening};
 use ini_config::Group;
 use pg_ids::DatabaseNo;
+use sockets::Host;
 use std::alloc::{AllocError, Global};
 use std::io::Write;
 use std::net::TcpListener;

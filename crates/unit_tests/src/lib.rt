@@ -1,4 +1,4 @@
-//! Tests of the lower crates by public calls alone, a module for each crate. They have a crate of
+//! Tests of the lower crates by public calls alone. They have a crate of
 //! their own, since a crate with tests is proved twice: without them and with them.
 #![tactic(auto)]
 
@@ -7,7 +7,21 @@ mod boards;
 #[cfg(test)]
 mod checks;
 #[cfg(test)]
+mod client_lines;
+#[cfg(test)]
 mod clients;
+#[cfg(test)]
+mod connections;
+#[cfg(test)]
+mod descriptors;
+#[cfg(test)]
+mod dropped;
+#[cfg(test)]
+mod ends;
+#[cfg(test)]
+mod final_error;
+#[cfg(test)]
+mod first_packets;
 #[cfg(test)]
 mod forwards;
 #[cfg(test)]
@@ -15,11 +29,19 @@ mod frames;
 #[cfg(test)]
 mod holds;
 #[cfg(test)]
+mod host;
+#[cfg(test)]
 mod key_slots;
 #[cfg(test)]
 mod keys;
 #[cfg(test)]
+mod levels;
+#[cfg(test)]
 mod links;
+#[cfg(test)]
+mod log_lines;
+#[cfg(test)]
+mod login_answers;
 #[cfg(test)]
 mod logins;
 #[cfg(test)]

@@ -1,9 +1,10 @@
 //! The metrics of a group, in Prometheus' text format.
-use crate::log::{EVENTS, KINDS};
 use crate::metrics::state::{NodeState, PoolState};
-use crate::metrics::text::{Kind, labels_with, put_head, put_line, put_sample};
-use crate::metrics::waits::{BOUNDS_MICROS, WaitCounts};
 use std::alloc::{AllocError, Global};
+use telemetry::{
+    BOUNDS_MICROS, EVENTS, KINDS, MetricKind, WaitCounts, labels_with, put_head, put_line,
+    put_sample,
+};
 
 /// Returns the metrics of a group's nodes, and the number of the log's events, which are in the order
 /// of their kinds.
@@ -68,10 +69,10 @@ impl NodeMetric {
         }
     }
 
-    fn kind(self) -> Kind {
+    fn kind(self) -> MetricKind {
         match self {
-            NodeMetric::MostClients => Kind::Gauge,
-            _ => Kind::Counter,
+            NodeMetric::MostClients => MetricKind::Gauge,
+            _ => MetricKind::Counter,
         }
     }
 
@@ -128,10 +129,10 @@ impl PoolMetric {
         }
     }
 
-    fn kind(self) -> Kind {
+    fn kind(self) -> MetricKind {
         match self {
-            PoolMetric::MostLinks | PoolMetric::Condemned => Kind::Gauge,
-            _ => Kind::Counter,
+            PoolMetric::MostLinks | PoolMetric::Condemned => MetricKind::Gauge,
+            _ => MetricKind::Counter,
         }
     }
 
@@ -180,7 +181,12 @@ impl Page {
     // Appends the metric that has the program's version.
     fn put_build(&mut self, version: &str) -> Result<(), AllocError> {
         let name = "pgpeer_build_info";
-        put_head(&mut self.text, name, Kind::Gauge, "The program that runs.")?;
+        put_head(
+            &mut self.text,
+            name,
+            MetricKind::Gauge,
+            "The program that runs.",
+        )?;
         let labels = labels_with(self.alloc, &[], "version", version)?;
         self.put(name, &labels, 1)
     }
@@ -216,7 +222,7 @@ impl Page {
     fn put_refusals(&mut self, nodes: &[NodeState]) -> Result<(), AllocError> {
         let name = "pgpeer_cancels_refused_total";
         let help = "Cancel requests that were refused, by reason.";
-        put_head(&mut self.text, name, Kind::Counter, help)?;
+        put_head(&mut self.text, name, MetricKind::Counter, help)?;
         for node in nodes {
             for (reason, count) in REFUSALS.iter().zip(&node.cancels) {
                 self.put_with(name, &node.labels, "reason", reason, *count)?;
@@ -239,7 +245,7 @@ impl Page {
     // Appends the number of clients by state.
     fn put_clients(&mut self, nodes: &[NodeState]) -> Result<(), AllocError> {
         let help = "Clients that are logged in, by state.";
-        put_head(&mut self.text, CLIENTS, Kind::Gauge, help)?;
+        put_head(&mut self.text, CLIENTS, MetricKind::Gauge, help)?;
         for node in nodes {
             for pool in &node.pools {
                 let counts = clients_in(pool);
@@ -252,7 +258,7 @@ impl Page {
     // Appends the number of links by place.
     fn put_links(&mut self, nodes: &[NodeState]) -> Result<(), AllocError> {
         let help = "Server connections, by place.";
-        put_head(&mut self.text, LINKS, Kind::Gauge, help)?;
+        put_head(&mut self.text, LINKS, MetricKind::Gauge, help)?;
         for node in nodes {
             for pool in &node.pools {
                 let counts = links_at(pool);
@@ -280,7 +286,7 @@ impl Page {
     // Appends how long clients waited.
     fn put_all_waits(&mut self, nodes: &[NodeState]) -> Result<(), AllocError> {
         let help = "How long clients waited for a server connection, where none was free at once.";
-        put_head(&mut self.text, WAITS, Kind::Histogram, help)?;
+        put_head(&mut self.text, WAITS, MetricKind::Histogram, help)?;
         for node in nodes {
             self.put_waits(&node.labels, &node.strangers)?;
             for pool in &node.pools {
@@ -331,7 +337,7 @@ impl Page {
         put_head(
             &mut self.text,
             name,
-            Kind::Counter,
+            MetricKind::Counter,
             "Events of the log, by kind.",
         )?;
         for event in KINDS {

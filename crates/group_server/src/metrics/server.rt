@@ -1,13 +1,11 @@
 //! The metrics port, over HTTP. Few connections are served at a time, each for a short time, and the
 //! page is cached for a second: so slow or frequent readers don't slow down the group.
+use crate::Serving;
 use crate::limits::{METRICS_AGE_MILLIS, METRICS_MILLIS, METRICS_REQUEST_MILLIS};
-use crate::metrics::counters::Counters;
 use crate::metrics::page::page_of;
-use crate::metrics::request::{Answer, answer_to};
 use crate::metrics::state::NodeState;
-use crate::poll::wait_readable;
-use crate::{Deadline, Host, Log, Machine, Serving};
 use ini_config::Group;
+use sockets::{Deadline, Host, Machine, wait_readable};
 use std::alloc::{AllocError, Global};
 use std::io::{ErrorKind, Read, Write};
 use std::net::{Shutdown, TcpListener, TcpStream};
@@ -15,6 +13,7 @@ use std::os::fd::AsRawFd;
 use std::sync::{Arc, Mutex};
 use std::time::Duration;
 use std::{io, thread};
+use telemetry::{Answer, Counters, Log, answer_to};
 
 // How many milliseconds pass after an error until accepting is tried again.
 const RETRY_MILLIS: u64 = 10;

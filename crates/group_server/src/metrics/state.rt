@@ -1,11 +1,9 @@
 //! The state of a node at one moment, for its metrics.
-use crate::metrics::counters::{NodeCounters, Passed};
-use crate::metrics::text::labels_with;
-use crate::metrics::waits::WaitCounts;
 use ini_config::Settings;
 use node_threads::PoolCensus;
 use pg_ids::DatabaseNo;
 use std::alloc::{AllocError, Global};
+use telemetry::{NodeCounters, Passed, WaitCounts, labels_with};
 
 /// The states of a node's clients and links at one moment, by database in the order of its settings,
 /// and how many cancel requests there were, in the order in which the console shows them.

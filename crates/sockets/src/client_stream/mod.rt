@@ -1,0 +1,217 @@
+//! The stream of a client's connection.
+ghost use Rattle.std.specs.Io.{ReadsAtMost};
+
+mod first;
+mod lines;
+mod session;
+
+use crate::cancel_end::CancelEnd;
+use crate::connection_limit::ConnectionLimit;
+use crate::connections::PendingId;
+use crate::error_kind::with_error;
+use crate::first_packet::FirstPacket;
+use crate::{Connection, Deadline, Machine};
+use std::alloc::Global;
+use std::io;
+use std::io::{Read, Write};
+use std::time::Duration;
+use telemetry::Log;
+
+/// What a connection is served with.
+#[derive(Clone, Copy)]
+pub struct ConnectionContext<'a> {
+    /// The limit that admitted it.
+    pub limit: &'a ConnectionLimit,
+    /// Identifies it there.
+    pub pending: PendingId,
+    /// Whether a session is served, or only a cancel request.
+    pub serves: Serves,
+    /// The deadline of its first packets.
+    pub deadline: Deadline,
+    /// The log.
+    pub log: &'a Log,
+    /// The number of the node that serves it.
+    pub node: u16,
+}
+
+/// The stream of a client's connection. The first packets have a deadline. After that a read has no
+/// time limit, but it fails if the server closes the client's link, or if the group drains while the
+/// client is idle.
+#[derive(Drop)]
+pub struct ClientStream<'a, M: Machine> {
+    machine: &'a M,
+    alloc: Global,
+    connection: &'a Connection,
+    context: ConnectionContext<'a>,
+    stage: Stage,
+    // When the last byte of a cancel request was received.
+    cancel_received: Option<Duration>,
+    // The start-up packet after its code, as far as it was read, until it is answered. Only kept if
+    // the log has lines about parameters without effect.
+    packet: Vec<u8>,
+    // Whether the client is logged in, or was refused.
+    is_answered: bool,
+    // Whether reads of the socket have a timeout.
+    has_timeout: bool,
+    // The last call.
+    last: LastCall,
+    // Whether the call before the last was a successful write: then nothing of a request was read.
+    is_idle: bool,
+    // Whether the last read filled its buffer, so that more may follow.
+    is_sending: bool,
+    // The error to write to the client once nothing is held for it any more.
+    final_error: Option<Vec<u8>>,
+}
+
+/// Which connections are served.
+#[derive(Clone, Copy, Debug, PartialEq, Eq)]
+pub enum Serves {
+    /// All.
+    All,
+    /// Cancel requests.
+    Cancels,
+}
+
+// The stage of a connection.
+#[derive(Clone, Copy)]
+enum Stage {
+    // Its first packets are read, with this deadline.
+    First(FirstPacket, Deadline),
+    // The last byte of its cancel request was returned, and is unread in the socket.
+    Cancel,
+    // Its session.
+    Session,
+}
+
+/// The last call of a client's stream.
+#[derive(Clone, Copy, Debug, PartialEq, Eq)]
+pub enum LastCall {
+    /// A read, or none.
+    Read,
+    /// A successful write.
+    Wrote,
+    /// A write that failed.
+    Failed,
+}
+
+impl<'a, M: Machine> ClientStream<'a, M> {
+    /// Returns the stream of a connection of which nothing was read.
+    pub fn new(
+        machine: &'a M,
+        alloc: Global,
+        connection: &'a Connection,
+        context: ConnectionContext<'a>,
+    ) -> ClientStream<'a, M> {
+        ClientStream {
+            machine,
+            alloc,
+            connection,
+            context,
+            stage: Stage::First(FirstPacket::new(), context.deadline),
+            cancel_received: None,
+            packet: Vec::new(alloc),
+            is_answered: false,
+            has_timeout: false,
+            last: LastCall::Read,
+            is_idle: false,
+            is_sending: false,
+            final_error: None,
+        }
+    }
+
+    // Reads according to the stage.
+    fn read_stage(&mut self, buffer: &mut [u8]) -> io::Result<usize>
+        ensures bound { ReadsAtMost result buffer.new }
+    {
+        match self.stage {
+            Stage::First(packet, deadline) => self.read_first(packet, deadline, buffer),
+            Stage::Cancel => Ok(0),
+            Stage::Session => self.read_session(buffer),
+        }
+    }
+
+    /// Returns whether its first packets aren't complete.
+    pub fn is_pending(&self) -> bool {
+        matches!(self.stage, Stage::First(..))
+    }
+
+    /// Returns whether the last byte of a cancel request is unread.
+    pub fn holds_cancel(&self) -> bool {
+        matches!(self.stage, Stage::Cancel)
+    }
+
+    /// Returns how the client's cancel request has ended, and after how many milliseconds, if it sent
+    /// one.
+    pub fn cancel_end(&self) -> Option<(CancelEnd, u64)> {
+        let came = self.cancel_received?;
+        let now = self.machine.monotonic().ok()?;
+        let millis = now.saturating_sub(came).as_millis();
+        let end = if self.connection.is_given_up() {
+            CancelEnd::NotServed
+        } else {
+            CancelEnd::of(self.connection.target(), self.last)
+        };
+        Some((end, u64::try_from(millis).unwrap_or(u64::MAX)))
+    }
+
+    /// Returns whether the last read filled its buffer, so that more may follow.
+    pub fn is_sending(&self) -> bool {
+        self.is_sending
+    }
+
+    /// Returns the last call.
+    pub fn last_call(&self) -> LastCall {
+        self.last
+    }
+
+    /// Takes the error to write to the client once nothing is held for it any more.
+    pub fn take_final_error(&mut self) -> Option<Vec<u8>> {
+        self.final_error.take()
+    }
+}
+
+impl<'a, M: Machine> Read for ClientStream<'a, M> {
+    #[inline(always)]
+    fn read(&mut self, buffer: &mut [u8]) -> io::Result<usize> {
+        self.is_idle = self.last == LastCall::Wrote;
+        self.last = LastCall::Read;
+        if !self.is_ready() {
+            return with_error(self.read_slow(buffer));
+        }
+        let room = buffer.len();
+        let mut socket = self.connection.socket();
+        match socket.read(buffer) {
+            Ok(count) => {
+                self.connection.meter().receive(count);
+                self.is_sending = count == room;
+                Ok(count)
+            }
+            Err(error) => with_error(self.read_after_error(error.kind(), buffer)),
+        }
+    }
+}
+
+impl<'a, M: Machine> Write for ClientStream<'a, M> {
+    #[inline(always)]
+    fn write(&mut self, bytes: &[u8]) -> io::Result<usize> {
+        if !self.is_answered {
+            self.look_at_answer(bytes);
+        }
+        let mut socket = self.connection.socket();
+        match socket.write(bytes) {
+            Ok(count) => {
+                self.connection.meter().send(self.machine, count);
+                self.last = LastCall::Wrote;
+                Ok(count)
+            }
+            Err(error) => {
+                self.last = LastCall::Failed;
+                with_error(Err(error.kind()))
+            }
+        }
+    }
+
+    fn flush(&mut self) -> io::Result<()> {
+        Ok(())
+    }
+}

@@ -1,0 +1,176 @@
+//! Inspects what a server or a peer sends.
+use crate::login_answer::LoginAnswer;
+use crate::origin::Origin;
+use link_state::Watch;
+use startup::Reports;
+use std::alloc::{AllocError, Global};
+use std::io;
+use std::io::ErrorKind;
+use std::sync::Wait;
+use std::time::Clock;
+use telemetry::Event;
+
+/// Inspects what a server or a peer sends on one connection: the log gets the reason if a link or a
+/// cancel request fails, and no link is used whose server reports another value than clients get.
+#[derive(Drop)]
+pub struct Inspector {
+    origin: Origin,
+    stage: Stage,
+    // Compares what the server of a link reports with what clients get.
+    watch: Option<Watch>,
+    // Whether its failure was logged.
+    is_logged: bool,
+}
+
+// What a connection is for.
+#[derive(Drop)]
+enum Stage {
+    // A link that no client has had yet, and the server's answer to its login.
+    Login(Box<LoginAnswer>),
+    // A link that a client has or had.
+    Link,
+    // A cancel request.
+    Cancel,
+}
+
+impl Inspector {
+    /// Returns the inspector of a link, whose server has to report no other values than these.
+    pub fn of_link(
+        alloc: Global,
+        origin: Origin,
+        reports: &Reports,
+    ) -> Result<Inspector, AllocError> {
+        let watch = if reports.is_empty() {
+            None
+        } else {
+            Some(Watch::new(alloc, reports)?)
+        };
+        Ok(Inspector {
+            origin,
+            stage: Stage::Login(Box::new(alloc, LoginAnswer::new())?),
+            watch,
+            is_logged: false,
+        })
+    }
+
+    /// Returns the inspector of a connection for a cancel request.
+    pub fn of_cancel(origin: Origin) -> Inspector {
+        Inspector {
+            origin,
+            stage: Stage::Cancel,
+            watch: None,
+            is_logged: false,
+        }
+    }
+
+    /// A client gets the link.
+    pub fn attach(&mut self) {
+        if matches!(self.stage, Stage::Login(_)) {
+            self.stage = Stage::Link;
+        }
+    }
+
+    /// Returns whether received bytes needn't be inspected.
+    #[inline]
+    pub fn is_passive(&self) -> bool {
+        self.watch.is_none() && matches!(self.stage, Stage::Link)
+    }
+
+    /// Returns whether the server reports another value than clients get.
+    pub fn differs(&self) -> bool {
+        match &self.watch {
+            Some(watch) => watch.differs().is_some(),
+            None => false,
+        }
+    }
+
+    /// Inspects received bytes. Fails if they belong to a login and the server reports another value
+    /// than clients get.
+    pub fn inspect<R: Wait + Clock>(&mut self, rt: &R, bytes: &[u8]) -> io::Result<()> {
+        if let Some(watch) = &mut self.watch {
+            watch.read(bytes);
+        }
+        match &mut self.stage {
+            Stage::Login(answer) => {
+                answer.read(bytes);
+                self.check_login(rt)
+            }
+            Stage::Link => Ok(()),
+            Stage::Cancel => {
+                self.log_reason(rt, "a byte came before the end");
+                Ok(())
+            }
+        }
+    }
+
+    // Logs a refused login. Fails if the server reports another value than clients get.
+    fn check_login<R: Wait + Clock>(&mut self, rt: &R) -> io::Result<()> {
+        if self.is_logged {
+            return Ok(());
+        }
+        if let Stage::Login(answer) = &self.stage {
+            if let Some(refusal) = answer.refusal() {
+                self.is_logged = true;
+                self.origin.write_refusal(rt, answer, refusal);
+                return Ok(());
+            }
+        }
+        if let Some(watch) = &self.watch {
+            if let Some(difference) = watch.differs() {
+                self.is_logged = true;
+                self.origin
+                    .write_difference(rt, Event::LinkLoginFailed, &difference);
+                return Err(io::Error::from(ErrorKind::InvalidData));
+            }
+        }
+        Ok(())
+    }
+
+    /// The peer has closed the connection.
+    pub fn end<R: Wait + Clock>(&mut self, rt: &R) {
+        match self.stage {
+            Stage::Cancel => {}
+            _ => self.log_reason(rt, "the server ended the connection"),
+        }
+    }
+
+    /// A read or a write failed.
+    pub fn fail<R: Wait + Clock>(&mut self, rt: &R, error: &io::Error) {
+        // The client has closed its connection.
+        if error.kind() == ErrorKind::ConnectionAborted || self.is_logged {
+            return;
+        }
+        self.is_logged = true;
+        self.origin.write_error(rt, self.event(), error);
+    }
+
+    /// Logs why the link is closed before it is used again.
+    pub fn close<R: Wait + Clock>(&self, rt: &R) {
+        if let Some(watch) = &self.watch {
+            if let Some(difference) = watch.differs() {
+                self.origin
+                    .write_difference(rt, Event::LinkClosed, &difference);
+                return;
+            }
+        }
+        let reason = "the server ended the connection, or sent what nobody asked for";
+        self.origin.write_reason(rt, Event::LinkClosed, reason);
+    }
+
+    // Logs why the connection failed, once.
+    fn log_reason<R: Wait + Clock>(&mut self, rt: &R, reason: &str) {
+        if !self.is_logged {
+            self.is_logged = true;
+            self.origin.write_reason(rt, self.event(), reason);
+        }
+    }
+
+    // Returns the event of its failure.
+    fn event(&self) -> Event {
+        match self.stage {
+            Stage::Login(_) => Event::LinkLoginFailed,
+            Stage::Link => Event::LinkLost,
+            Stage::Cancel => Event::CancelFailed,
+        }
+    }
+}

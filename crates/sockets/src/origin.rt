@@ -1,0 +1,78 @@
+//! What the log names of a link or of a connection for a cancel request.
+use crate::login_answer::{LoginAnswer, Refusal};
+use link_state::Difference;
+use std::alloc::{AllocError, Global};
+use std::io;
+use std::sync::{Arc, Wait};
+use std::time::Clock;
+use telemetry::{Event, Field, Log, Value, put_fields};
+
+/// The log of a connection of a node to a server or peer, with the fields that name it.
+#[derive(Drop)]
+pub struct Origin {
+    log: Arc<Log, Global>,
+    node: u16,
+    // The fields that name it, as text.
+    names: String,
+}
+
+impl Origin {
+    /// Returns the origin of a connection of this node that these fields name.
+    pub fn new(
+        alloc: Global,
+        log: &Arc<Log, Global>,
+        node: u16,
+        fields: &[Field<'_>],
+    ) -> Result<Origin, AllocError> {
+        let mut names = String::new(alloc);
+        put_fields(alloc, &mut names, fields)?;
+        Ok(Origin {
+            log: Arc::try_clone(log)?,
+            node,
+            names,
+        })
+    }
+
+    /// Logs an event of this connection, with these fields after its own.
+    pub fn write<R: Wait + Clock>(&self, rt: &R, event: Event, fields: &[Field<'_>]) {
+        let names = self.names.as_str();
+        self.log.write_of(rt, Some(self.node), event, names, fields);
+    }
+
+    /// Logs that the login of a link was refused.
+    pub fn write_refusal<R: Wait + Clock>(&self, rt: &R, answer: &LoginAnswer, why: Refusal) {
+        match why {
+            Refusal::Error => {
+                let code = Value::Bytes(answer.field(b'C').unwrap_or(&[]));
+                let message = Value::Bytes(answer.field(b'M').unwrap_or(&[]));
+                let fields = [("code", code), ("message", message)];
+                self.write(rt, Event::LinkLoginFailed, &fields);
+            }
+            Refusal::Asks(code) => {
+                let why = Value::Text("the server asks for authentication");
+                let fields = [("error", why), ("method", Value::Number(code.into()))];
+                self.write(rt, Event::LinkLoginFailed, &fields);
+            }
+        }
+    }
+
+    /// Logs that the server reports another value than clients get.
+    pub fn write_difference<R: Wait + Clock>(&self, rt: &R, event: Event, found: &Difference<'_>) {
+        let fields = [
+            ("parameter", Value::Text(found.name)),
+            ("reported", Value::Bytes(found.reported)),
+            ("told", Value::Text(found.told)),
+        ];
+        self.write(rt, event, &fields);
+    }
+
+    /// Logs an error.
+    pub fn write_error<R: Wait + Clock>(&self, rt: &R, event: Event, error: &io::Error) {
+        self.write(rt, event, &[("error", Value::Error(error))]);
+    }
+
+    /// Logs this reason.
+    pub fn write_reason<R: Wait + Clock>(&self, rt: &R, event: Event, reason: &str) {
+        self.write(rt, event, &[("error", Value::Text(reason))]);
+    }
+}

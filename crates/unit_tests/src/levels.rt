@@ -1,0 +1,39 @@
+//! Which lines the log has, by their level, and how many of dropped parameters.
+use crate::log_lines::{expect_line, expect_no_line};
+use std::test::Fail;
+use std::thread;
+use std::time::Duration;
+use telemetry::{Event, Level, Log};
+
+// A warning, a notice and an info.
+const EVENTS: [Event; 3] = [Event::LinkLost, Event::LinkClosed, Event::CancelEnded];
+
+#[test]
+fn a_log_has_lines_of_its_level(rt: HostRuntime) {
+    for (least, expected) in [
+        (Level::Warn, [true, false, false]),
+        (Level::Notice, [true, true, false]),
+        (Level::Info, [true, true, true]),
+    ] {
+        let log = Log::new(rt.alloc(), least);
+        for (event, is_written) in EVENTS.into_iter().zip(expected) {
+            log.write(&rt, None, event, &[]);
+            assert_eq!(&rt; log.next(&rt).is_some(), is_written);
+        }
+    }
+}
+
+// Of three lines one is written in a second, and then how many were left out.
+#[test]
+fn dropped_parameters_are_told_once_a_second(rt: HostRuntime) -> Result<(), Fail> {
+    let log = Log::new(rt.alloc(), Level::Notice);
+    for _ in 0..3 {
+        log.write(&rt, Some(1), Event::ParametersDropped, &[]);
+    }
+    expect_line(&rt, &log, "node=1 notice parameters_dropped")?;
+    expect_no_line(&rt, &log)?;
+    thread::sleep(&rt, Duration::from_millis(1_100));
+    let line = "node=- notice lines_left_out of=parameters_dropped count=2";
+    expect_line(&rt, &log, line)?;
+    expect_no_line(&rt, &log)
+}
