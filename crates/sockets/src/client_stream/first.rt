@@ -55,8 +55,8 @@ impl<'a, M: Machine> ClientStream<'a, M> {
             return Err(io::Error::from(ErrorKind::ConnectionRefused));
         }
         if packet.next() == Next::Done {
+            self.activate()?;
             self.stage = Stage::Session;
-            return self.activate();
         }
         Ok(())
     }
