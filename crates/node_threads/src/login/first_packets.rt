@@ -18,8 +18,8 @@ use std::sync::Wait;
 // How many bytes are read at once.
 const MAX_READ: usize = 1_024;
 
-// How long a CancelRequest is at most, in bytes. There is memory for it before it is read: of one
-// that was read whole its sender is told whether it was served.
+// How long a CancelRequest is at most, in bytes. Memory for it is taken before it is read: the end of
+// its connection must not be clean if it was read whole and isn't served.
 const LONGEST_CANCEL: usize = 32;
 
 // How many bytes a request for encryption takes.
