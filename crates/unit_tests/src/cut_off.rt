@@ -71,7 +71,7 @@ impl Pending {
         Ok((pending, peer))
     }
 
-    // Reads its first packets for at most so many milliseconds, and closes it.
+    // Reads its first packets for at most this many milliseconds, and closes it.
     fn serve<R: TestHost>(&self, rt: &R, serves: Serves, millis: u64) -> Result<(), Fail> {
         let context = ConnectionContext {
             limit: &self.limit,
