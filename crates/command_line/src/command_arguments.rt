@@ -132,7 +132,9 @@ const SERVE: &[Argument] = &[
         name: "front",
         form: Form::Value("PORT"),
         required: true,
-        help: "The port at which clients and cancel requests come in, 1 to 65535",
+        help: "\
+The port of 127.0.0.1 that all poolers of this process share, 1 to
+65535. Other machines use the poolers' own addresses",
     },
     Argument {
         name: "seed",
@@ -174,7 +176,8 @@ name as a server's address, for tests without PostgreSQL",
         required: false,
         help: "\
 Report this parameter to clients at each login, as PostgreSQL does
-of its own: give it once for each parameter",
+of its own: give it once for each parameter. Without
+standard_conforming_strings=on some drivers store wrong data",
     },
     Argument {
         name: "max-message",

@@ -137,7 +137,8 @@ pgpeer serve --front <PORT> (--seed <HEX64> | --seed-file <FILE>)
                     <FILE>..."
         }
         Usage::Short => {
-            "pgpeer serve --front <PORT> --seed <HEX64> [--boot <N>] [--stand-in] <FILE>..."
+            "\
+pgpeer serve --front <PORT> --seed-file <FILE> [--boot <N>] [--report <NAME=VALUE>]... <FILE>..."
         }
     }
 }
@@ -168,7 +169,8 @@ Examples:
   pgpeer decide --me 1 --peers 2 0000001004d2162e0008000000000007
   pgpeer check node1.ini node2.ini
   pgpeer world the_race.script
-  pgpeer serve --front 6432 --seed-file /dev/urandom node1.ini node2.ini
+  pgpeer serve --front 6432 --seed-file /dev/urandom --boot $(date +%s) \\
+        --report standard_conforming_strings=on node1.ini node2.ini
   pgpeer stub 7100";
 
 const AFTER_KEY: &str = "\
@@ -218,12 +220,17 @@ Example, where login.script has the lines 'node 2 1 1' and 'login 2 10 1':
 
 const AFTER_SERVE: &str = "\
 One file is a pooler of a group whose others run elsewhere. Several files are several poolers of a
-group in one process.
+group in one process. Each also listens at its own address, which its file names.
+
+Give a new seed and a new boot number at each start.
+Without '--report standard_conforming_strings=on' some drivers store wrong data.
 
 Examples:
-  $ pgpeer serve --front 6432 --seed-file /dev/urandom --boot $(date +%s) node1.ini
+  $ pgpeer serve --front 6432 --seed-file /dev/urandom --boot $(date +%s) \\
+        --report standard_conforming_strings=on node1.ini
 
-  $ pgpeer serve --stand-in --front 6432 --seed $(openssl rand -hex 32) node1.ini node2.ini";
+  $ pgpeer serve --stand-in --front 6432 --seed-file /dev/urandom --boot $(date +%s) \\
+        --report standard_conforming_strings=on node1.ini node2.ini";
 
 const AFTER_STUB: &str = "\
 Example:

@@ -10,6 +10,7 @@ use startup::Reports;
 use std::alloc::{AllocError, Global};
 use std::io;
 use std::io::ErrorKind;
+use std::os::fd::AsRawFd;
 use std::sync::{Arc, Wait};
 use telemetry::{Event, Field, Log, Meter, NodeCounters, Value, put_fields};
 
@@ -114,7 +115,7 @@ impl<M: Machine> Dialer<M> {
             }
         };
         let origin = self.origin(settings, &fields)?;
-        let inspector = Inspector::of_link(self.alloc, origin, &self.reports)?;
+        let inspector = Inspector::of_link(self.alloc, origin, socket.as_raw_fd(), &self.reports)?;
         LinkStream::new(
             self.machine,
             self.alloc,

@@ -7,17 +7,19 @@ ghost use Rattle.node_threads.specs.Secrets.{drawing_of};
 
 use crate::accepting::{Acceptor, keep_accepting};
 use crate::draining::{drain, wait_for_end, write_end};
-use crate::limits::METRICS_READERS;
+use crate::limits::{BACKLOG, METRICS_READERS};
 use crate::metrics::{Exporter, Sources, keep_exporting};
 use crate::options::{ServeOptions, copy_of, write_start};
 use crate::{Dialer, ServeError, Serving, Unbound};
 use ini_config::Group;
+use libc::net as c;
 use node_threads::Calling;
 use pg_ids::Boot;
 use sockets::{Capacity, ConnectionLimit, DrainSignal, Host, Needs, descriptor_limit};
 use std::alloc::{AllocError, Global};
 use std::io::{Read, Write};
 use std::net::TcpListener;
+use std::os::fd::AsRawFd;
 use std::sync::Arc;
 use std::thread;
 use telemetry::{Counters, Log};
@@ -436,7 +438,7 @@ fn listen_for_metrics<H: Host>(
     }
 }
 
-/// Binds this address.
+/// Binds this address. `BACKLOG` connections may wait there to be accepted.
 pub fn listen<H: Host>(
     host: &H,
     alloc: Global,
@@ -444,7 +446,11 @@ pub fn listen<H: Host>(
     port: u16,
 ) -> Result<TcpListener, ServeError> {
     match TcpListener::bind(host, (address, port)) {
-        Ok(listener) => Ok(listener),
+        Ok(listener) => {
+            // `bind` lets fewer wait. If this fails, that stays so.
+            c::listen(listener.as_raw_fd(), BACKLOG);
+            Ok(listener)
+        }
         Err(error) => Err(ServeError::Address(Unbound {
             address: String::from_str(alloc, address)?,
             port,

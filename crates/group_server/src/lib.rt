@@ -15,7 +15,7 @@ mod serving;
 pub use dialer::{ClientDialer, Dialer};
 pub use group::{Listening, listen, say_listening, serve_group};
 pub use metrics::{NodeState, PoolState, page_of};
-pub use options::ServeOptions;
+pub use options::{ServeOptions, write_start};
 pub use pg_frames::MessageLimit;
 pub use serve_error::{ServeError, Unbound};
 pub use serving::Serving;

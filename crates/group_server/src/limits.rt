@@ -39,3 +39,7 @@ pub const METRICS_AGE_MILLIS: u64 = 1_000;
 
 /// How old a connection has to be to be evicted because no thread or descriptor is left.
 pub const EVICTION_AGE_MILLIS: u64 = 1_000;
+
+/// How many connections may wait at an address to be accepted. The system's `net.core.somaxconn` may
+/// be lower.
+pub const BACKLOG: i32 = 4_096;

@@ -36,6 +36,9 @@ pub struct ServeOptions<'a> {
 // What the log says if no boot number was given.
 const GIVE_BOOT: &str = "give another --boot at each start";
 
+// What the log says if logins don't report `STRINGS`.
+const GIVE_REPORT: &str = "give --report standard_conforming_strings=on";
+
 /// Logs that a group has begun to listen, and the addresses of its nodes.
 pub fn write_start<R: Wait + Clock>(
     rt: &R,
@@ -56,6 +59,11 @@ pub fn write_start<R: Wait + Clock>(
         let advice = ("advice", Value::Text(GIVE_BOOT));
         log.write(rt, None, Event::BootUnset, &[advice]);
     }
+    if !is_reported(options.reports, STRINGS) {
+        let missing = ("parameter", Value::Text(STRINGS));
+        let advice = ("advice", Value::Text(GIVE_REPORT));
+        log.write(rt, None, Event::ReportMissing, &[missing, advice]);
+    }
     for settings in group.nodes() {
         write_node(rt, log, settings);
     }
@@ -69,19 +77,10 @@ fn write_node<R: Wait + Clock>(rt: &R, log: &Log, settings: &Settings) {
     log.write(rt, Some(node), Event::NodeListens, &[("address", address)]);
 }
 
-// Appends what logins report, and `STRINGS` if they don't report it.
+// Appends what logins report.
 fn put_reports(alloc: Global, text: &mut String, reports: &Reports) -> Result<(), AllocError> {
     let reported = reports_text(alloc, reports)?;
-    put_text(alloc, text, "reports", reported.as_str())?;
-    if is_reported(reports, STRINGS) {
-        return Ok(());
-    }
-    put_text(alloc, text, "unreported", STRINGS)
-}
-
-// Appends a field whose value is a text.
-fn put_text(alloc: Global, text: &mut String, name: &str, value: &str) -> Result<(), AllocError> {
-    put_fields(alloc, text, &[(name, Value::Text(value))])
+    put_fields(alloc, text, &[("reports", Value::Text(reported.as_str()))])
 }
 
 // Returns whether logins report this parameter.

@@ -4,7 +4,8 @@ use crate::group::{ANY_PORT, Running, THREE, free_ports, options};
 use crate::host::TestHost;
 use crate::messages::{HI, IDLE};
 use crate::settings::group;
-use group_server::Listening;
+use group_server::{Listening, listen};
+use sockets::{Deadline, connect};
 use startup::Reports;
 use std::net::{TcpListener, TcpStream};
 use std::test::Fail;
@@ -55,5 +56,21 @@ fn addresses(rt: HostRuntime) -> Result<(), Fail> {
     };
     TcpStream::connect(&rt, ("127.0.0.1", front))?;
     TcpStream::connect(&rt, ("127.0.0.1", own))?;
+    Ok(())
+}
+
+// Many clients that come at once are all connected before one is accepted: none has to send its SYN
+// again, which it does after a second.
+#[test]
+fn many_clients_wait_to_be_accepted(rt: HostRuntime) -> Result<(), Fail> {
+    let Ok(listener) = listen(&rt, rt.alloc(), "127.0.0.1", 0) else {
+        return Err(Fail::from("an address can't be bound"));
+    };
+    let port = listener.local_addr()?.port();
+    let mut clients = Vec::new(rt.alloc());
+    for _ in 0..300 {
+        let deadline = Deadline::after(&rt, 900)?;
+        clients.push(connect(&rt, "127.0.0.1", port, deadline)?)?;
+    }
     Ok(())
 }

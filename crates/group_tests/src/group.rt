@@ -165,7 +165,8 @@ fn serve_group<R: TestHost>(
     }
 }
 
-// What a group of this port is served with, whose logins have these reports.
+// What a group of this port is served with, whose logins have these reports. If its metrics are read,
+// they count the events of all levels.
 pub(crate) const fn options(
     front: u16,
     metrics: Option<u16>,
@@ -178,7 +179,10 @@ pub(crate) const fn options(
         boot: BOOT,
         reports,
         until_eof: false,
-        log: Level::Notice,
+        log: match metrics {
+            Some(_) => Level::Info,
+            None => Level::Notice,
+        },
         metrics,
         max_message: MessageLimit::DEFAULT,
     }

@@ -1,6 +1,6 @@
 //! Metrics after sessions whose numbers are worked out by hand, and the answers to slow or malformed
 //! requests.
-use crate::client::{Client, Until};
+use crate::client::{Cancel, Client, Until};
 use crate::group::{ANY_PORT, Running, start_server};
 use crate::host::TestHost;
 use crate::messages::{BEGIN, COMMIT, HI, IDLE, OPEN};
@@ -115,6 +115,23 @@ fn a_wait_is_measured(rt: HostRuntime) -> Result<(), Fail> {
         "pgpeer_wait_seconds_count{node=\"1\",database=\"shop\"} 2",
     ];
     expect_lines(&rt, group.metrics(), &ended)
+}
+
+// A key of node 1 that no client has: slot 0, secret 1 and 3 hops.
+const UNKNOWN: &[u8] = b"\0\x04\0\0\0\0\0\x07";
+
+// The end of a cancel request is an event of the log of the group that serves it.
+#[test]
+fn the_end_of_a_cancel_is_counted(rt: HostRuntime) -> Result<(), Fail> {
+    let server = start_server(&rt, TcpListener::bind(&rt, ANY_PORT)?, Mode::Honest)?;
+    let group = Running::start_measured(&rt, &[server], &[&[]])?;
+    let mut requester = Cancel::new(&rt, group.node(1)?, UNKNOWN)?.send(&rt)?;
+    requester.expect_end(&rt, b"")?;
+    let lines = [
+        "pgpeer_cancels_refused_total{node=\"1\",reason=\"unknown\"} 1",
+        "pgpeer_log_events_total{level=\"info\",event=\"cancel_ended\"} 1",
+    ];
+    expect_lines(&rt, group.metrics(), &lines)
 }
 
 // Requests, and how their answers begin.

@@ -1,13 +1,17 @@
 //! Links whose servers report another value than clients get.
 use crate::client::Client;
-use crate::group::{ANY_PORT, Running};
+use crate::group::{ANY_PORT, Running, options};
 use crate::host::TestHost;
+use crate::log_lines::{expect_line, expect_no_line};
 use crate::messages::IDLE;
 use crate::scripted::{Script, start};
+use group_server::write_start;
+use ini_config::Group;
 use startup::Reports;
 use std::alloc::{AllocError, Global};
 use std::net::TcpListener;
 use std::test::Fail;
+use telemetry::{Level, Log};
 
 // What clients get beside what every login tells, and its ParameterStatus.
 pub(crate) const TOLD: &[(&str, &str)] = &[
@@ -45,6 +49,10 @@ const OPEN: &[u8] = b"Z\0\0\0\x05T";
 
 // ErrorResponse: the link was lost.
 pub(crate) const LOST: &[u8] = b"E\0\0\0\x32SFATAL\0VFATAL\0C08006\0Mserver connection lost\0\0";
+
+// The line of a start without reports.
+const MISSING: &str = "node=- warn report_missing parameter=standard_conforming_strings \
+    advice=\"give --report standard_conforming_strings=on\"";
 
 // A group of one node before this server, whose clients get this.
 fn start_group<R: TestHost>(rt: &R, server: u16, told: &[(&str, &str)]) -> Result<u16, Fail> {
@@ -158,6 +166,21 @@ fn nothing_is_told(rt: HostRuntime) -> Result<(), Fail> {
     client.expect_answer(&rt, "set", &[UTC, ONE, IDLE])?;
     let mut other = log_in(&rt, port, b"")?;
     other.expect_answer(&rt, "next", &[ONE, IDLE])
+}
+
+// A start without the parameter that drivers need is in the log.
+#[test]
+fn a_missing_report_is_in_the_log(rt: HostRuntime) -> Result<(), Fail> {
+    let alloc = rt.alloc();
+    let group = Group::check(Vec::new(alloc))?;
+    let log = Log::new(alloc, Level::Warn);
+    let none = Reports::new(alloc);
+    write_start(&rt, alloc, &log, &group, &options(6_432, None, &none))?;
+    expect_line(&rt, &log, MISSING)?;
+    expect_no_line(&rt, &log)?;
+    let told = reports_of(alloc, TOLD)?;
+    write_start(&rt, alloc, &log, &group, &options(6_432, None, &told))?;
+    expect_no_line(&rt, &log)
 }
 
 // The reports that tell this.

@@ -1,11 +1,15 @@
 //! Inspects what a server or a peer sends.
+use crate::Deadline;
+use crate::limits::REFUSAL_MILLIS;
 use crate::login_answer::LoginAnswer;
 use crate::origin::Origin;
+use crate::poll::wait_readable;
 use link_state::Watch;
 use startup::Reports;
 use std::alloc::{AllocError, Global};
 use std::io;
 use std::io::ErrorKind;
+use std::os::fd::RawFd;
 use std::sync::Wait;
 use std::time::Clock;
 use telemetry::Event;
@@ -25,19 +29,28 @@ pub struct Inspector {
 // What a connection is for.
 #[derive(Drop)]
 enum Stage {
-    // A link that no client has had yet, and the server's answer to its login.
-    Login(Box<LoginAnswer>),
+    // A link that no client has had yet.
+    Login(Box<Login>),
     // A link that a client has or had.
     Link,
     // A cancel request.
     Cancel,
 }
 
+// The login of a link: the server's answer, and the socket of which it is read.
+#[derive(Drop)]
+struct Login {
+    answer: LoginAnswer,
+    socket: RawFd,
+}
+
 impl Inspector {
-    /// Returns the inspector of a link, whose server has to report no other values than these.
+    /// Returns the inspector of a link on this socket, whose server has to report no other values than
+    /// these.
     pub fn of_link(
         alloc: Global,
         origin: Origin,
+        socket: RawFd,
         reports: &Reports,
     ) -> Result<Inspector, AllocError> {
         let watch = if reports.is_empty() {
@@ -45,9 +58,13 @@ impl Inspector {
         } else {
             Some(Watch::new(alloc, reports)?)
         };
+        let login = Login {
+            answer: LoginAnswer::new(),
+            socket,
+        };
         Ok(Inspector {
             origin,
-            stage: Stage::Login(Box::new(alloc, LoginAnswer::new())?),
+            stage: Stage::Login(Box::new(alloc, login)?),
             watch,
             is_logged: false,
         })
@@ -91,8 +108,8 @@ impl Inspector {
             watch.read(bytes);
         }
         match &mut self.stage {
-            Stage::Login(answer) => {
-                answer.read(bytes);
+            Stage::Login(login) => {
+                login.answer.read(bytes);
                 self.check_login(rt)
             }
             Stage::Link => Ok(()),
@@ -108,10 +125,11 @@ impl Inspector {
         if self.is_logged {
             return Ok(());
         }
-        if let Stage::Login(answer) = &self.stage {
-            if let Some(refusal) = answer.refusal() {
+        if let Stage::Login(login) = &mut self.stage {
+            if let Some(refusal) = login.answer.refusal() {
+                login.read_rest(rt);
                 self.is_logged = true;
-                self.origin.write_refusal(rt, answer, refusal);
+                self.origin.write_refusal(rt, &login.answer, refusal);
                 return Ok(());
             }
         }
@@ -171,6 +189,39 @@ impl Inspector {
             Stage::Login(_) => Event::LinkLoginFailed,
             Stage::Link => Event::LinkLost,
             Stage::Cancel => Event::CancelFailed,
+        }
+    }
+}
+
+impl Login {
+    // Reads the rest of an error for the log, at most for `REFUSAL_MILLIS`: nobody else reads it, since
+    // the login has failed.
+    fn read_rest<R: Clock>(&mut self, rt: &R) {
+        let Ok(deadline) = Deadline::after(rt, REFUSAL_MILLIS) else {
+            return;
+        };
+        for _ in 0..u64::MAX {
+            if !self.answer.lacks_rest() || !self.read_more(rt, deadline) {
+                return;
+            }
+        }
+    }
+
+    // Reads more of the answer by this deadline. Returns whether there was more.
+    fn read_more<R: Clock>(&mut self, rt: &R, deadline: Deadline) -> bool {
+        let Ok(left) = deadline.left(rt) else {
+            return false;
+        };
+        let mut buffer = [0; 256];
+        if !wait_readable(self.socket, left) {
+            return false;
+        }
+        match usize::try_from(libc::read(self.socket, &mut buffer)) {
+            Ok(count) if count > 0 => {
+                self.answer.read(buffer.get(..count).unwrap_or(&[]));
+                true
+            }
+            _ => false,
         }
     }
 }

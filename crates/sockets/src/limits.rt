@@ -7,6 +7,9 @@ pub const POLL_MILLIS: u64 = 500;
 /// read.
 pub const WRITE_MILLIS: u64 = 50;
 
+/// How long the rest of an error with which a server refuses a login is awaited, for the log.
+pub const REFUSAL_MILLIS: u64 = 500;
+
 /// How long a client's input is still read at the end of its connection.
 pub const ENDING_MILLIS: u64 = 5_000;
 

@@ -52,14 +52,19 @@ impl LoginAnswer {
         }
     }
 
-    /// Returns why the server refuses the login, if it does. An error is known by its type, before it
-    /// is complete.
+    /// Returns why the server refuses the login, if it does. An error is known by its type and length,
+    /// an authentication request by its code, before they are complete: the login fails then.
     pub fn refusal(&self) -> Option<Refusal> {
-        let [kind, ..] = self.head;
-        if self.read == HEAD && kind == b'E' {
-            return Some(Refusal::Error);
+        if self.read < HEAD {
+            return self.refusal;
         }
-        self.refusal
+        self.told()
+    }
+
+    /// Returns whether it is an error of which more is to be read for the log.
+    pub fn lacks_rest(&self) -> bool {
+        let [kind, ..] = self.head;
+        self.read == HEAD && kind == b'E' && self.kept < MOST
     }
 
     /// Returns a field of its ErrorResponse, if it was read.
@@ -107,15 +112,20 @@ impl LoginAnswer {
     // Ends a message.
     fn end(&mut self) {
         self.read = 0;
+        self.refusal = self.told();
+    }
+
+    // Returns the refusal that the message tells, if it does, as far as it was read.
+    fn told(&self) -> Option<Refusal> {
         let [kind, ..] = self.head;
-        self.refusal = match kind {
+        match kind {
             b'E' => Some(Refusal::Error),
             b'R' => match self.body() {
                 [a, b, c, d, ..] => asks(u32::from_be_bytes([*a, *b, *c, *d])),
                 _ => None,
             },
             _ => None,
-        };
+        }
     }
 }
 

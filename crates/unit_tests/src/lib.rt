@@ -13,6 +13,8 @@ mod clients;
 #[cfg(test)]
 mod connections;
 #[cfg(test)]
+mod cut_off;
+#[cfg(test)]
 mod descriptors;
 #[cfg(test)]
 mod dropped;

@@ -59,12 +59,45 @@ fn an_error_in_parts(rt: HostRuntime) {
         answer.read(&[*byte]);
     }
     assert_eq!(&rt; answer.refusal(), Some(Refusal::Error));
+    assert!(&rt; answer.lacks_rest());
     answer.read(severity);
     assert_field(&rt, &answer, b'V', b"FATAL");
     assert!(&rt; answer.field(b'C').is_none());
+    assert!(&rt; answer.lacks_rest());
     answer.read(rest);
+    assert!(&rt; !answer.lacks_rest());
     assert_eq!(&rt; answer.refusal(), Some(Refusal::Error));
     assert_field(&rt, &answer, b'C', b"53300");
+}
+
+// Of a long error 1,024 bytes are kept, and no more are wanted.
+#[test]
+fn a_long_error(rt: HostRuntime) {
+    let mut answer = LoginAnswer::new();
+    answer.read(b"E\x7f\xff\xff\xff");
+    for _ in 0..1_024 {
+        assert!(&rt; answer.lacks_rest());
+        answer.read(b"M");
+    }
+    assert!(&rt; !answer.lacks_rest());
+    assert_eq!(&rt; answer.refusal(), Some(Refusal::Error));
+}
+
+// What an authentication request is before and after the last byte of its code.
+fn expect_told(rt: &impl Abort, before: &[u8], last: &[u8], expected: Option<Refusal>) {
+    let mut answer = LoginAnswer::new();
+    answer.read(before);
+    assert_eq!(rt; answer.refusal(), None);
+    answer.read(last);
+    assert_eq!(rt; answer.refusal(), expected);
+    assert!(rt; !answer.lacks_rest());
+}
+
+// Once its code came an authentication request is a refusal, unless the user is authenticated.
+#[test]
+fn a_request_in_parts(rt: HostRuntime) {
+    expect_told(&rt, b"R\0\0\0\x17\0\0\0", b"\x0a", Some(Refusal::Asks(10)));
+    expect_told(&rt, b"R\0\0\0\x0c\0\0\0", b"\0", None);
 }
 
 // A length that is too small ends a message, and isn't read as a large one.

@@ -18,6 +18,10 @@ use std::sync::Wait;
 // How many bytes are read at once.
 const MAX_READ: usize = 1_024;
 
+// How long a CancelRequest is at most, in bytes. Memory for it is taken before it is read: the end of
+// its connection must not be clean if it was read whole and isn't served.
+const LONGEST_CANCEL: usize = 32;
+
 // How many bytes a request for encryption takes.
 const NEGOTIATION_LEN: usize = 8;
 
@@ -150,6 +154,10 @@ fn read_more<C: WriteCalls + ReadCalls>(
     ensures over { result ≡ false → SomeCalls C.wrote C.gave client.old client.new
         (Ends opening.old text.old.items) }
 {
+    if text.reserve(LONGEST_CANCEL).is_err() {
+        refuse_first(alloc, client, StartupError::Memory);
+        return false;
+    }
     let mut buffer = [0; MAX_READ];
     let Ok(count) = client.read_once(&mut buffer) else {
         return false;

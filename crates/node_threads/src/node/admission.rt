@@ -23,6 +23,10 @@ const ASKING: u64 = 20;
 
 const TRIES: u64 = 5;
 
+// How often it waits if it has a cancel request for the client, which ends without effect if the
+// client hasn't asked.
+const CANCEL_TRIES: u64 = 50;
+
 /// The semaphores before a node's databases, and the states of its clients by slot.
 #[derive(Drop)]
 pub struct Admission {
@@ -65,13 +69,9 @@ impl Admission {
     }
 
     /// Makes the client of a slot ask for a link at once, if it waits for a permit, and waits until
-    /// it has asked, for 100 milliseconds at most.
+    /// it has asked, for a second at most.
     pub fn tell_to_ask<R: Wait>(&self, rt: &R, slot: SlotNo) {
-        if let Some(state) = self.client(rt, slot) {
-            if tell(&state) {
-                await_asked(rt, &state);
-            }
-        }
+        self.tell_and_wait(rt, slot, CANCEL_TRIES);
     }
 
     /// Makes all clients that wait for a permit ask for a link at once, one after another, and
@@ -81,7 +81,17 @@ impl Admission {
             if slot as usize >= self.clients.lock(rt).len() {
                 return;
             }
-            self.tell_to_ask(rt, SlotNo(slot));
+            self.tell_and_wait(rt, SlotNo(slot), TRIES);
+        }
+    }
+
+    // Makes the client of a slot ask for a link at once, if it waits for a permit, and waits this
+    // many times until it has asked.
+    fn tell_and_wait<R: Wait>(&self, rt: &R, slot: SlotNo, tries: u64) {
+        if let Some(state) = self.client(rt, slot) {
+            if tell(&state) {
+                await_asked(rt, &state, tries);
+            }
         }
     }
 
@@ -259,9 +269,9 @@ fn low_half(state: u64) -> u32 {
     (state % (1 << 32)) as u32
 }
 
-// Waits until a client that must ask has asked.
-fn await_asked<R: Wait>(rt: &R, state: &AtomicU64) {
-    for _ in 0..TRIES {
+// Waits until a client that must ask has asked, this many times at most.
+fn await_asked<R: Wait>(rt: &R, state: &AtomicU64, tries: u64) {
+    for _ in 0..tries {
         let found = state.load(Ordering::SeqCst);
         if found & TOLD == 0 {
             return;

@@ -21,10 +21,7 @@ impl<'a, M: Machine> ClientStream<'a, M> {
     ) -> io::Result<usize>
         ensures bound { ReadsAtMost result buffer.new }
     {
-        let left = deadline.left(self.machine)?;
-        if !wait_readable(self.connection.descriptor(), left) {
-            return Err(io::Error::from(ErrorKind::TimedOut));
-        }
+        self.await_first(deadline)?;
         let mut packet = packet;
         match packet.next() {
             Next::Peek => self.peek_last(buffer),
@@ -41,6 +38,17 @@ impl<'a, M: Machine> ClientStream<'a, M> {
         }
     }
 
+    // Waits until more of the first packets can be read. Fails at their deadline.
+    fn await_first(&mut self, deadline: Deadline) -> io::Result<()> {
+        if let Ok(left) = deadline.left(self.machine) {
+            if wait_readable(self.connection.descriptor(), left) {
+                return Ok(());
+            }
+        }
+        self.is_cut_off = true;
+        Err(io::Error::from(ErrorKind::TimedOut))
+    }
+
     // Keeps what was read of a start-up packet after its head, if the log needs it.
     fn keep(&mut self, packet: FirstPacket, bytes: &[u8]) {
         if packet.asks() == Asks::Session && self.context.log.has(Event::ParametersDropped) {
@@ -52,11 +60,12 @@ impl<'a, M: Machine> ClientStream<'a, M> {
     // evicted.
     fn check(&mut self, packet: FirstPacket) -> io::Result<()> {
         if packet.asks() == Asks::Session && self.context.serves == Serves::Cancels {
+            self.is_cut_off = true;
             return Err(io::Error::from(ErrorKind::ConnectionRefused));
         }
         if packet.next() == Next::Done {
+            self.activate()?;
             self.stage = Stage::Session;
-            return self.activate();
         }
         Ok(())
     }
@@ -74,16 +83,26 @@ impl<'a, M: Machine> ClientStream<'a, M> {
         }
     }
 
-    /// Tells the client that its connection is closed before its first packets were complete.
+    /// Tells the client that its connection is closed before its first packets were complete. Logs it,
+    /// unless the client has left or the group drains.
     pub fn refuse(&self) {
-        let error = if self.context.limit.is_draining() {
-            shutdown_error(self.alloc)
-        } else if self.context.serves == Serves::Cancels || self.activate().is_err() {
-            fatal_error(self.alloc, ErrorCode::TooManyConnections)
+        let socket = self.connection.socket();
+        if self.context.limit.is_draining() {
+            write_refusal(socket, shutdown_error(self.alloc));
+            return;
+        }
+        let is_evicted = self.activate().is_err();
+        let (error, reason) = if is_evicted {
+            (ErrorCode::TooManyConnections, "evicted")
+        } else if self.context.serves == Serves::Cancels {
+            (ErrorCode::TooManyConnections, "shortage")
         } else {
-            fatal_error(self.alloc, ErrorCode::ProtocolViolation)
+            (ErrorCode::ProtocolViolation, "late")
         };
-        write_refusal(self.connection.socket(), error);
+        if is_evicted || self.is_cut_off {
+            self.write_cut_off(error, reason);
+        }
+        write_refusal(socket, fatal_error(self.alloc, error));
     }
 
     // Returns the last byte of a cancel request, and leaves it unread in the socket: if this process

@@ -3,6 +3,7 @@ use super::ClientStream;
 use crate::Machine;
 use crate::dropped::put_dropped;
 use crate::login_answer::{HEAD, field_of};
+use startup::ErrorCode;
 use telemetry::{Event, Field, Value};
 
 impl<'a, M: Machine> ClientStream<'a, M> {
@@ -52,6 +53,17 @@ impl<'a, M: Machine> ClientStream<'a, M> {
             ("message", message),
         ];
         self.write(event, &fields);
+    }
+
+    // Logs that the client was refused with this error before its first packets were complete.
+    pub(super) fn write_cut_off(&self, error: ErrorCode, reason: &str) {
+        let fields = [
+            ("client", self.client()),
+            ("code", Value::Text(error.code())),
+            ("message", Value::Text(error.message())),
+            ("reason", Value::Text(reason)),
+        ];
+        self.write(Event::ClientRefused, &fields);
     }
 
     // Logs an event of the node that serves the client.

@@ -49,6 +49,8 @@ pub struct ClientStream<'a, M: Machine> {
     // The start-up packet after its code, as far as it was read, until it is answered. Only kept if
     // the log has lines about parameters without effect.
     packet: Vec<u8>,
+    // Whether this side gave up its first packets: they took too long, or aren't served.
+    is_cut_off: bool,
     // Whether the client is logged in, or was refused.
     is_answered: bool,
     // Whether reads of the socket have a timeout.
@@ -110,6 +112,7 @@ impl<'a, M: Machine> ClientStream<'a, M> {
             stage: Stage::First(FirstPacket::new(), context.deadline),
             cancel_received: None,
             packet: Vec::new(alloc),
+            is_cut_off: false,
             is_answered: false,
             has_timeout: false,
             last: LastCall::Read,

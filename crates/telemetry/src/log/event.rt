@@ -33,6 +33,8 @@ pub enum Event {
     ClientRefused,
     /// No boot number was given.
     BootUnset,
+    /// Logins don't report a parameter that drivers need.
+    ReportMissing,
     /// A client's start-up packet has parameters without effect.
     ParametersDropped,
     /// A cancel request has ended.
@@ -46,7 +48,7 @@ pub enum Event {
 }
 
 /// The number of kinds of events.
-pub const EVENTS: usize = 18;
+pub const EVENTS: usize = 19;
 
 /// The kinds of events.
 pub const KINDS: [Event; EVENTS] = [
@@ -68,6 +70,7 @@ pub const KINDS: [Event; EVENTS] = [
     Event::Stopping,
     Event::Stopped,
     Event::MessageTooLong,
+    Event::ReportMissing,
 ];
 
 /// The importance of an event, in descending order.
@@ -107,7 +110,7 @@ impl Level {
 impl Event {
     /// Returns its position in `KINDS`.
     pub fn place(self) -> usize
-        ensures { result < 18 }
+        ensures { result < 19 }
     {
         match self {
             Event::Started => 0,
@@ -128,6 +131,7 @@ impl Event {
             Event::Stopping => 15,
             Event::Stopped => 16,
             Event::MessageTooLong => 17,
+            Event::ReportMissing => 18,
         }
     }
 
@@ -152,6 +156,7 @@ impl Event {
             Event::Stopping => "stopping",
             Event::Stopped => "stopped",
             Event::MessageTooLong => "message_too_long",
+            Event::ReportMissing => "report_missing",
         }
     }
 

@@ -33,7 +33,8 @@ Examples:
   pgpeer decide --me 1 --peers 2 0000001004d2162e0008000000000007
   pgpeer check node1.ini node2.ini
   pgpeer world the_race.script
-  pgpeer serve --front 6432 --seed-file /dev/urandom node1.ini node2.ini
+  pgpeer serve --front 6432 --seed-file /dev/urandom --boot $(date +%s) \\
+        --report standard_conforming_strings=on node1.ini node2.ini
   pgpeer stub 7100
 ";
 
@@ -144,7 +145,8 @@ Arguments:
   <FILE>...  Settings files, one for each pooler of this process
 
 Options:
-      --front <PORT>         The port at which clients and cancel requests come in, 1 to 65535
+      --front <PORT>         The port of 127.0.0.1 that all poolers of this process share, 1 to
+                             65535. Other machines use the poolers' own addresses
       --seed <HEX64>         What the secrets of keys are drawn from, 32 bytes in 64 hexadecimal
                              digits: give another one at each start, which nobody can guess. Every
                              user of the machine can read it in the list of processes
@@ -156,7 +158,8 @@ Options:
       --stand-in             Run a stand-in server at each port of 127.0.0.1 that the settings
                              name as a server's address, for tests without PostgreSQL
       --report <NAME=VALUE>  Report this parameter to clients at each login, as PostgreSQL does
-                             of its own: give it once for each parameter
+                             of its own: give it once for each parameter. Without
+                             standard_conforming_strings=on some drivers store wrong data
       --max-message <BYTES>  The longest message that is passed on, in either direction, as its
                              length field says, and the longest group of messages of an extended
                              query: 8192 to 1073741823, and 1048576 where it isn't given
@@ -170,12 +173,17 @@ Options:
   -h, --help                 Print help
 
 One file is a pooler of a group whose others run elsewhere. Several files are several poolers of a
-group in one process.
+group in one process. Each also listens at its own address, which its file names.
+
+Give a new seed and a new boot number at each start.
+Without '--report standard_conforming_strings=on' some drivers store wrong data.
 
 Examples:
-  $ pgpeer serve --front 6432 --seed-file /dev/urandom --boot $(date +%s) node1.ini
+  $ pgpeer serve --front 6432 --seed-file /dev/urandom --boot $(date +%s) \\
+        --report standard_conforming_strings=on node1.ini
 
-  $ pgpeer serve --stand-in --front 6432 --seed $(openssl rand -hex 32) node1.ini node2.ini
+  $ pgpeer serve --stand-in --front 6432 --seed-file /dev/urandom --boot $(date +%s) \\
+        --report standard_conforming_strings=on node1.ini node2.ini
 ";
 
 const STUB: &str = "\

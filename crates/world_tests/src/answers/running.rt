@@ -5,7 +5,7 @@ use std::process::Abort;
 use std::test::Fail;
 
 pub(super) const SERVE: &str =
-    "serve --front <PORT> --seed <HEX64> [--boot <N>] [--stand-in] <FILE>...";
+    "serve --front <PORT> --seed-file <FILE> [--boot <N>] [--report <NAME=VALUE>]... <FILE>...";
 
 pub(super) const STUB: &str = "stub [--byte] <PORT>";
 
