@@ -3,7 +3,7 @@ use crate::caller::Caller;
 use crate::group::ANY_PORT;
 use crate::host::TestHost;
 use crate::reported::{LOGIN, PARIS_LOGIN, TOLD};
-use crate::scripted::{Script, start, start_in_parts};
+use crate::scripted::{Script, start};
 use std::io::{ErrorKind, Read, Write};
 use std::net::TcpListener;
 use std::test::Fail;
@@ -65,67 +65,6 @@ fn refused_logins_are_in_the_log(rt: HostRuntime) -> Result<(), Fail> {
     let fields = "error=\"the server asks for authentication\" method=5";
     let listener = TcpListener::bind(&rt, ANY_PORT)?;
     expect_refused(&rt, listener, ASKED, fields)
-}
-
-// A read of a login that comes in these parts returns the first, and the log has these fields.
-fn expect_refused_in_parts<R: TestHost>(
-    rt: &R,
-    listener: TcpListener,
-    parts: &'static [&'static [u8]],
-    fields: &str,
-) -> Result<(), Fail> {
-    let server = start_in_parts(rt, listener, parts)?;
-    let caller = Caller::new(rt, server, TOLD)?;
-    let mut link = caller.open(rt)?;
-    let mut buffer = [0; 1_024];
-    let count = link.read(&mut buffer)?;
-    assert_eq!(rt; Some(count), parts.first().map(|part| part.len()));
-    caller.expect_line(rt, LOGIN_FAILED, fields)
-}
-
-// An error of which the head comes first, or 20 bytes.
-#[test]
-fn an_error_in_parts_is_in_the_log(rt: HostRuntime) -> Result<(), Fail> {
-    const AFTER_HEAD: &[&[u8]] = &[
-        b"E\0\0\0\x2c",
-        b"SFATAL\0VFATAL\0",
-        b"C53300\0Mtoo many clients\0\0",
-    ];
-    const LATER: &[&[u8]] = &[
-        b"E\0\0\0\x2cSFATAL\0VFATAL\0C",
-        b"53300\0Mtoo many clients\0\0",
-    ];
-    let fields = "code=53300 message=\"too many clients\"";
-    for parts in [AFTER_HEAD, LATER] {
-        let listener = TcpListener::bind(&rt, ANY_PORT)?;
-        expect_refused_in_parts(&rt, listener, parts, fields)?;
-    }
-    Ok(())
-}
-
-// An error of which only the head comes, behind which the connection is ended, or stays open.
-#[test]
-fn a_cut_error_is_in_the_log(rt: HostRuntime) -> Result<(), Fail> {
-    const HEAD: &[u8] = b"E\0\0\0\x2c";
-    const ENDED: &[&[u8]] = &[HEAD];
-    const OPEN: &[Script] = &[Script {
-        login: HEAD,
-        answers: &[],
-    }];
-    let fields = "code=\"\" message=\"\"";
-    let listener = TcpListener::bind(&rt, ANY_PORT)?;
-    expect_refused_in_parts(&rt, listener, ENDED, fields)?;
-    let listener = TcpListener::bind(&rt, ANY_PORT)?;
-    expect_refused(&rt, listener, OPEN, fields)
-}
-
-// A request for SASL of which the code comes first.
-#[test]
-fn a_request_in_parts_is_in_the_log(rt: HostRuntime) -> Result<(), Fail> {
-    const SASL: &[&[u8]] = &[b"R\0\0\0\x17\0\0\0\x0a", b"SCRAM-SHA-256\0\0"];
-    let fields = "error=\"the server asks for authentication\" method=10";
-    let listener = TcpListener::bind(&rt, ANY_PORT)?;
-    expect_refused_in_parts(&rt, listener, SASL, fields)
 }
 
 // A server that ends the connection in place of an answer.
