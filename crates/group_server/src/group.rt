@@ -341,6 +341,10 @@ fn calling_at<L: Drop>(
     // The node is new: it has the settings of its place, and the boot of the options.
     ensures fresh { IfOk result (λ calling. ForSome (slice_get (arc_value group.now) place)
         (λ settings. IsFresh settings (options.now.boot * 2 ^ 32) calling.caller.start.view)) }
+    // It serves with the settings of its place.
+    ensures group { IfOk result (λ calling.
+        arc_value (arc_value calling.node).group ≡ arc_value group.now) }
+    ensures place { IfOk result (λ calling. (arc_value calling.node).place ≡ place) }
     // Its secrets are those of the options' seed and of its number.
     ensures seeded { IfOk result (λ calling. ForSome (slice_get (arc_value group.now) place)
         (λ settings. (arc_value calling.node).secrets

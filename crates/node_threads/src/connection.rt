@@ -48,6 +48,7 @@ where
         limit.now ⟦<O::Stream as WriteCalls>⟧.wrote ⟦<O::Stream as ReadCalls>⟧.gave C.wrote C.gave
         (IsLogin limit.now ⟦<O::Stream as WriteCalls>⟧.wrote ⟦<O::Stream as ReadCalls>⟧.gave
         (O.connects opener.now) settings.databases)
+        (arc_value calling.old.node).secrets
         (IsCarried ⟦<O::Stream as WriteCalls>⟧.wrote ⟦<O::Stream as ReadCalls>⟧.gave
         (O.cancels opener.now))
         (IsCarried ⟦<O::Stream as WriteCalls>⟧.wrote ⟦<O::Stream as ReadCalls>⟧.gave
@@ -116,7 +117,7 @@ where
         (IsLogin
         visit.entry.limit.now ⟦<O::Stream as WriteCalls>⟧.wrote ⟦<O::Stream as ReadCalls>⟧.gave
         (O.connects visit.entry.opener.now) settings.databases)
-        visit.entry.reports.now (place_of name.now settings.databases) kind cutter.old.bytes
+        (arc_value calling.old.node).secrets visit.entry.reports.now (place_of name.now settings.databases) kind cutter.old.bytes
         calls cutter.new.bytes calling.old.caller calling.new.caller)) }
 {
     let Some(database) = calling.node.settings().find_database(name) else {

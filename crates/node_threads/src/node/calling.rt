@@ -118,6 +118,10 @@ impl<L: Drop> Calling<L> {
         // The node is new: it has the settings of its place, and this boot.
         ensures fresh { IfOk result (λ calling. ForSome (slice_get (arc_value group.now) place)
             (λ settings. IsFresh settings boot calling.caller.start.view)) }
+        // It serves with the settings of its place.
+        ensures group { IfOk result (λ calling.
+            arc_value (arc_value calling.node).group ≡ arc_value group.now) }
+        ensures place { IfOk result (λ calling. (arc_value calling.node).place ≡ place) }
         // Its secrets are those of the seed and of its number.
         ensures seeded { IfOk result (λ calling. ForSome (slice_get (arc_value group.now) place)
             (λ settings. (arc_value calling.node).secrets ≡ drawing_of seed settings.peer_id)) }

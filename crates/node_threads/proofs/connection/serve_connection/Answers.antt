@@ -1,3 +1,4 @@
+use Rattle.std.specs.Arc.{arc_value}
 use Rattle.std.proofs.Common.{◌≡◌, ◌∙◌, inl, inr, rules, ℕ, List, ap, subst}
 use Rattle.pg_ids.specs.declared.any_key.Kind.{Kind}
 use Rattle.startup.specs.Replies.{Report}
@@ -8,6 +9,7 @@ use Rattle.node_threads.specs.StreamCalls.{SomeCalls}
 use Rattle.node_threads.specs.declared.login.first_packets.Opened.TheVariants.{Session}
 use Rattle.node_threads.specs.ConsoleSession.{ServesConsole}
 use Rattle.node_threads.specs.Leasing.{Logins}
+use Rattle.node_threads.specs.Secrets.{Drawing}
 use Rattle.node_threads.specs.Connection.{place_of, ServesAt}
 use Rattle.node_threads.proofs.connection.serve_connection.Goals as goal
 
@@ -24,15 +26,15 @@ console_of limit at wrote gave a b reports settings caller kept left is serves =
 -- a session on the database with a name, which was read
 session_of : {T C : Type 0} (limit : ℕ) (wrote gave : Effect T) (logins : Logins)
     (wrote' gave' : Effect C)
-    (a b : C) (reports : List Report) (settings : NodeSettings) (read name : List ℕ)
-    (kind : Kind) (kept left : List ℕ) (old new : CallerView) → read ≡ name
-    → SomeCalls wrote' gave' a b (λ calls. ServesAt limit wrote gave logins reports
+    (a b : C) (secrets : Drawing) (reports : List Report) (settings : NodeSettings)
+    (read name : List ℕ) (kind : Kind) (kept left : List ℕ) (old new : CallerView) → read ≡ name
+    → SomeCalls wrote' gave' a b (λ calls. ServesAt limit wrote gave logins secrets reports
     (place_of read settings.databases) kind kept calls left old new)
-    → SomeCalls wrote' gave' a b (λ calls. ServesAt limit wrote gave logins reports
+    → SomeCalls wrote' gave' a b (λ calls. ServesAt limit wrote gave logins secrets reports
     (place_of name settings.databases) kind kept calls left old new)
-session_of limit wrote gave logins wrote' gave' a b reports settings read name kind kept left old new is
+session_of limit wrote gave logins wrote' gave' a b secrets reports settings read name kind kept left old new is
     serves =
-    subst (λ (n : List ℕ). SomeCalls wrote' gave' a b (λ calls. ServesAt limit wrote gave logins reports
+    subst (λ (n : List ℕ). SomeCalls wrote' gave' a b (λ calls. ServesAt limit wrote gave logins secrets reports
     (place_of n settings.databases) kind kept calls left old new)) is serves
 
 pub returns-then-eq-clause-served : goal.returns-then-eq-clause-served
@@ -60,7 +62,7 @@ returns-in-Session-clause-served g c settings is = (
   inr (
     search rules,
     c.serve_session.new.cutter.bytes,
-    session_of _ _ _ _ _ _ _ _ _ settings c.as_str-name.result.now _ _ _ _ _ _
+    session_of _ _ _ _ _ _ _ _ (arc_value c.args.calling.now.node).secrets _ settings c.as_str-name.result.now _ _ _ _ _ _
         c.as_str-name.ensures.value (c.serve_session.ensures.served settings is),
   ),
 )
