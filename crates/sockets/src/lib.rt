@@ -24,6 +24,8 @@ mod link_stream;
 mod login_answer;
 mod origin;
 mod poll;
+#[cfg(test)]
+mod tests;
 
 pub use accept_threads::AcceptThreads;
 pub use cancel_end::{CancelEnd, Target};

@@ -4,6 +4,8 @@
 mod limits;
 mod log;
 mod metrics;
+#[cfg(test)]
+mod tests;
 
 pub use log::{EVENTS, Event, Field, KINDS, Level, Log, Value, line_of, put_fields};
 pub use metrics::{

@@ -7,23 +7,7 @@ mod boards;
 #[cfg(test)]
 mod checks;
 #[cfg(test)]
-mod client_lines;
-#[cfg(test)]
 mod clients;
-#[cfg(test)]
-mod connections;
-#[cfg(test)]
-mod cut_off;
-#[cfg(test)]
-mod descriptors;
-#[cfg(test)]
-mod dropped;
-#[cfg(test)]
-mod ends;
-#[cfg(test)]
-mod final_error;
-#[cfg(test)]
-mod first_packets;
 #[cfg(test)]
 mod forwards;
 #[cfg(test)]
@@ -31,19 +15,11 @@ mod frames;
 #[cfg(test)]
 mod holds;
 #[cfg(test)]
-mod host;
-#[cfg(test)]
 mod key_slots;
 #[cfg(test)]
 mod keys;
 #[cfg(test)]
-mod levels;
-#[cfg(test)]
 mod links;
-#[cfg(test)]
-mod log_lines;
-#[cfg(test)]
-mod login_answers;
 #[cfg(test)]
 mod logins;
 #[cfg(test)]

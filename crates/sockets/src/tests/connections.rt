@@ -1,5 +1,5 @@
 //! Which connections are admitted, and which are evicted for them.
-use sockets::{Capacity, Connections, PendingId};
+use crate::{Capacity, Connections, PendingId};
 use std::process::Abort;
 use std::time::Duration;
 

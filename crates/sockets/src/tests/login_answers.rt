@@ -1,5 +1,5 @@
 //! Why a server refuses a login, for the log.
-use sockets::{LoginAnswer, Refusal};
+use crate::{LoginAnswer, Refusal};
 use std::process::Abort;
 
 // AuthenticationOk, requests for a password and for SASL, a ParameterStatus and an ErrorResponse

@@ -1,7 +1,7 @@
 //! The lines of the log about clients.
-use crate::host::{ANY_PORT, TestHost};
-use crate::log_lines::{expect_line, expect_no_line};
-use sockets::{
+use crate::tests::host::{ANY_PORT, TestHost};
+use crate::tests::log_lines::{expect_line, expect_no_line};
+use crate::{
     Capacity, ClientStream, Connection, ConnectionContext, ConnectionLimit, Deadline, Serves,
 };
 use std::io::Write;

@@ -1,8 +1,8 @@
 //! Clients whose connection is closed before their first packets were complete: what they get, and
 //! the lines of the log.
-use crate::host::{ANY_PORT, TestHost};
-use crate::log_lines::{expect_line, expect_no_line};
-use sockets::{
+use crate::tests::host::{ANY_PORT, TestHost};
+use crate::tests::log_lines::{expect_line, expect_no_line};
+use crate::{
     Capacity, ClientStream, Connection, ConnectionContext, ConnectionLimit, Deadline, DrainSignal,
     PendingId, Serves, end, wait_readable,
 };

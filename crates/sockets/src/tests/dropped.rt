@@ -1,5 +1,5 @@
 //! The start-up parameters that have no effect.
-use sockets::put_dropped;
+use crate::put_dropped;
 use std::test::Fail;
 
 // What follows a start-up packet's code, and the names that are found there.

@@ -1,5 +1,5 @@
 //! The number of connections that a process's descriptors allow.
-use sockets::Needs;
+use crate::Needs;
 
 // Returns the number of connections, and that of the other descriptors.
 fn shares(needs: Needs, descriptors: usize) -> (usize, usize) {

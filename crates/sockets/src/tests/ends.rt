@@ -1,12 +1,12 @@
 //! The lines of the log about start-up parameters that have no effect, and how cancel requests
 //! end.
-use crate::host::{ANY_PORT, TestHost};
-use crate::log_lines::{expect_line, expect_no_line};
-use pg_ids::DatabaseNo;
-use sockets::{
+use crate::tests::host::{ANY_PORT, TestHost};
+use crate::tests::log_lines::{expect_line, expect_no_line};
+use crate::{
     CancelEnd, Capacity, ClientStream, Connection, ConnectionContext, ConnectionLimit, Deadline,
     Serves, Target,
 };
+use pg_ids::DatabaseNo;
 use std::io::{Read, Write};
 use std::net::{TcpListener, TcpStream};
 use std::test::Fail;

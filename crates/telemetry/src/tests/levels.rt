@@ -1,9 +1,9 @@
 //! Which lines the log has, by their level, and how many of dropped parameters.
-use crate::log_lines::{expect_line, expect_no_line};
+use crate::tests::log_lines::{expect_line, expect_no_line};
+use crate::{Event, Level, Log};
 use std::test::Fail;
 use std::thread;
 use std::time::Duration;
-use telemetry::{Event, Level, Log};
 
 // A warning, a notice and an info.
 const EVENTS: [Event; 3] = [Event::LinkLost, Event::LinkClosed, Event::CancelEnded];

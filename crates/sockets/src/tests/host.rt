@@ -1,5 +1,5 @@
 //! What tests of connections need.
-use sockets::Machine;
+use crate::Machine;
 use std::alloc::AllocGlobal;
 use std::process::Abort;
 

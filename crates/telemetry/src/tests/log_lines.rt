@@ -1,11 +1,11 @@
 //! The lines of the log.
+use crate::{Event, Field, Level, Log, Value, line_of};
 use std::alloc::{AllocGlobal, Global};
 use std::process::Abort;
 use std::sync::Wait;
 use std::test::Fail;
 use std::time::{Clock, Duration};
 use std::{io, thread};
-use telemetry::{Event, Field, Level, Log, Value, line_of};
 
 // A clock that stands.
 #[derive(Clone, Copy)]

@@ -1,5 +1,5 @@
 //! How much of a connection's first packets is read, in pieces of every size.
-use sockets::{Asks, FirstPacket, Next};
+use crate::{Asks, FirstPacket, Next};
 use std::process::Abort;
 
 // Packets of the PostgreSQL manual, "Message Formats": a CancelRequest with a key of 8 bytes, and

@@ -1,5 +1,5 @@
 //! Which of a server's last messages its client gets.
-use sockets::find_error;
+use crate::find_error;
 use std::process::Abort;
 use std::test::Fail;
 

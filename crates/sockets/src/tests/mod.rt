@@ -1,0 +1,12 @@
+//! Tests of connections by public names alone.
+mod client_lines;
+mod connections;
+mod cut_off;
+mod descriptors;
+mod dropped;
+mod ends;
+mod final_error;
+mod first_packets;
+mod host;
+mod log_lines;
+mod login_answers;

@@ -1,0 +1,3 @@
+//! Tests of the log by public names alone.
+mod levels;
+mod log_lines;
