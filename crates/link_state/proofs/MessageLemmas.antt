@@ -2,7 +2,7 @@
 use Rattle.std.proofs.Common.{◌≡◌, ℕ, ◌+◌, ◌-◌, ◌/◌, ◌%◌, ◌^◌, ◌<◌, ◌≤◌, Bool, true, false, List, [], ◌∷◌, ◌++◌, length, take, drop, get_or, inl, inr, refl, sym, ap, ◌∙◌, subst, arith, append_assoc, append-nil, length-append, length-drop, length-take}
 use Rattle.std.specs.List.{AllByRecursion}
 use Rattle.std.proofs.lemmas.Bool.{cases_lt}
-use Rattle.std.proofs.lemmas.List.{take_at, drop_at, take_all, take-append-le, length-take-le, get_or-take, drop_all, get_or_append_left, get_or-append_right, drop-take}
+use Rattle.std.proofs.lemmas.List.{take_at, drop_at, take_all, take-append-le, length-take-le, get_or-take, drop_all, get_or_append_left, get_or-append_right, get_or_past, drop-take}
 use Rattle.std.proofs.lemmas.List.Concat.{flat_map-append}
 use Rattle.pg_frames.specs.declared.frame.Frame.{Frame}
 use Rattle.pg_frames.specs.FrameText.{text, texts}
@@ -122,6 +122,13 @@ bytes_more xs ys these those i =
     elim (cases_lt i (length xs)) [
       | inl before ↦ subst (λ (n : ℕ). n < 256) (sym (get_or_append_left xs ys 0 i before)) (these i)
       | inr past ↦ subst (λ (n : ℕ). n < 256) (sym (get_or-append_right xs ys (length xs) i 0 refl past)) (those (i - length xs))
+    ]
+
+pub bytes_left : (xs ys : List ℕ) → AreBytes (xs ++ ys) → AreBytes xs
+bytes_left xs ys those i =
+    elim (cases_lt i (length xs)) [
+      | inl before ↦ subst (λ (n : ℕ). n < 256) (get_or_append_left xs ys 0 i before) (those i)
+      | inr past ↦ subst (λ (n : ℕ). n < 256) (sym (get_or_past xs i 0 past)) (omega arith)
     ]
 
 -- what is kept of a front and of what follows it

@@ -1,17 +1,19 @@
 -- What a watch has seen, and what it says of it.
-use Rattle.std.proofs.Common.{◌≡◌, ◌≢◌, ℕ, ◌+◌, ◌-◌, ◌<◌, ◌≤◌, ◌==◌, Bool, true, false, if◌then◌else◌, Option, Some, None, IfSome, IfNone, List, [], ◌∷◌, ◌++◌, length, take, drop, map, get_or, set, slice_get, filter_map, zero, suc, refl, sym, ap, ◌∙◌, subst, arith, add-one, append_assoc, append-nil}
+use Rattle.std.proofs.Common.{◌≡◌, ◌≢◌, ℕ, ◌+◌, ◌-◌, ◌<◌, ◌≤◌, ◌==◌, Bool, true, false, if◌then◌else◌, Option, Some, None, IfSome, IfNone, List, [], ◌∷◌, ◌++◌, length, take, drop, map, get_or, set, slice_get, filter_map, zero, suc, inl, inr, refl, sym, ap, ◌∙◌, subst, arith, add-one, append_assoc, append-nil}
 use Rattle.std.specs.List.{AllByRecursion, last_or, cons_option}
 use Rattle.std.specs.Option.{option_map, option_or, option_to_list}
-use Rattle.std.proofs.lemmas.List.{take_all, take_more, length-take-le, drop_more, map-append, map-set, length-map, set_at, get_or_at}
+use Rattle.std.proofs.lemmas.Bool.Decides.{eqb_tells}
+use Rattle.std.proofs.lemmas.List.{take_all, take_more, length-take-le, drop_more, map-append, map-set, length-map, set_at, get_or_at, get_or_append_left}
 use Rattle.startup.specs.Replies.{Report}
 use Rattle.pg_frames.specs.declared.frame.Frame.{Frame}
 use Rattle.link_state.specs.declared.difference.Difference.{Difference}
 use Rattle.link_state.specs.declared.watched.Watched.{Watched}
 use Rattle.link_state.specs.declared.incoming.Incoming.{Incoming}
-use Rattle.link_state.specs.Watch.{Begins, value_in, value_of, reported, AreAsTold, shown, IsChange, WatchedValue, WatchState, told_one, told_of, IsBroken, Stands, Follows, HasSeen}
-use Rattle.link_state.specs.Watched.{seen, all_seen, fresh, judged, noted, Suffices, IsSame, IsChangeOf, Comes, IsWhole, state_of}
+use Rattle.link_state.specs.HeadLength.{length_in, AreBytes}
+use Rattle.link_state.specs.Watch.{Begins, Awaits, IsComing, value_in, value_of, reported, AreAsTold, shown, IsChange, WatchedValue, WatchState, told_one, told_of, IsBroken, Stands, Follows, HasSeen}
+use Rattle.link_state.specs.Watched.{seen, all_seen, fresh, judged, noted, Suffices, IsSame, IsChangeOf, Comes, IsWhole, IsOther, state_of}
 use Rattle.link_state.proofs.ValueLemmas.{value_cut, whole_by_front}
-use Rattle.link_state.proofs.MessageLemmas.{none_empty, none_awaits, none_broken, begins_once, begins_more, begins_frame, broken_more, frame_of, kind_kept, body_kept}
+use Rattle.link_state.proofs.MessageLemmas.{none_empty, none_awaits, none_broken, begins_once, begins_more, begins_frame, length_stays, broken_more, bytes_left, frame_of, kind_kept, body_kept}
 
 -- all but the rest was read
 pub record HasSeenBefore (watch : WatchState) (all rest : List ℕ) : Type 0 where
@@ -154,6 +156,53 @@ seen_whole all now old new next false before piece going is h comes five enough 
     (whole_seen all old new next before piece h comes five enough least starts)
 seen_whole all now old new next true before piece going is h comes five enough least starts = absurd (cc)
 
+none_left : (rest : List ℕ) (left : ℕ) → left ≡ 5 → left + length rest ≡ 5 → rest ≡ []
+none_left [] left is awaits = refl
+none_left (x ∷ xs) left is awaits = absurd (omega (arith, is, awaits))
+
+other_kind : (kind : ℕ) → kind ≢ 83 → kind == 83 ≡ false
+other_kind kind other =
+    elim (eqb_tells kind 83) [
+      | inl same ↦ absurd (other same.1)
+      | inr apart ↦ apart.0
+    ]
+
+-- a whole message at the front of bytes
+front_whole : (limit count : ℕ) (bytes piece after : List ℕ) → AreBytes bytes → bytes ≡ piece ++ after → length piece ≡ count → 4 ≤ length_in bytes → count ≡ 1 + length_in bytes → IsWhole limit (take limit piece) piece
+front_whole limit count bytes piece after each parts long low measured =
+    let head : 5 ≤ length piece = omega (arith, long, low, measured) in
+    let same : length_in bytes ≡ length_in piece = ap length_in parts ∙ length_stays piece after head in
+    record {
+      front_is = refl;
+      bytes = bytes_left piece after (subst AreBytes parts each);
+      head = head;
+      low = omega (arith, low, same);
+      measured = omega (arith, long, measured, same);
+    }
+
+-- a whole message that is no ParameterStatus was passed over
+pub seen_other : (watch : WatchState) (count : ℕ) (before bytes piece after : List ℕ) → watch.stopped ≡ false → AreBytes bytes → IsOther watch.left watch.in_body count bytes → bytes ≡ piece ++ after → length piece ≡ count → HasSeen watch before → HasSeen watch (before ++ piece)
+seen_other watch count before bytes piece after going each is parts long h =
+    let there : IsComing watch.limit watch.left watch.in_body watch.front h.rest =
+    subst (λ (b : Bool). Stands b watch h.rest) going h.stands in
+    let awaits : Awaits false watch.left h.rest =
+    subst (λ (b : Bool). Awaits b watch.left h.rest) is.outside there.awaits in
+    let none : h.rest ≡ [] = none_left h.rest watch.left is.begins awaits in
+    let whole = front_whole watch.limit count bytes piece after each parts long is.low is.measured in
+    let frame = frame_of watch.limit (take watch.limit piece) piece whole in
+    let f = frame.0 in
+    let some : 0 < length piece = omega (arith, whole.head) in
+    let first : get_or bytes 0 0 ≡ f.kind =
+    ap (λ (xs : List ℕ). get_or xs 0 0) parts ∙ get_or_append_left piece after 0 0 some ∙ sym frame.3 in
+    let kind : f.kind == 83 ≡ false = other_kind f.kind (λ e. is.kind (first ∙ e)) in
+    record {
+      frames = h.frames ++ f ∷ [];
+      rest = [];
+      begins = begins_frame before piece h.rest h.frames f h.begins frame.1 (ap (λ (xs : List ℕ). xs ++ piece) none ∙ frame.2);
+      each = all_unchanged h.frames f watch.watched kind h.each;
+      stands = subst (λ (xs : List ℕ). Stands watch.stopped watch xs) none h.stands;
+    }
+
 -- it has stopped, and sees nothing of what follows
 seen_stopped : (watch : WatchState) (before rest : List ℕ) → watch.stopped ≡ true → HasSeen watch before → HasSeen watch (before ++ rest)
 seen_stopped watch before rest stopped h =
@@ -191,6 +240,14 @@ seen_nothing watch bytes before h = record { so_far = before; joined = refl; see
 all_fresh : (reports : List Report) → AllByRecursion (Follows []) (map fresh reports)
 all_fresh [] = tt
 all_fresh (r ∷ rs) = (refl, all_fresh rs)
+
+-- nothing was reported of it yet
+pub fresh_same : (all : List WatchedValue) (reports : List Report) → all ≡ map fresh reports → AllByRecursion IsSame all
+fresh_same all reports is = subst (AllByRecursion IsSame) (sym is) (each_same reports)
+  where
+    each_same : (reports : List Report) → AllByRecursion IsSame (map fresh reports)
+    each_same [] = tt
+    each_same (r ∷ rs) = (tt, each_same rs)
 
 fresh_told : (reports : List Report) → map told_one (map fresh reports) ≡ reports
 fresh_told [] = refl

@@ -1,5 +1,5 @@
 -- How the code keeps what it watches (internal).
-use Rattle.std.specs.Prelude.{ℕ, ◌≡◌, ◌≢◌, ◌+◌, ◌≤◌, Bool, ◌==◌, List, length, take, drop, slice_index, map, if◌then◌else◌, Some, None, IfSome, Contains}
+use Rattle.std.specs.Prelude.{ℕ, ◌≡◌, ◌≢◌, ◌+◌, ◌≤◌, Bool, false, ◌==◌, List, length, take, drop, slice_index, map, if◌then◌else◌, Some, None, IfSome, Contains}
 use Rattle.std.specs.Option.{option_map}
 use Rattle.std.specs.Option.{option_or}
 use Rattle.std.specs.String.{string_bytes}
@@ -69,6 +69,16 @@ pub record IsWhole (limit : ℕ) (front rest : List ℕ) : Type 0 where
   pub head : 5 ≤ length rest
   pub low : 4 ≤ length_in rest
   pub measured : length rest ≡ 1 + length_in rest
+
+-- nothing of a message has come, and that many bytes at the front are a whole one that is no
+-- ParameterStatus
+pub record IsOther (left : ℕ) (in_body : Bool) (count : ℕ) (bytes : List ℕ) : Type 0 where
+  pub outside : in_body ≡ false
+  pub begins : left ≡ 5
+  pub kind : slice_index bytes 0 ≢ 83
+  pub head : 5 ≤ length bytes
+  pub low : 4 ≤ length_in bytes
+  pub measured : count ≡ 1 + length_in bytes
 
 -- how far a message has come
 abbrev pub ComesTo : Progress → Incoming → List ℕ → Type 0

@@ -40,7 +40,7 @@ pub enum Progress {
 
 impl Incoming {
     ghost use Rattle.link_state.specs.declared.incoming.Progress.TheVariants as progress;
-    ghost use Rattle.link_state.specs.Watched.{Comes, ComesTo};
+    ghost use Rattle.link_state.specs.Watched.{Comes, ComesTo, IsOther};
 
     /// One of which nothing has come. So many bytes of it are kept.
     pub fn new(alloc: Global, limit: usize) -> Result<Incoming, AllocError>
@@ -63,6 +63,25 @@ impl Incoming {
         ensures { result ≡ self.now.left }
     {
         self.left
+    }
+
+    /// How long the message is with which these bytes begin, if nothing of one has come: 0 if it
+    /// isn't whole, has a length field below 4, or is a ParameterStatus.
+    #[inline(always)]
+    pub fn other_len(&self, bytes: &[u8]) -> usize
+        ensures within { result ≤ length bytes.now }
+        ensures other { 0 < result
+            → IsOther self.now.left self.now.in_body result bytes.now }
+        ensures bytes { AreBytes bytes.now }
+    {
+        if self.in_body || self.left != HEAD || bytes.len() < HEAD || bytes[0] == b'S' {
+            return 0;
+        }
+        let length = length_in(bytes);
+        if length < FIELD || length >= bytes.len() {
+            return 0;
+        }
+        length + 1
     }
 
     /// Its next bytes have come, no more than are to come.

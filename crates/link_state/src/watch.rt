@@ -2,7 +2,8 @@
 ghost use Rattle.std.specs.Prelude.{◌≡◌, ◌+◌, ◌<◌, ◌≤◌, ℕ, List, [], ◌∷◌, ◌++◌, false, length, map, option_to_list, slice_get, IfOk, IfNone, IfSome, OnOk};
 ghost use Rattle.pg_frames.specs.declared.frame.Frame.{Frame};
 ghost use Rattle.link_state.specs.Watch.{Begins, AreAsTold, IsChange, HasSeen, encoding, told_of};
-ghost use Rattle.link_state.specs.Watched.{all_seen, fresh, noted};
+ghost use Rattle.std.specs.List.{AllByRecursion};
+ghost use Rattle.link_state.specs.Watched.{all_seen, fresh, noted, IsSame};
 
 use crate::Difference;
 use crate::incoming::{Incoming, Progress};
@@ -19,6 +20,8 @@ pub struct Watch {
     watched: Vec<Watched>,
     incoming: Incoming,
     stopped: bool,
+    // Whether some parameter was reported last with another value than clients get.
+    has_change: bool,
 }
 
 impl Model for Watch {
@@ -46,6 +49,7 @@ impl Watch {
             watched,
             incoming,
             stopped: false,
+            has_change: false,
         })
     }
 
@@ -58,10 +62,28 @@ impl Watch {
     {
         let mut rest = bytes;
         'pieces: while !rest.is_empty() && !self.stopped {
-            let (piece, after) = rest.split_at(self.piece_len(rest));
-            self.read_piece(piece);
-            rest = after;
+            rest = self.read_front(rest);
         }
+    }
+
+    // Reads the message with which these bytes begin, or what belongs to the one that is coming.
+    // Returns what follows. A whole message that is no ParameterStatus changes nothing.
+    #[inline(always)]
+    fn read_front<'a>(&mut self, bytes: &'a [u8]) -> &'a [u8]
+        requires going { self.old.stopped ≡ false }
+        requires some { 0 < length bytes.now }
+        ensures seen { (piece : List ℕ) × (bytes.now ≡ piece ++ result.now)
+            × ((before : List ℕ) → HasSeen self.old before → HasSeen self.new (before ++ piece)) }
+        ensures shorter { length result.now < length bytes.now }
+        ensures told { told_of self.new ≡ told_of self.old }
+    {
+        let other = self.incoming.other_len(bytes);
+        if other > 0 {
+            return bytes.split_at(other).1;
+        }
+        let (piece, after) = bytes.split_at(self.piece_len(bytes));
+        self.read_piece(piece);
+        after
     }
 
     // How many of these bytes belong to the message's head, or to its body.
@@ -76,6 +98,7 @@ impl Watch {
     }
 
     // Reads bytes that belong to one message.
+    #[inline(never)]
     fn read_piece(&mut self, piece: &[u8])
         requires going { self.old.stopped ≡ false }
         requires part { length piece.now ≤ self.old.left }
@@ -87,13 +110,14 @@ impl Watch {
             Progress::More => {}
             Progress::Broken => self.stopped = true,
             Progress::Whole => {
-                judge_message(&mut self.watched, &self.incoming);
+                self.has_change = judge_message(&mut self.watched, &self.incoming, self.has_change);
                 self.incoming.restart();
             }
         }
     }
 
     /// What the server reports otherwise than clients get it, if anything.
+    #[inline]
     pub fn differs(&self) -> Option<Difference<'_>>
         // There is nothing exactly where, of each parameter, the last value in the messages so far
         // is the one that clients get.
@@ -104,19 +128,27 @@ impl Watch {
             → HasSeen self.now bytes → Begins bytes frames rest
             → IfSome result (IsChange (told_of self.now) frames) }
     {
+        if !self.has_change {
+            return None;
+        }
         first_change(&self.watched)
     }
 }
 
-// Takes note of a whole message.
-fn judge_message(watched: &mut Vec<Watched>, message: &Incoming)
-    requires { 5 ≤ length message.now.front.items }
-    ensures { all_seen watched.new.items
+// Takes note of a whole message. Returns whether some parameter was reported last with another value
+// than clients get.
+fn judge_message(watched: &mut Vec<Watched>, message: &Incoming, had_change: bool) -> bool
+    requires head { 5 ≤ length message.now.front.items }
+    requires same { had_change ≡ false → AllByRecursion IsSame (all_seen watched.old.items) }
+    ensures noted { all_seen watched.new.items
         ≡ noted message.now.front.items (all_seen watched.old.items) }
+    ensures same { result ≡ false → AllByRecursion IsSame (all_seen watched.new.items) }
 {
-    if let Some(body) = message.status() {
-        judge_all(watched, body);
-    }
+    let Some(body) = message.status() else {
+        return had_change;
+    };
+    judge_all(watched, body);
+    first_change(watched).is_some()
 }
 
 // All parameters that are watched.

@@ -87,13 +87,27 @@ impl Inspector {
         }
     }
 
-    /// Returns whether received bytes needn't be inspected.
+    /// Returns whether it is the inspector of a link that a client has or had.
     #[inline]
-    pub fn is_passive(&self) -> bool {
-        self.watch.is_none() && matches!(self.stage, Stage::Link)
+    pub fn is_of_used_link(&self) -> bool {
+        matches!(self.stage, Stage::Link)
+    }
+
+    /// Returns whether it compares what the server reports with what clients get.
+    #[inline]
+    pub fn is_watching(&self) -> bool {
+        self.watch.is_some()
+    }
+
+    /// Compares what the server reports in these received bytes with what clients get.
+    pub fn watch(&mut self, bytes: &[u8]) {
+        if let Some(watch) = &mut self.watch {
+            watch.read(bytes);
+        }
     }
 
     /// Returns whether the server reports another value than clients get.
+    #[inline]
     pub fn differs(&self) -> bool {
         match &self.watch {
             Some(watch) => watch.differs().is_some(),
@@ -104,9 +118,7 @@ impl Inspector {
     /// Inspects received bytes. Fails if they belong to a login and the server reports another value
     /// than clients get.
     pub fn inspect<R: Wait + Clock>(&mut self, rt: &R, bytes: &[u8]) -> io::Result<()> {
-        if let Some(watch) = &mut self.watch {
-            watch.read(bytes);
-        }
+        self.watch(bytes);
         match &mut self.stage {
             Stage::Login(login) => {
                 login.answer.read(bytes);

@@ -172,7 +172,7 @@ impl<M: Machine> Inside<M> {
     // Returns whether a read of the stream may begin with a read of the socket.
     #[inline(always)]
     fn is_plain(&self) -> bool {
-        self.deadline.is_none() && self.unwritten.is_empty() && self.inspector.is_passive()
+        self.deadline.is_none() && self.unwritten.is_empty() && self.inspector.is_of_used_link()
     }
 
     // Reads, and inspects what is received.
@@ -202,6 +202,12 @@ impl<M: Machine> Inside<M> {
         }
         self.check_client()?;
         self.read(buffer)
+    }
+
+    // Compares what the server of a link reports in received bytes with what clients get.
+    #[inline(never)]
+    fn watch(&mut self, buffer: &[u8], count: usize) {
+        self.inspector.watch(buffer.get(..count).unwrap_or(&[]));
     }
 
     // Logs that the peer has closed the connection.
@@ -308,7 +314,12 @@ impl<M: Machine> Read for LinkStream<M> {
                 inside.log_end();
                 Ok(0)
             }
-            Ok(count) => Ok(count),
+            Ok(count) => {
+                if inside.inspector.is_watching() {
+                    inside.watch(buffer, count);
+                }
+                Ok(count)
+            }
             Err(error) => with_error(inside.read_after_error(Cause::of(&error), buffer)),
         }
     }

@@ -18,3 +18,8 @@ pub returns-clause-some : goal.returns-clause-some
 returns-clause-some c =
     λ bytes frames rest h begins. IfSome_then c.first_change.result c.first_change.ensures.some (λ change is.
     says_change c.args.self.now bytes frames rest change h begins (subst (λ (all : List WatchedValue). IsChangeOf all change) (all_is c) is))
+
+pub returns-then-not-self-clause-none : goal.returns-then-not-self-clause-none
+returns-then-not-self-clause-none c =
+    λ bytes frames rest h begins. says_same c.args.self.now bytes frames rest h begins
+    (subst (AllByRecursion IsSame) (ap (λ (w : WatchState). w.watched) c.self.view_is) (c.self.invariant.same c.if-not-self.true))
