@@ -1,3 +1,3 @@
 pub mod MessageLemmas
 pub mod TextLemmas
-pub mod QueryLemmas
+pub mod RequestLemmas

@@ -1,7 +1,7 @@
 pub mod Acts
 pub mod ClientMessage
 pub mod LinkMessage
-pub mod Query
+pub mod Request
 pub mod Session
 pub mod Stages
 pub mod Text

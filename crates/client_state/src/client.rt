@@ -17,8 +17,14 @@ use std::marker::Model;
 // How many bytes of memory a session keeps at most for what it gathers.
 const KEPT: usize = 1_024;
 
-// How many bytes the memory has into which a session's streams are read.
-const ROOM: usize = 2_048;
+// How many bytes the memory has into which a session's streams are read: until a read filled it,
+// and from then on.
+const ROOM: usize = 512;
+
+const GROWN_ROOM: usize = 2_048;
+
+// How many bytes the memory has for what one read didn't return whole.
+const LARGE_ROOM: usize = 16_384;
 
 /// A client's session, from its login on. In contracts it is its limit, its database, whether it holds a
 /// lease, how many requests are outstanding, and the texts that it has gathered for its next
@@ -32,8 +38,9 @@ pub struct Client {
     gathered: Vec<u8>,
     // How many bytes a group of messages had that ended it.
     refused: Option<usize>,
-    // Memory to be read into, if it is kept.
+    // Memory to be read into, if it is kept, and how many bytes it is to have.
     room: Vec<u8>,
+    room_len: usize,
 }
 
 // A request is outstanding only on a lease, and one at most, since the next is read after its
@@ -62,7 +69,8 @@ impl Model for Client {
     } };
 
     ghost invariant = { λ c. (length c.gathered.items ≤ c.limit)
-        × IfSome c.refused (λ bytes. c.limit < bytes) };
+        × IfSome c.refused (λ bytes. c.limit < bytes)
+        × (512 ≤ c.room_len) × (c.room_len ≤ 2048) };
 }
 
 impl Client {
@@ -87,6 +95,7 @@ impl Client {
             gathered: Vec::new(alloc),
             refused: None,
             room: Vec::new(alloc),
+            room_len: ROOM,
         }
     }
 
@@ -237,24 +246,40 @@ impl Client {
         self.gathered.clear();
     }
 
-    /// Memory of 2,048 bytes, to be read into. It is made where none is kept.
+    /// Memory to be read into: 512 bytes, and once a read filled it, 2,048. It is made where none
+    /// is kept.
     pub fn take_room(&mut self) -> Result<Vec<u8>, AllocError>
-        ensures room { IfOk result (λ room. vec_len room ≡ 2048) }
+        ensures least { IfOk result (λ room. 512 ≤ vec_len room) }
+        ensures most { IfOk result (λ room. vec_len room ≤ 2048) }
         ensures session { self.new ≡ self.old }
     {
         let room = std::mem::replace(&mut self.room, Vec::new(self.alloc));
-        if room.len() == ROOM {
+        if room.len() == self.room_len {
             Ok(room)
         } else {
-            zeros(self.alloc, ROOM)
+            zeros(self.alloc, self.room_len)
         }
     }
 
-    /// Takes memory that `take_room` may hand out next.
-    pub fn keep_room(&mut self, room: Vec<u8>)
+    /// Takes memory into which this many bytes were read. `take_room` may hand it out next.
+    pub fn keep_room(&mut self, room: Vec<u8>, count: usize)
         ensures { self.new ≡ self.old }
     {
+        if count == room.len() {
+            self.room_len = GROWN_ROOM;
+        }
         self.room = room;
+    }
+
+    /// Memory of 16,384 bytes, to be read into where one read didn't return a request or a reply
+    /// whole. It is empty where memory is refused.
+    pub fn large_room(&self) -> Vec<u8>
+        ensures { (vec_len result ≡ 16384) ⊎ (vec_len result ≡ 0) }
+    {
+        match zeros(self.alloc, LARGE_ROOM) {
+            Ok(room) => room,
+            Err(_) => Vec::new(self.alloc),
+        }
     }
 
     /// Hands out the first bytes of this memory as a request, which counts as outstanding from then
@@ -275,7 +300,7 @@ impl Client {
         ensures { self.new ≡ self.old }
     {
         let mut text = request.into_vec();
-        if text.len() == ROOM {
+        if text.len() == self.room_len {
             self.room = text;
             return;
         }

@@ -1,11 +1,11 @@
 //! What a client's message asks for.
-ghost use Rattle.std.specs.Prelude.{◌≡◌, ◌+◌, ◌<◌, ◌≤◌, ◌&&◌, IfSome, IsTrue, None, codes, length, nat_le, take};
+ghost use Rattle.std.specs.Prelude.{◌≡◌, ◌+◌, ◌<◌, ◌≤◌, ◌&&◌, IfSome, IsTrue, None, codes, drop, length, nat_le, take};
 ghost use Rattle.std.specs.List.{count_by, list_all};
 ghost use Rattle.client_state.specs.Text.{is_one_of, is_one_string, is_zero};
-ghost use Rattle.client_state.specs.ClientMessage.{by_kind, by_names, by_target};
-ghost use Rattle.client_state.specs.Query.{IsQuery};
+ghost use Rattle.client_state.specs.ClientMessage.{by_kind, by_names, by_target, client_message};
+ghost use Rattle.client_state.specs.Request.{IsRequest};
 
-use pg_frames::{Frame, MessageLimit, whole_head};
+use pg_frames::{Frame, Header, MessageLimit, whole_head};
 use startup::ErrorCode;
 
 // How many bytes the length field takes. It counts them.
@@ -35,21 +35,28 @@ impl ClientMessage {
     ghost use Rattle.client_state.specs.ClientMessage.{client_message};
 
     /// What the frame asks for, after messages of an extended query with this many bytes.
-    #[tactic(auto, unfolding(crate::specs::ClientMessage::client_message))]
     pub fn of(limit: MessageLimit, gathered: usize, frame: &Frame) -> ClientMessage
         requires { gathered ≤ limit }
         ensures { result ≡ client_message limit gathered frame.now }
     {
+        ClientMessage::of_parts(limit, gathered, frame.kind, frame.body.as_slice())
+    }
+
+    // The same of a frame's type and body.
+    #[tactic(auto, unfolding(crate::specs::ClientMessage::client_message))]
+    fn of_parts(limit: MessageLimit, gathered: usize, kind: u8, body: &[u8]) -> ClientMessage
+        requires { gathered ≤ limit }
+        ensures { result ≡ client_message limit gathered (record { kind = kind; body = body.now }) }
+    {
         let limit = limit.get() as usize;
-        let body = frame.body.as_slice();
-        match frame.kind {
+        match kind {
             b'X' => ClientMessage::Terminate,
             b'Q' if gathered == 0 && body.len() <= limit - FIELD_LEN && is_one_string(body) => {
                 ClientMessage::Request
             }
             b'S' if body.is_empty() => ClientMessage::Request,
             b'P' | b'B' | b'D' | b'E' | b'C' if body.len() + HEADER_LEN <= limit - gathered => {
-                by_kind(frame.kind, body)
+                by_kind(kind, body)
             }
             b'H' | b'F' | b'd' | b'c' | b'f' => LEFT_OUT,
             _ => VIOLATION,
@@ -75,21 +82,23 @@ pub fn group_above(limit: MessageLimit, gathered: usize, frame: &Frame) -> Optio
     }
 }
 
-/// Whether these bytes are one whole Query, which is a request where nothing was gathered before.
+/// Whether these bytes are one whole request where nothing was gathered before: a Query, or
+/// messages of an extended query and their Sync.
 #[inline]
-pub fn is_query(limit: MessageLimit, bytes: &[u8]) -> bool
-    ensures { IsTrue result → IsQuery limit bytes.now }
+pub fn is_request(limit: MessageLimit, bytes: &[u8]) -> bool
+    ensures { IsTrue result → IsRequest limit bytes.now }
 {
     match bytes.first() {
-        Some(b'Q') => is_whole_query(limit, bytes),
-        _ => false,
+        // Most are a Query, which takes fewer steps than the messages of a group.
+        Some(b'Q') => is_query(limit, bytes),
+        _ => is_group(limit, bytes),
     }
 }
 
-// The same of bytes that begin as one.
+// Whether these bytes are one whole Query.
 #[inline]
-fn is_whole_query(limit: MessageLimit, bytes: &[u8]) -> bool
-    ensures { IsTrue result → IsQuery limit bytes.now }
+fn is_query(limit: MessageLimit, bytes: &[u8]) -> bool
+    ensures { IsTrue result → IsRequest limit bytes.now }
 {
     match whole_head(limit, bytes) {
         Some(head) if head.kind == b'Q' && head.length + 1 == bytes.len() => {
@@ -97,6 +106,38 @@ fn is_whole_query(limit: MessageLimit, bytes: &[u8]) -> bool
         }
         _ => false,
     }
+}
+
+// Whether these bytes are messages that are gathered, and one with which the request is whole.
+#[inline(never)]
+fn is_group(limit: MessageLimit, bytes: &[u8]) -> bool
+    ensures { IsTrue result → IsRequest limit bytes.now }
+{
+    let mut at = 0;
+    'messages: loop {
+        let rest = bytes.split_at(at).1;
+        let Some(head) = whole_head(limit, rest) else {
+            return false;
+        };
+        match message_at(limit, at, head, rest) {
+            ClientMessage::Gathered => at += 1 + head.length,
+            ClientMessage::Request => return 1 + head.length == rest.len(),
+            _ => return false,
+        }
+    }
+}
+
+// What the message with this head asks for, with which the bytes begin, after messages of an
+// extended query with this many bytes.
+fn message_at(limit: MessageLimit, gathered: usize, head: Header, bytes: &[u8]) -> ClientMessage
+    requires gathered { gathered ≤ limit }
+    requires whole { 1 + head.length ≤ length bytes.now }
+    requires low { 4 ≤ head.length }
+    ensures { result ≡ client_message limit gathered
+        (record { kind = head.kind; body = drop 5 (take (1 + head.length) bytes.now) }) }
+{
+    let (message, _) = bytes.split_at(1 + head.length);
+    ClientMessage::of_parts(limit, gathered, head.kind, message.split_at(HEADER_LEN).1)
 }
 
 // What Parse, Bind, Describe, Execute or Close asks for.

@@ -10,7 +10,7 @@ mod request;
 
 pub use act::{Act, HeadAct};
 pub use client::Client;
-pub use client_message::is_query;
+pub use client_message::is_request;
 pub use link_message::is_passed_on;
 pub use pg_ids::DatabaseNo;
 pub use reply::Reply;

@@ -1,6 +1,6 @@
 -- The next request of a client, or how it leaves.
-use Rattle.std.proofs.Common.{◌≡◌, inl, inr, ℕ, Bool, List, [], ◌∷◌, ◌++◌, length, Some, Ok, Err, refl, sym, ap, ◌∙◌, subst, append_assoc, append-nil}
-use Rattle.std.proofs.lemmas.List.Concat.{flat_map-append}
+use Rattle.std.proofs.Common.{◌≡◌, inl, inr, ℕ, Bool, List, [], ◌++◌, length, Some, Ok, Err, refl, sym, ap, ◌∙◌, subst, append_assoc, append-nil}
+use Rattle.pg_frames.proofs.CutLemmas.{texts-append}
 use Rattle.peer_forward.specs.Calls.{Call, Effect, Makes}
 use Rattle.pg_frames.specs.declared.frame.Frame.{Frame}
 use Rattle.pg_frames.specs.declared.error.FrameError.{FrameError}
@@ -13,7 +13,9 @@ use Rattle.client_state.specs.declared.client_message.ClientMessage.TheVariants 
 use Rattle.node_threads.specs.declared.session.requests.Found.{Found}
 use Rattle.node_threads.specs.declared.session.requests.Found.TheVariants.{More, Request, End}
 use Rattle.node_threads.specs.StreamCalls.{SomeCalls, Read, ReadToEnd}
-use Rattle.node_threads.specs.Asking.{AreGathered, Asks, request_of, Says, Faulty, Silent, NoMemory}
+use Rattle.client_state.specs.Request.{AreGathered, Asks, request_of}
+use Rattle.client_state.proofs.RequestLemmas.{gathered-append}
+use Rattle.node_threads.specs.Asking.{Says, Faulty, Silent, NoMemory}
 use Rattle.node_threads.specs.Progress.{asking}
 use Rattle.node_threads.specs.Finding.{gathering, Comes, Finds, Quits, IsRefusal, AsksNext}
 use Rattle.pg_frames.specs.Pending.{Pending, with_piece}
@@ -32,21 +34,6 @@ quits_faulty limit kept TooLong reply none has wrong =
 quits_faulty limit kept BadType reply none has wrong =
     inl (BadType, refl, fault_here limit kept (Some BadType) none has, refl, wrong)
 quits_faulty limit kept Memory reply none has wrong = inr (inr ([], Read-nothing, wrong))
-
--- gathered messages, and more
-gathered-append : (limit : ℕ) (before : List ℕ) (xs ys : List Frame) → AreGathered limit before xs
-    → AreGathered limit (before ++ texts xs) ys → AreGathered limit before (xs ++ ys)
-gathered-append limit before [] ys first more =
-    subst (λ b. AreGathered limit b ys) (append-nil before) more
-gathered-append limit before (x ∷ xs) ys first more = (
-  first.0,
-  first.1,
-  gathered-append limit (before ++ text x) xs ys first.2
-      (subst (λ b. AreGathered limit b ys) (sym (append_assoc before (text x) (texts xs))) more),
-)
-
-texts-append : (xs ys : List Frame) → texts (xs ++ ys) ≡ texts xs ++ texts ys
-texts-append xs ys = flat_map-append text xs ys
 
 -- so far this was read of the client, and these messages gathered
 pub record Awaiting {T : Type 0} (limit : ℕ) (wrote gave : Effect T) (old : T) (leased : Bool)

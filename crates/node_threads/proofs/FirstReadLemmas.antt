@@ -1,9 +1,8 @@
 -- A client's next request, of which nothing was read before.
 use Rattle.std.proofs.Common.{◌≡◌, ℕ, List, [], ◌∷◌, ◌++◌, Result, Ok, Err, refl, sym, ap, ◌∙◌, subst, append_assoc, append-nil}
 use Rattle.peer_forward.specs.Calls.{Call, Effect, Makes}
-use Rattle.pg_frames.specs.FrameText.{text}
 use Rattle.pg_frames.specs.Pending.{Pending, with_piece}
-use Rattle.client_state.specs.Query.{IsQuery}
+use Rattle.client_state.specs.Request.{request_of, IsRequest}
 use Rattle.node_threads.specs.StreamCalls.{SomeCalls, Read, IsFailedRead}
 use Rattle.node_threads.specs.Asking.{Leaving, Says, Faulty, Silent, NoMemory, Leaves}
 use Rattle.node_threads.specs.Finding.{AsksNext}
@@ -82,23 +81,23 @@ asks_later limit wrote gave c c' c'' old new result left read asks =
       asks_after limit old.bytes bytes read.0 asks.0 result left read.2.1 more,
     )
 
--- a whole Query came
-pub asks_query : {C : Type 0} (limit : ℕ) (wrote gave : Effect C) (c c' : C)
-    (kept bytes request : List ℕ) (call : Call) → kept ≡ [] → IsQuery limit bytes
+-- a whole request came
+pub asks_whole : {C : Type 0} (limit : ℕ) (wrote gave : Effect C) (c c' : C)
+    (kept bytes request : List ℕ) (call : Call) → kept ≡ [] → IsRequest limit bytes
     → request ≡ bytes → Makes wrote gave c (call ∷ []) c' → Read bytes (call ∷ [])
     → SomeCalls wrote gave c c' (λ calls. AsksNext limit kept calls (Ok request) kept)
-asks_query limit wrote gave c c' kept bytes request call none query same made read =
+asks_whole limit wrote gave c c' kept bytes request call none asked same made read =
     let here : SomeCalls wrote gave c c' (λ calls. AsksNext limit [] calls (Ok request) []) = (
       call ∷ [],
       made,
       (
         bytes,
-        [],
-        query.0,
+        asked.0,
+        asked.1,
         read,
-        query.2 ∙ sym (append-nil (text query.0)),
-        record { gathered = tt; is_frame = query.1; means = query.3 },
-        same ∙ query.2,
+        asked.3 ∙ sym (append-nil (request_of asked.0 asked.1)),
+        asked.2,
+        same ∙ asked.3,
       ),
     ) in
     subst (λ (xs : List ℕ). SomeCalls wrote gave c c'

@@ -1,16 +1,16 @@
 -- How a client goes on in an open transaction: its next request, or its end (own, after PgBouncer's
 -- transaction pooling; PostgreSQL manual, "Message Flow").
-use Rattle.std.specs.Prelude.{◌≡◌, ◌⊎◌, ℕ, List, [], ◌∷◌, ◌++◌, length, Some, None}
+use Rattle.std.specs.Prelude.{◌≡◌, ◌⊎◌, ℕ, List, [], ◌++◌, Some, None}
 use Rattle.peer_forward.specs.Calls.{Call}
 use Rattle.pg_frames.specs.declared.frame.Frame.{Frame}
 use Rattle.pg_frames.specs.declared.error.FrameError.{FrameError}
-use Rattle.pg_frames.specs.FrameText.{text, texts, IsFrame, BeginsNoFrame, fault_at}
+use Rattle.pg_frames.specs.FrameText.{texts, BeginsNoFrame, fault_at}
 use Rattle.startup.specs.declared.error_code.ErrorCode.{ErrorCode}
 use Rattle.startup.specs.declared.error_code.ErrorCode.TheVariants.{ProtocolViolation}
 use Rattle.client_state.specs.Acts.{fatal}
-use Rattle.client_state.specs.ClientMessage.{client_message}
 use Rattle.client_state.specs.declared.client_message.ClientMessage.{ClientMessage}
 use Rattle.client_state.specs.declared.client_message.ClientMessage.TheVariants.{Request, Gathered, Terminate, Refused}
+use Rattle.client_state.specs.Request.{AreGathered, Asks, request_of}
 use Rattle.node_threads.specs.StreamCalls.{Sends, Read, ReadToEnd}
 
 -- the session ends with this error, or without it where memory for it was refused
@@ -20,24 +20,6 @@ IsError code reply = (reply ≡ fatal code) ⊎ (reply ≡ [])
 -- it was written, as far as the client took it
 abbrev pub SendsError : ErrorCode → List Call → Type 0
 SendsError code calls = (reply : List ℕ) × IsError code reply × Sends reply calls
-
--- messages of an extended query that are gathered, after some with this text
-abbrev pub AreGathered : ℕ → List ℕ → List Frame → Type 0
-AreGathered limit before [] = Unit {0}
-AreGathered limit before (frame ∷ frames) = IsFrame limit frame
-    × (client_message limit (length before) frame ≡ Gathered)
-    × AreGathered limit (before ++ text frame) frames
-
--- a client's message, after others that are gathered
-pub record Asks (limit : ℕ) (parts : List Frame) (last : Frame) (message : ClientMessage)
-    : Type 0 where
-  pub gathered : AreGathered limit [] parts
-  pub is_frame : IsFrame limit last
-  pub means : client_message limit (length (texts parts)) last ≡ message
-
--- the text of the request that is whole with the last message
-abbrev pub request_of : List Frame → Frame → List ℕ
-request_of parts last = texts parts ++ text last
 
 -- how a client leaves that was to ask again, after messages that were gathered
 pub data Leaving : Type 0 where

@@ -10,10 +10,11 @@ use Rattle.client_state.specs.Session.{Session}
 use Rattle.client_state.specs.ClientMessage.{client_message}
 use Rattle.client_state.specs.declared.client_message.ClientMessage.{ClientMessage}
 use Rattle.client_state.specs.declared.client_message.ClientMessage.TheVariants as message
+use Rattle.client_state.specs.Request.{AreGathered, Asks, request_of}
 use Rattle.node_threads.specs.declared.session.requests.Found.{Found}
 use Rattle.node_threads.specs.declared.session.requests.Found.TheVariants.{More, Request, End}
 use Rattle.node_threads.specs.StreamCalls.{Read, ReadToEnd}
-use Rattle.node_threads.specs.Asking.{IsError, IsSaid, AreGathered, Asks, request_of, Leaving, Leaves}
+use Rattle.node_threads.specs.Asking.{IsError, IsSaid, Leaving, Leaves}
 use Rattle.node_threads.specs.Progress.{asking}
 
 -- a session with nothing outstanding that has gathered this for its next request, with a lease, as

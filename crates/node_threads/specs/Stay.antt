@@ -10,12 +10,13 @@ use Rattle.pg_frames.specs.FrameText.{texts}
 use Rattle.startup.specs.declared.error_code.ErrorCode.TheVariants.{ConnectionFailure}
 use Rattle.client_state.specs.Acts.{ready_text}
 use Rattle.client_state.specs.LinkMessage.{status_of}
+use Rattle.client_state.specs.Request.{Asks, request_of}
 use Rattle.client_state.specs.declared.client_message.ClientMessage.TheVariants.{Request}
 use Rattle.client_state.specs.declared.link_message.Status.TheVariants.{InTransaction}
 use Rattle.node_threads.specs.declared.session.outcome.Stayed.{Stayed}
 use Rattle.node_threads.specs.declared.session.outcome.Stayed.TheVariants.{Release, Close, End}
 use Rattle.node_threads.specs.StreamCalls.{given, IsDone, Wrote, WroteSome, Read}
-use Rattle.node_threads.specs.Asking.{Asks, request_of, Leaving, Says, Faulty, Silent, NoMemory, Leaves}
+use Rattle.node_threads.specs.Asking.{Leaving, Says, Faulty, Silent, NoMemory, Leaves}
 use Rattle.node_threads.specs.Replying.{ReplyEnd, Ready, Replies, passed_on, EndsBy, EndsStay}
 
 -- a reply that leaves a transaction open, and the request that the client makes then

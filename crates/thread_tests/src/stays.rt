@@ -479,7 +479,7 @@ fn assert_refused<R: Abort + AllocGlobal + Wait>(
         ending: End(VIOLATION),
         sent: BEGIN,
         told: BEGUN,
-        left: request.get(..2_048).unwrap_or(&[]),
+        left: request.get(..512).unwrap_or(&[]),
     };
     let mut pieces = Vec::new(rt.alloc());
     pieces.push(request)?;

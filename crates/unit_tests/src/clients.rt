@@ -13,7 +13,7 @@ mod link_frames;
 mod other_limits;
 mod session_ends;
 mod transcripts;
-mod whole_queries;
+mod whole_requests;
 
 const VIOLATION: &[u8] = b"E\0\0\0\x2eSFATAL\0VFATAL\0C08P01\0Mprotocol violation\0\0";
 

@@ -18,8 +18,30 @@ pub struct Link<L> {
     pub flow: Flow,
 }
 
-/// Reads from a link once more, at most `MOST` bytes, and returns whether more came. It isn't
-/// inlined, so that a thread has its buffer on the stack only while it reads.
+/// Reads from a link once more into this memory, as much as the link's flow has room for, and
+/// returns whether more came.
+pub(crate) fn read_more<L: WriteCalls + ReadCalls>(link: &mut Link<L>, memory: &mut [u8]) -> bool
+    requires some { 0 < length memory.old }
+    requires dry { HasNoNext link.old.flow.limit link.old.flow.left link.old.flow.bytes }
+    requires sound { HasFault link.old.flow.limit (after link.old.flow) None }
+    requires few { length link.old.flow.passed ≤ 8 }
+    ensures more { result ≡ true → (call : Call)
+        × Makes L.wrote L.gave link.old.stream (call ∷ []) link.new.stream
+        × (bytes : List ℕ) × Read bytes (call ∷ []) × (link.new.flow ≡ fed link.old.flow bytes) }
+    ensures none { result ≡ false → (call : Call)
+        × Makes L.wrote L.gave link.old.stream (call ∷ []) link.new.stream × IsFailedRead call }
+{
+    let room = link.flow.room().min(memory.len());
+    let count = read_some(&mut link.stream, &mut memory[..room]);
+    if count == 0 {
+        return false;
+    }
+    link.flow.append(&memory[..count]);
+    true
+}
+
+/// The same into memory of the stack, of `MOST` bytes. It isn't inlined, so that a thread has these
+/// on its stack only while it reads.
 #[inline(never)]
 pub(crate) fn read_up_to<const MOST: usize, L: WriteCalls + ReadCalls>(link: &mut Link<L>) -> bool
     requires some { 0 < MOST }
@@ -33,14 +55,8 @@ pub(crate) fn read_up_to<const MOST: usize, L: WriteCalls + ReadCalls>(link: &mu
     ensures none { result ≡ false → (call : Call)
         × Makes L.wrote L.gave link.old.stream (call ∷ []) link.new.stream × IsFailedRead call }
 {
-    let mut buffer = [0; MOST];
-    let room = link.flow.room().min(MOST);
-    let count = read_some(&mut link.stream, &mut buffer[..room]);
-    if count == 0 {
-        return false;
-    }
-    link.flow.append(&buffer[..count]);
-    true
+    let mut memory = [0; MOST];
+    read_more(link, &mut memory[..])
 }
 
 /// Reads once into this memory, and returns how many bytes came: none at the end of the input, and

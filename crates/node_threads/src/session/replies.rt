@@ -14,7 +14,7 @@ ghost use Rattle.node_threads.specs.Progress.{asking, in_transaction, HandedOut,
 ghost use Rattle.node_threads.specs.declared.session.outcome.Stayed.{Stayed};
 ghost use Rattle.node_threads.specs.declared.session.place.Place.{Place as PlaceOf};
 
-use crate::session::link::read_up_to;
+use crate::session::link::{read_more, read_up_to};
 use crate::session::place::{Handed, Place};
 use crate::{Link, Stayed};
 use client_state::{Act, Client, HeadAct, Reply, is_passed_on};
@@ -22,10 +22,8 @@ use peer_forward::{ReadCalls, WriteCalls, write_whole};
 use pg_frames::{Flow, Header, Piece};
 use std::sync::Wait;
 
-// How many bytes are read at once, at a reply's beginning and behind it.
-const MAX_FIRST_READ: usize = 2_048;
-
-const MAX_READ: usize = 16_384;
+// How many bytes are read at once where memory for more is refused.
+const FEW: usize = 512;
 
 /// Passes the reply to a request on to the client, however it comes. It returns nothing where the
 /// reply leaves a transaction open and the stay goes on. It isn't inlined, since most replies come
@@ -52,11 +50,12 @@ pub fn pass_rest<R: Wait, C: WriteCalls + ReadCalls, L: WriteCalls + ReadCalls>(
     ensures leaves { IfSome result
         (λ stayed. LeavesBehind link.old.flow.limit stayed session.old session.new link.new.flow) }
 {
+    let mut room = session.large_room();
     let mut place = Place::Between;
     for _ in rt.forever() {
         match hand_out(session, &mut link.flow, place) {
             Handed::More(now) => {
-                if let Some(stayed) = read_on(session, client, link, now) {
+                if let Some(stayed) = read_on(session, client, link, &mut room, now) {
                     return Some(stayed);
                 }
                 place = now;
@@ -184,6 +183,7 @@ fn read_on<C: WriteCalls + ReadCalls, L: WriteCalls + ReadCalls>(
     session: &mut Client,
     client: &mut C,
     link: &mut Link<L>,
+    room: &mut Vec<u8>,
     place: Place,
 ) -> Option<Stayed>
     requires session { session.old ≡ asking session.old.limit session.old.database }
@@ -214,7 +214,7 @@ fn read_on<C: WriteCalls + ReadCalls, L: WriteCalls + ReadCalls>(
     if link.flow.fault().is_some() {
         return Some(Stayed::End(lost(session)));
     }
-    if read_more(link) {
+    if read_link(link, room) {
         return None;
     }
     match place {
@@ -234,9 +234,9 @@ pub fn lost(session: &mut Client) -> Reply
     }
 }
 
-// Reads more of a link, and returns whether more came. Most replies are short, so the beginning of
-// one is read by less: what a read may fill is zeroed first.
-fn read_more<L: WriteCalls + ReadCalls>(link: &mut Link<L>) -> bool
+// Reads more of a link into this memory, or by less where there is none, and returns whether more
+// came.
+fn read_link<L: WriteCalls + ReadCalls>(link: &mut Link<L>, room: &mut Vec<u8>) -> bool
     requires dry { HasNoNext link.old.flow.limit link.old.flow.left link.old.flow.bytes }
     requires sound { HasFault link.old.flow.limit (after link.old.flow) None }
     requires few { length link.old.flow.passed ≤ 6 }
@@ -246,10 +246,10 @@ fn read_more<L: WriteCalls + ReadCalls>(link: &mut Link<L>) -> bool
     ensures none { result ≡ false → (call : Call)
         × Makes L.wrote L.gave link.old.stream (call ∷ []) link.new.stream × IsFailedRead call }
 {
-    if link.flow.is_at_start() {
-        read_up_to::<MAX_FIRST_READ, L>(link)
+    if room.is_empty() {
+        read_up_to::<FEW, L>(link)
     } else {
-        read_up_to::<MAX_READ, L>(link)
+        read_more(link, room.as_mut_slice())
     }
 }
 

@@ -10,14 +10,10 @@ ghost use Rattle.node_threads.specs.Progress.{asking};
 ghost use Rattle.node_threads.specs.Finding.{gathering, Finds, Quits, IsRefusal, AsksNext};
 
 use crate::session::link::read_into;
-use crate::stream::read_some;
-use client_state::{Act, Client, Reply, Request, is_query};
+use client_state::{Act, Client, Reply, Request, is_request};
 use peer_forward::{ReadCalls, WriteCalls};
 use pg_frames::{Cutter, FrameError};
 use std::sync::Wait;
-
-// How many bytes are read at once where the first read wasn't a whole Query.
-const MAX_READ: usize = 16_384;
 
 // What was cut from what a client sent.
 enum Found {
@@ -55,7 +51,7 @@ pub fn next_request<R: Wait, C: WriteCalls + ReadCalls>(
     }
 }
 
-// Reads the client once, of which nothing is pending. It returns what to do where one whole Query
+// Reads the client once, of which nothing is pending. It returns what to do where one whole request
 // came, or nothing more comes.
 #[inline(always)]
 fn read_first<C: WriteCalls + ReadCalls>(
@@ -84,19 +80,18 @@ fn read_first<C: WriteCalls + ReadCalls>(
     if count == 0 {
         return Some(Err(Reply::nothing()));
     }
-    if is_query(session.limit(), room.as_slice().split_at(count).0) {
+    if is_request(session.limit(), room.as_slice().split_at(count).0) {
         return Some(Ok(session.ask(room, count)));
     }
     let appended = cutter.append(room.as_slice().split_at(count).0);
-    session.keep_room(room);
+    session.keep_room(room, count);
     match appended {
         Ok(()) => None,
         Err(_) => Some(Err(Reply::nothing())),
     }
 }
 
-// Cuts the client's next request from what was read, and reads more until it is whole. It isn't
-// inlined, so that the reader of a whole Query has no room for the buffer.
+// Cuts the client's next request from what was read, and reads more until it is whole.
 #[inline(never)]
 fn gather<R: Wait, C: WriteCalls + ReadCalls>(
     rt: &R,
@@ -170,12 +165,16 @@ fn read_more<C: WriteCalls + ReadCalls>(
     if let Some(error) = cutter.fault() {
         return Some(refusal(session, error));
     }
-    let mut buffer = [0; MAX_READ];
-    let count = read_some(client, &mut buffer);
+    let mut room = session.large_room();
+    if room.is_empty() {
+        return Some(Reply::nothing());
+    }
+    let count = read_into(client, &mut room);
     if count == 0 {
         return Some(Reply::nothing());
     }
-    match cutter.append(&buffer[..count]) {
+    let appended = cutter.append(room.as_slice().split_at(count).0);
+    match appended {
         Ok(()) => None,
         Err(_) => Some(Reply::nothing()),
     }

@@ -87,7 +87,7 @@ fn pass_first<C: WriteCalls + ReadCalls, L: WriteCalls + ReadCalls>(
     }
     let bytes = room.as_slice().split_at(count).0;
     let passed = pass_read(session, client, &mut link.flow, bytes);
-    session.keep_room(room);
+    session.keep_room(room, count);
     passed
 }
 

@@ -1,5 +1,5 @@
 use Rattle.std.proofs.Common.{refl, inl, inr, [], arith}
-use Rattle.node_threads.proofs.CallLists.{ReadToEnd-failed}
+use Rattle.node_threads.proofs.CallLists.{Read-nothing, ReadToEnd-failed}
 use Rattle.node_threads.proofs.FaultLemmas.{fault_here}
 use Rattle.node_threads.proofs.AskingLemmas.{quits_faulty}
 use Rattle.node_threads.proofs.session.requests.read_more.Goals as goal
@@ -14,18 +14,22 @@ returns-in-Some-clause-ends g c = (
 
 pub returns-then-count-eq0-clause-ends : goal.returns-then-count-eq0-clause-ends
 returns-then-count-eq0-clause-ends g c =
-    let call = c.read_some-count.ensures.none c.if-count-eq0.true in (
+    let call = c.read_into-count.ensures.none c.if-count-eq0.true in (
       _,
       call.1,
       inr (inl (
         ReadToEnd-failed call.0 call.2,
         fault_here _ c.args.cutter.now.bytes _ c.requires.none c.in_default.ensures.stands,
         refl,
-        c.nothing.ensures,
+        c.nothing-then-count-eq0.ensures,
       )),
     )
 
-pub returns-in-Err-clause-ends : goal.returns-in-Err-clause-ends
-returns-in-Err-clause-ends g c =
-    let call = c.read_some-count.ensures.some (omega (arith, c.if-count-eq0.false)) in
+pub returns-clause-ends : goal.returns-clause-ends
+returns-clause-ends g c =
+    let call = c.read_into-count.ensures.some (omega (arith, c.if-count-eq0.false)) in
     (_, call.1, inr (inr (_, call.2, c.nothing-in-Err.ensures)))
+
+pub returns-then-is_empty-clause-ends : goal.returns-then-is_empty-clause-ends
+returns-then-is_empty-clause-ends g c =
+    ([], refl, inr (inr ([], Read-nothing, c.nothing.ensures)))

@@ -1,7 +1,7 @@
 use Rattle.std.proofs.Common.{◌∙◌, sym, ap}
 use Rattle.client_state.specs.Text.{is_one_string}
-use Rattle.client_state.proofs.QueryLemmas.{query_is}
-use Rattle.client_state.proofs.client_message.is_whole_query.Goals as goal
+use Rattle.client_state.proofs.RequestLemmas.{query_is}
+use Rattle.client_state.proofs.client_message.is_query.Goals as goal
 
 pub returns-in-Some : goal.returns-in-Some
 returns-in-Some c is =
