@@ -99,12 +99,6 @@ def large_values(t):
     t.check(after < writes + 4, "memory after five reads of all", f"{writes:.0f} -> {after:.0f} MB", "4 MB more at most")
 
 
-def lines_of(pooler, event):
-    """The words of the log's lines of this event; a thread of its own writes the log."""
-    with open(f"{pooler.base}.err") as log:
-        return [line.split() for line in log if f" {event} " in line]
-
-
 @scenario("large-refused", limit=60)
 def large_refused(t):
     """Above the limit a query, a group of messages and a row end the session, and the log has their sizes"""
@@ -120,8 +114,8 @@ def large_refused(t):
     reader = pooler.client()
     came = outcome(lambda: reader.value("select repeat('x', 2000000)", 20.0))
     t.check("08006" in came, "a row of 2 MB without --max-message", came[:100], "08006")
-    wait_until(lambda: len(lines_of(pooler, "message_too_long")) >= 3, 2)
-    lines = lines_of(pooler, "message_too_long")
+    wait_until(lambda: len(pooler.log_lines("message_too_long")) >= 3, 2)
+    lines = pooler.log_lines("message_too_long")
     # The query's length field, the two messages with their types, and the row's length field.
     wanted = [("2000022", "client"), ("1200018", "client"), ("2000010", "server")]
     fields = [f"database=shop bytes={size} limit=1048576 from={sender}" for size, sender in wanted]

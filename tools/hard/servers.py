@@ -98,6 +98,38 @@ def listen_notify(t):
     t.check(not wrong, "sessions that ended", f"{len(wrong)} of 5" + (f": {wrong[0]}" if wrong else ""), "0")
 
 
+@scenario("reported-changes", limit=40)
+def reported_changes(t):
+    """with --report, transactions leave a reported parameter changed while others run: no other sees that"""
+    server = Postgres(t)
+    zone = server.client().value("show timezone")
+    pooler = Pooler(t, {"shop": server.port}, pool=4, words=("--report", f"TimeZone={zone}"))
+    others = Others(pooler.port)
+    came, changes, end = [], [], time.monotonic() + 4
+
+    def work(changer):
+        client = pooler.client()
+        while time.monotonic() < end:
+            came.append(outcome(client.value, "show timezone"))
+            if changer:
+                changes.append(outcome(client.query, "set timezone = 'Asia/Tokyo'"))
+                time.sleep(0.02)
+
+    threads = [threading.Thread(target=work, args=(number < 2,), daemon=True) for number in range(8)]
+    for thread in threads:
+        thread.start()
+    for thread in threads:
+        thread.join(20)
+    wrong = [text for text in came if text != f"ok:{zone}"]
+    t.check(not wrong, "transactions that saw another value, or failed",
+            f"{len(wrong)} of {len(came)}" + (f": {wrong[0]}" if wrong else ""), "0")
+    failed = [text for text in changes if not text.startswith("ok:")]
+    t.check(not failed and len(changes) > 50, "changes that failed", f"{len(failed)} of {len(changes)}", "0 of more than 50")
+    closed = len(pooler.log_lines("link_closed"))
+    t.check(closed > 10, "lines of the log about closed server connections", closed, "more than 10")
+    others.judge(t)
+
+
 def say_later(*data, end=False, pause=0.2):
     """For `on_query`: a proper reply, and this so many seconds after it; the first time only."""
 

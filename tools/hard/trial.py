@@ -252,6 +252,11 @@ class Pooler:
         with open(f"{self.base}.out") as out:
             return "listening" in out.read()
 
+    def log_lines(self, event):
+        """The words of the log's lines of this event; a thread of its own writes the log."""
+        with open(f"{self.base}.err") as log:
+            return [line.split() for line in log if f" {event} " in line]
+
     def errors(self):
         with open(f"{self.base}.err", errors="replace") as err:
             return err.read()[-300:]

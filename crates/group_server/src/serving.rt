@@ -4,7 +4,7 @@ use crate::metrics::Census;
 use node_threads::{Calling, Context, Open, serve_connection};
 use pg_frames::MessageLimit;
 use sockets::{ClientStream, Connection, LinkStream, Machine};
-use std::alloc::{AllocError, Global};
+use std::alloc::{AllocError, AllocFailed, Global};
 use std::sync::{Mutex, Wait};
 use telemetry::Meter;
 
@@ -127,9 +127,7 @@ impl<M: Machine> Serving<M> {
     }
 
     /// Keeps a caller for the next connection, or for the next cancel request if none is kept for
-    /// that. Drops it if there is no memory for that. It isn't inlined, so that a connection's thread
-    /// needs no stack space for dropping a caller.
-    #[inline(never)]
+    /// that. Drops it if there is no memory for that.
     pub fn give_back<R: Wait>(&self, rt: &R, calling: Box<Calling<LinkStream<M>>>) {
         let has_reserve = !self.reserve.lock(rt).is_empty();
         let kept = if has_reserve {
@@ -137,6 +135,16 @@ impl<M: Machine> Serving<M> {
         } else {
             &self.reserve
         };
-        let _ = kept.lock(rt).push(calling);
+        if let Err(failed) = kept.lock(rt).push(calling) {
+            discard(failed);
+        }
     }
+}
+
+// Drops a caller for which there was no memory. It isn't inlined, so that a connection's thread uses
+// stack space for a caller's totals only then.
+#[cold]
+#[inline(never)]
+fn discard<M: Machine>(failed: AllocFailed<Box<Calling<LinkStream<M>>>>) {
+    drop(failed);
 }
