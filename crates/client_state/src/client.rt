@@ -23,7 +23,7 @@ const ROOM: usize = 512;
 
 const GROWN_ROOM: usize = 2_048;
 
-// How many bytes the memory has for what one read didn't return whole.
+// How many bytes the memory has for long replies, and for what one read didn't return whole.
 const LARGE_ROOM: usize = 16_384;
 
 /// A client's session, from its login on. In contracts it is its limit, its database, whether it holds a
@@ -41,6 +41,8 @@ pub struct Client {
     // Memory to be read into, if it is kept, and how many bytes it is to have.
     room: Vec<u8>,
     room_len: usize,
+    // Whether more memory is to be read into at the next reply.
+    is_reply_long: bool,
 }
 
 // A request is outstanding only on a lease, and one at most, since the next is read after its
@@ -96,6 +98,7 @@ impl Client {
             refused: None,
             room: Vec::new(alloc),
             room_len: ROOM,
+            is_reply_long: false,
         }
     }
 
@@ -246,8 +249,8 @@ impl Client {
         self.gathered.clear();
     }
 
-    /// Memory to be read into: 512 bytes, and once a read filled it, 2,048. It is made where none
-    /// is kept.
+    /// Memory to read a request into: 512 bytes, and once a read filled it, 2,048. It is made where
+    /// none is kept.
     pub fn take_room(&mut self) -> Result<Vec<u8>, AllocError>
         ensures least { IfOk result (λ room. 512 ≤ vec_len room) }
         ensures most { IfOk result (λ room. vec_len room ≤ 2048) }
@@ -269,6 +272,35 @@ impl Client {
             self.room_len = GROWN_ROOM;
         }
         self.room = room;
+    }
+
+    /// Memory to read a reply into: as `take_room` gives it, or 16,384 bytes where the last reply
+    /// had more than 2,048.
+    pub fn take_reply_room(&mut self) -> Result<Vec<u8>, AllocError>
+        ensures least { IfOk result (λ room. 512 ≤ vec_len room) }
+        ensures most { IfOk result (λ room. vec_len room ≤ 16384) }
+        ensures session { self.new ≡ self.old }
+    {
+        if self.is_reply_long {
+            zeros(self.alloc, LARGE_ROOM)
+        } else {
+            self.take_room()
+        }
+    }
+
+    /// Takes memory into which the first this many bytes of a reply were read. It keeps 2,048 bytes
+    /// at most.
+    pub fn keep_reply_room(&mut self, room: Vec<u8>, count: usize)
+        ensures { self.new ≡ self.old }
+    {
+        if room.len() > GROWN_ROOM {
+            self.is_reply_long = count >= GROWN_ROOM;
+            return;
+        }
+        if count == GROWN_ROOM {
+            self.is_reply_long = true;
+        }
+        self.keep_room(room, count);
     }
 
     /// Memory of 16,384 bytes, to be read into where one read didn't return a request or a reply

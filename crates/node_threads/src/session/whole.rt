@@ -77,7 +77,7 @@ fn pass_first<C: WriteCalls + ReadCalls, L: WriteCalls + ReadCalls>(
     if !link.flow.is_at_start() {
         return None;
     }
-    let mut room = match session.take_room() {
+    let mut room = match session.take_reply_room() {
         Ok(room) => room,
         Err(_) => return None,
     };
@@ -87,7 +87,7 @@ fn pass_first<C: WriteCalls + ReadCalls, L: WriteCalls + ReadCalls>(
     }
     let bytes = room.as_slice().split_at(count).0;
     let passed = pass_read(session, client, &mut link.flow, bytes);
-    session.keep_room(room, count);
+    session.keep_reply_room(room, count);
     passed
 }
 
