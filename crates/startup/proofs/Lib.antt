@@ -5,5 +5,6 @@ pub mod AnswerLemmas
 pub mod ParameterLemmas
 pub mod SessionLemmas
 pub mod RequestLemmas
+pub mod RoomLemmas
 pub mod NameLemmas
 pub mod ReportLemmas

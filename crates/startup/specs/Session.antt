@@ -1,8 +1,8 @@
 -- What a pooler takes from the body of a StartupMessage (internal).
-use Rattle.std.specs.Prelude.{◌≡◌, ℕ, List, map, codes, false}
+use Rattle.std.specs.Prelude.{◌≡◌, ◌≤◌, ℕ, List, ◌++◌, length, map, flat_map, codes, false}
 use Rattle.std.specs.Borrow.{Bor}
 use Rattle.std.specs.List.{AllByRecursion}
-use Rattle.startup.specs.StartupMessage.{Parameter, IsParameter, AreParameters, AreGivenOnce, is_reserved, body_of, given}
+use Rattle.startup.specs.StartupMessage.{Parameter, IsParameter, AreParameters, AreGivenOnce, is_reserved, parameter, body_of, given}
 use Rattle.startup.specs.declared.session.Session.{Session}
 
 -- the body's parameters give this user and this database
@@ -12,6 +12,11 @@ pub record IsSessionOf (session : Session) (body : List ℕ) : Type 0 where
   pub spelled : body ≡ body_of parameters
   pub user : session.user.now ≡ given (codes "user") parameters
   pub database : session.database.now ≡ given (codes "database") parameters
+
+-- at most so many parameters begin the body
+abbrev pub HoldsAtMost : ℕ → List ℕ → Type 0
+HoldsAtMost most body = (ps : List Parameter) (after : List ℕ) → AllByRecursion IsParameter ps
+    → body ≡ flat_map parameter ps ++ after → length ps ≤ most
 
 -- the body is that of parameters with these names, none of them reserved, and unless a name is
 -- given twice they give this user and this database

@@ -1,10 +1,11 @@
 //! The session that a StartupMessage begins.
-ghost use Rattle.std.specs.Prelude.{◌≡◌, ◌≢◌, ◌↔◌, ◌+◌, ◌*◌, ◌≤◌, [], ◌∷◌, IsTrue, false, length, take, IfSome, IfNone, List, bytes_eq, codes, if◌then◌else◌};
+ghost use Rattle.std.specs.Prelude.{◌≡◌, ◌≢◌, ◌↔◌, ◌+◌, ◌*◌, ◌≤◌, ◌==◌, [], ◌∷◌, IsTrue, false, length, take, count_by, IfSome, IfNone, List, bytes_eq, codes, if◌then◌else◌};
 ghost use Rattle.std.specs.List.{AllByRecursion};
 ghost use Rattle.startup.specs.Kinds.{Seen};
 ghost use Rattle.startup.specs.Packet.{startup_code};
 ghost use Rattle.startup.specs.FirstPacket.{length_of, code_of, HasHeader, Answers};
 ghost use Rattle.startup.specs.StartupMessage.{Parameter as Sent, IsParameter, AreParameters, is_reserved, body_of, unless_empty};
+ghost use Rattle.startup.specs.Session.{HoldsAtMost};
 
 use crate::first::First;
 use crate::header::Header;
@@ -20,7 +21,7 @@ use std::alloc::Global;
 const MOST_PARAMETERS: usize = 3330;
 
 // How many parameters a client may send that is read with little stack.
-const FEW_PARAMETERS: usize = 128;
+const FEW_PARAMETERS: usize = 24;
 
 /// The answer to the header of a StartupMessage of this kind and what stands behind it.
 pub fn read_startup(
@@ -73,7 +74,7 @@ impl<'a> Session<'a> {
         ensures found { IfSome result (λ session. IsSessionOf session body.now) }
         ensures none { IfNone result ((ps : List Sent) → AreParameters ps → body.now ≢ body_of ps) }
     {
-        if body.len() <= 3 * FEW_PARAMETERS + 2 {
+        if zeros(body) <= 2 * FEW_PARAMETERS + 1 {
             Session::read_few(body)
         } else {
             Session::read_many(body)
@@ -84,7 +85,7 @@ impl<'a> Session<'a> {
     // client that sends many parameters takes the stack that sorting them needs.
     #[inline(never)]
     fn read_few(body: &'a [u8]) -> Option<Session<'a>>
-        requires { length body.now ≤ 386 }
+        requires { count_by (λ byte. byte == 0) body.now ≤ 49 }
         ensures found { IfSome result (λ session. IsSessionOf session body.now) }
         ensures none { IfNone result ((ps : List Sent) → AreParameters ps → body.now ≢ body_of ps) }
     {
@@ -103,7 +104,7 @@ impl<'a> Session<'a> {
 
     // The same, with `names` to hold the names.
     fn read_by(body: &'a [u8], names: &mut [&'a str]) -> Option<Session<'a>>
-        requires { length body.now ≤ 3 * length names.old + 2 }
+        requires { HoldsAtMost (length names.old) body.now }
         ensures found { IfSome result (λ session. IsSessionOf session body.now) }
         ensures none { IfNone result ((ps : List Sent) → AreParameters ps → body.now ≢ body_of ps) }
     {
@@ -118,7 +119,7 @@ impl<'a> Session<'a> {
     // The session of a body's parameters and their number, none where the body isn't of its form or
     // names what is reserved. Their names are put at the front of `names`; some may be the same.
     fn read_all(body: &'a [u8], names: &mut [&'a str]) -> Option<(Session<'a>, usize)>
-        requires { length body.now ≤ 3 * length names.old + 2 }
+        requires { HoldsAtMost (length names.old) body.now }
         ensures found { IfSome result (λ read. (read.1 ≤ length names.new)
             × IsReadOf read.0 (take read.1 names.new) body.now) }
         ensures none { IfNone result ((ps : List Sent) → AllByRecursion IsParameter ps
@@ -174,6 +175,13 @@ impl<'a> Session<'a> {
             self.database
         }
     }
+}
+
+// How many zero bytes there are: two for each parameter, and one behind them.
+fn zeros(body: &[u8]) -> usize
+    ensures { result ≡ count_by (λ byte. byte == 0) body.now }
+{
+    body.iter().filter(|byte| **byte == 0).count()
 }
 
 // Do the parameters end here, with the zero byte that is the last?

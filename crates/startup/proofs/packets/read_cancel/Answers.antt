@@ -1,4 +1,4 @@
-use Rattle.std.proofs.Common.{arith, ◌≡◌, ℕ, ◌+◌, ◌-◌, ◌∙◌, refl, ap, inl, take, drop}
+use Rattle.std.proofs.Common.{arith, ◌≡◌, ℕ, ◌∙◌, refl, ap, inl, take, drop}
 use Rattle.pg_ids.specs.AnyKey.{any_key_bytes}
 use Rattle.startup.specs.FirstPacket.{Cancel}
 use Rattle.startup.specs.declared.startup_error.StartupError.TheVariants.{BadCancelLength}

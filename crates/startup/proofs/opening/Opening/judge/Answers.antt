@@ -1,4 +1,4 @@
-use Rattle.std.proofs.Common.{arith, ℕ, ◌≡◌, ◌≢◌, ◌∙◌, Some, None, Ok, Option, refl, inl, inr, sym, subst}
+use Rattle.std.proofs.Common.{arith, ℕ, ◌≡◌, ◌≢◌, ◌∙◌, None, Ok, Option, refl, inl, inr, sym, subst}
 use Rattle.std.proofs.lemmas.Result.{err_from_is_err_and}
 use Rattle.pg_ids.specs.declared.any_key.Kind.{Kind}
 use Rattle.pg_ids.specs.declared.any_key.Kind.TheVariants.{Short, Long}

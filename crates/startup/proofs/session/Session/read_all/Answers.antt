@@ -1,9 +1,10 @@
-use Rattle.std.proofs.Common.{◌<◌, length, take, refl, sym, arith}
+use Rattle.std.proofs.Common.{◌<◌, length, take, refl, sym, arith, length-set}
 use Rattle.std.proofs.lemmas.Bool.{false≢true}
 use Rattle.std.proofs.lemmas.List.{take_more_set}
 use Rattle.startup.specs.Parameter.{sent}
 use Rattle.startup.proofs.ParameterLemmas.{always_none}
-use Rattle.startup.proofs.SessionLemmas.{not_formed, not_allowed, take_more, none_taken, length-parameter}
+use Rattle.startup.proofs.SessionLemmas.{not_formed, not_allowed, take_more, none_taken}
+use Rattle.startup.proofs.RoomLemmas.{room_for_more}
 use Rattle.startup.proofs.session.Session.read_all.Goals as goal
 
 pub parameters-init : goal.parameters-init
@@ -19,14 +20,18 @@ returns-then-is_reserved-clause-none c =
     let found = c.in_ok-parameter.ensures.found in
     not_allowed c.args.body.now c.parameters.rest.now _ _ _ p c.in_ok-parameter.after.now c.parameters.invariant.taken found.0 found.1 (sym c.if-is_reserved.ensures)
 
+pub bounds-names-count : goal.bounds-names-count
+bounds-names-count c =
+    let found = c.in_ok-parameter.ensures.found in
+    omega (arith, room_for_more (length c.args.names.now) c.parameters.count c.args.body.now c.parameters.rest.now _ _ c.parameters.names (sent c.in_ok-parameter.parameter) c.in_ok-parameter.after.now c.requires c.parameters.invariant.room c.parameters.invariant.taken found.0 found.1)
+
 pub parameters-preserved : goal.parameters-preserved
 parameters-preserved c =
     let p = sent c.in_ok-parameter.parameter in
     let found = c.in_ok-parameter.ensures.found in
-    let three = length-parameter p c.parameters.rest.now c.in_ok-parameter.after.now found.0 found.1 in
-    let room = c.parameters.invariant.room in
-    let within : c.parameters.count < length c.parameters.names = omega (arith, three, room, c.requires) in
+    let more = room_for_more (length c.args.names.now) c.parameters.count c.args.body.now c.parameters.rest.now _ _ c.parameters.names p c.in_ok-parameter.after.now c.requires c.parameters.invariant.room c.parameters.invariant.taken found.0 found.1 in
+    let within : c.parameters.count < length c.parameters.names = omega (arith, more) in
     record {
       taken = rw (c.with-session.ensures.user, c.with-session.ensures.database) (take_more c.args.body.now c.parameters.rest.now c.parameters.session.user.now c.parameters.session.database.now (take c.parameters.count c.parameters.names) _ c.in_ok-parameter.parameter.name p c.in_ok-parameter.after.now c.parameters.invariant.taken found.0 found.1 (sym c.if-is_reserved.ensures) (take_more_set c.parameters.names c.parameters.count c.in_ok-parameter.parameter.name within) refl);
-      room = omega (arith, three, room);
+      room = omega (arith, within, length-set c.parameters.names c.parameters.count c.in_ok-parameter.parameter.name);
     }
