@@ -1,4 +1,4 @@
-use Rattle.std.proofs.Common.{◌≡◌, ◌∙◌, ◌++◌, ◌≤◌, List, ℕ, take, drop, length, sym, ap, subst, take-append-drop}
+use Rattle.std.proofs.Common.{◌≡◌, ◌∙◌, ◌++◌, List, ℕ, take, drop, length, sym, ap, subst, take-append-drop}
 use Rattle.std.proofs.lemmas.List.{length-take-le}
 use Rattle.link_state.specs.Watch.{WatchState}
 use Rattle.link_state.specs.Watched.{IsOther}
