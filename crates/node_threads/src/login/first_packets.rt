@@ -16,7 +16,7 @@ use std::alloc::Global;
 use std::sync::Wait;
 
 // How many bytes are read at once.
-const MAX_READ: usize = 1_024;
+const MAX_READ: usize = 512;
 
 // How long a CancelRequest is at most, in bytes. Memory for it is taken before it is read: the end of
 // its connection must not be clean if it was read whole and isn't served.

@@ -43,7 +43,9 @@ impl Secrets {
         Secrets { words }
     }
 
-    /// The secret with this number, from 0. It waits for nobody, and takes no memory.
+    /// The secret with this number, from 0. It waits for nobody, and takes no memory. It isn't inlined,
+    /// so that a connection's stack has no room for a copy of the generator.
+    #[inline(never)]
     pub fn at(&self, number: u64) -> Secret
         ensures { result ≡ secret_at self.now number }
     {
