@@ -2,10 +2,10 @@
 use crate::Serving;
 use crate::limits::{ALONE_MILLIS, EVICTION_AGE_MILLIS, FIRST_PACKETS_MILLIS};
 use libc::net as c;
-use node_threads::Front;
+use node_threads::{Calling, Front};
 use sockets::{
     AcceptThreads, ClientStream, Connection, ConnectionContext, ConnectionLimit, Deadline, Host,
-    Machine, PendingId, Serves, end, fatal_error, keep_alive, write_refusal,
+    LinkStream, Machine, PendingId, Serves, end, fatal_error, keep_alive, write_refusal,
 };
 use startup::ErrorCode;
 use std::alloc::{AllocError, Global};
@@ -37,6 +37,16 @@ pub struct Acceptor<M: Machine> {
     threads: AcceptThreads,
 }
 
+// What a connection is served with.
+#[derive(Drop)]
+struct Prepared<M: Machine> {
+    calling: Box<Calling<LinkStream<M>>>,
+    // Whether a session is served, or only a cancel request.
+    serves: Serves,
+    // The deadline of its first packets.
+    deadline: Deadline,
+}
+
 impl<M: Machine> Acceptor<M> {
     /// Returns an acceptor without threads.
     pub fn new(
@@ -62,6 +72,21 @@ impl<M: Machine> Acceptor<M> {
         c::shutdown(self.listener.as_raw_fd(), c::SHUT_RD);
     }
 
+    // Waits for the next connection. Returns none after an error, which is logged.
+    #[inline(never)]
+    fn next(&self, host: &M) -> Option<TcpStream> {
+        match self.listener.accept() {
+            Ok((socket, _)) => Some(socket),
+            Err(_) if self.threads.is_shut_down() => None,
+            Err(error) => {
+                self.write_error(host, Event::AcceptFailed, &error);
+                self.limit.evict(host, EVICTION_AGE_MILLIS);
+                thread::sleep(host, Duration::from_millis(RETRY_MILLIS));
+                None
+            }
+        }
+    }
+
     // Serves a connection to its end, or closes it. If no other thread waits for connections
     // meanwhile, only a cancel request is served.
     fn serve(&self, host: &M, alloc: Global, socket: TcpStream) {
@@ -71,68 +96,97 @@ impl<M: Machine> Acceptor<M> {
         } else {
             Serves::Cancels
         };
-        if let Err(error) = self.try_serve(host, alloc, place, socket, serves) {
-            self.write_error(host, Event::ServeFailed, &error);
-        }
-    }
-
-    // Serves a connection at the node at this place, if the limit admits it.
-    fn try_serve(
-        &self,
-        host: &M,
-        alloc: Global,
-        place: usize,
-        socket: TcpStream,
-        serves: Serves,
-    ) -> io::Result<()> {
         let Some(node) = self.nodes.get(place) else {
-            return Ok(());
+            return;
         };
         let Some(pending) = self.limit.admit(host, socket.as_raw_fd()) else {
-            refuse(alloc, &socket);
-            return Err(io::Error::new(ErrorKind::QuotaExceeded, "too many connections"));
+            self.refuse_excess(host, alloc, &socket);
+            return;
         };
         let connection = Connection::metered(socket, node.meter());
-        let served = self.serve_admitted(host, alloc, node, &connection, pending, serves);
-        if served.is_err() {
-            refuse(alloc, connection.socket());
+        if let Some(prepared) = self.prepare(host, alloc, node, &connection, serves) {
+            self.serve_prepared(host, alloc, node, &connection, pending, prepared);
         }
         self.limit.closing(host, pending);
         drop(connection);
         self.limit.closed(host);
-        served
     }
 
-    // Serves an admitted connection. If no caller of the node can be made, only a cancel request is
-    // served. On an error nothing was read or written.
-    fn serve_admitted(
+    // Refuses a connection above the limit.
+    #[inline(never)]
+    fn refuse_excess(&self, host: &M, alloc: Global, socket: &TcpStream) {
+        let error = io::Error::new(ErrorKind::QuotaExceeded, "too many connections");
+        self.refuse(host, alloc, socket, &error);
+    }
+
+    // Returns what an admitted connection is served with. If no caller of the node can be made, only
+    // a cancel request is served. On an error the connection is refused, and nothing was read. It
+    // isn't inlined, so that a connection's stack has no room for errors.
+    #[inline(never)]
+    fn prepare(
+        &self,
+        host: &M,
+        alloc: Global,
+        node: &Serving<M>,
+        connection: &Connection,
+        serves: Serves,
+    ) -> Option<Prepared<M>> {
+        match self.try_prepare(host, alloc, node, connection, serves) {
+            Ok(prepared) => Some(prepared),
+            Err(error) => {
+                self.refuse(host, alloc, connection.socket(), &error);
+                None
+            }
+        }
+    }
+
+    fn try_prepare(
+        &self,
+        host: &M,
+        alloc: Global,
+        node: &Serving<M>,
+        connection: &Connection,
+        serves: Serves,
+    ) -> io::Result<Prepared<M>> {
+        connection.socket().set_nodelay(true)?;
+        keep_alive(connection.descriptor());
+        let (calling, serves) = match node.take(host, alloc) {
+            Some(calling) => (calling, serves),
+            None => {
+                let reserved = node.take_reserved(host).ok_or(io::Error::from(AllocError))?;
+                (reserved, Serves::Cancels)
+            }
+        };
+        // On an error the caller is given back: dropping it here would need stack space for its
+        // totals in each connection's thread.
+        match Deadline::after(host, first_packets_millis(serves)) {
+            Ok(deadline) => Ok(Prepared {
+                calling,
+                serves,
+                deadline,
+            }),
+            Err(error) => {
+                node.give_back(host, calling);
+                Err(error)
+            }
+        }
+    }
+
+    // Serves a connection to its end.
+    fn serve_prepared(
         &self,
         host: &M,
         alloc: Global,
         node: &Serving<M>,
         connection: &Connection,
         pending: PendingId,
-        serves: Serves,
-    ) -> io::Result<()> {
-        connection.socket().set_nodelay(true)?;
-        keep_alive(connection.descriptor());
-        let mut serves = serves;
-        let calling = match node.take(host, alloc) {
-            Some(calling) => calling,
-            None => {
-                serves = Serves::Cancels;
-                node.take_reserved(host).ok_or(io::Error::from(AllocError))?
-            }
-        };
-        // On an error the caller is given back: dropping it here would need stack space for its
-        // totals in each connection's thread.
-        let deadline = match Deadline::after(host, first_packets_millis(serves)) {
-            Ok(deadline) => deadline,
-            Err(error) => {
-                node.give_back(host, calling);
-                return Err(error);
-            }
-        };
+        prepared: Prepared<M>,
+    ) {
+        let Prepared {
+            calling,
+            serves,
+            deadline,
+        } = prepared;
         let context = ConnectionContext {
             limit: &self.limit,
             pending,
@@ -144,7 +198,12 @@ impl<M: Machine> Acceptor<M> {
         let mut client = ClientStream::new(host, alloc, connection, context);
         node.serve(host, alloc, calling, connection, &mut client);
         end(host, connection, &mut client);
-        Ok(())
+    }
+
+    // Tells a client that its connection isn't served, and logs why.
+    fn refuse(&self, host: &M, alloc: Global, socket: &TcpStream, error: &io::Error) {
+        write_refusal(socket, fatal_error(alloc, ErrorCode::TooManyConnections));
+        self.write_error(host, Event::ServeFailed, error);
     }
 
     // Logs an error.
@@ -152,11 +211,6 @@ impl<M: Machine> Acceptor<M> {
         self.log
             .write(host, None, event, &[("error", Value::Error(error))]);
     }
-}
-
-// Tells a client that its connection isn't served.
-fn refuse(alloc: Global, socket: &TcpStream) {
-    write_refusal(socket, fatal_error(alloc, ErrorCode::TooManyConnections));
 }
 
 // Returns the time limit for the first packets of a connection.
@@ -203,23 +257,19 @@ fn start<H: Host>(host: &H, alloc: Global, acceptor: &Arc<Acceptor<H>, Global>) 
 }
 
 // Accepts connections and serves each to its end. Returns when enough other threads wait, or when
-// the acceptor is closed. Other errors are logged.
+// the acceptor is closed.
 fn accept<M: Machine>(host: &M, alloc: Global, acceptor: &Acceptor<M>) {
     acceptor.threads.finish_start();
-    for socket in acceptor.listener.incoming() {
-        match socket {
-            Ok(socket) => {
+    for _ in host.forever() {
+        match acceptor.next(host) {
+            Some(socket) => {
                 acceptor.serve(host, alloc, socket);
                 if !acceptor.threads.resume_waiting() {
                     return;
                 }
             }
-            Err(_) if acceptor.threads.is_shut_down() => return,
-            Err(error) => {
-                acceptor.write_error(host, Event::AcceptFailed, &error);
-                acceptor.limit.evict(host, EVICTION_AGE_MILLIS);
-                thread::sleep(host, Duration::from_millis(RETRY_MILLIS));
-            }
+            None if acceptor.threads.is_shut_down() => return,
+            None => {}
         }
     }
 }

@@ -56,6 +56,7 @@ impl<S: Drop> Shared<S> {
 
     /// Gives a client of this database a slot, with this secret, and a key of this kind. Fails with
     /// `Exhausted` without allowance.
+    #[inline(never)]
     pub fn join<R: Wait>(
         &self,
         rt: &R,
@@ -73,6 +74,7 @@ impl<S: Drop> Shared<S> {
     }
 
     /// Frees the slot of a pass. Without allowance the pass is spent.
+    #[inline(never)]
     pub fn leave<R: Wait>(&self, rt: &R, caller: &mut Caller<S>, pass: Pass) -> LeaveReply<Pass>
         requires own { caller.old.lock ≡ self.now }
         ensures counted { Counted (call.Leave pass result) result leave.Exhausted

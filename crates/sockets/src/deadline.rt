@@ -9,6 +9,7 @@ pub struct Deadline(Duration);
 
 impl Deadline {
     /// Returns the deadline in `millis` milliseconds.
+    #[inline(never)]
     pub fn after<R: Clock>(rt: &R, millis: u64) -> io::Result<Deadline> {
         let now = rt.monotonic()?;
         Ok(Deadline(now.saturating_add(Duration::from_millis(millis))))

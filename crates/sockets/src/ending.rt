@@ -8,6 +8,9 @@ use std::io::{ErrorKind, Read, Write};
 use std::net::Shutdown;
 use std::time::Duration;
 
+// How many bytes are read at once at the end of a connection.
+const DRAIN_READ: usize = 1_024;
+
 /// Closes a connection, once nothing is held for its client any more. If something was written to
 /// the client, its input is first read for a while: a socket that is closed with unread input resets
 /// the connection, and the client may lose what was written.
@@ -63,7 +66,7 @@ fn drain<M: Machine>(
     deadline: Deadline,
     pause: u64,
 ) -> io::Result<()> {
-    let mut buffer = [0; 8_192];
+    let mut buffer = [0; DRAIN_READ];
     for _ in 0..u64::MAX {
         let left = deadline.left(machine)?;
         if !wait_readable(

@@ -16,7 +16,7 @@ use std::alloc::Global;
 use std::sync::Wait;
 
 // How many bytes are read at once.
-const MAX_READ: usize = 512;
+const MAX_READ: usize = 256;
 
 // How long a CancelRequest is at most, in bytes. Memory for it is taken before it is read: the end of
 // its connection must not be clean if it was read whole and isn't served.
@@ -44,6 +44,7 @@ pub enum Opened {
 /// Reads a connection's first packets, and answers each request for encryption with the byte N, up
 /// to a StartupMessage, behind which the bytes are fed to the cutter, or a CancelRequest. A refusal
 /// is written to the client. A call that is interrupted has failed, and none is tried again.
+#[inline(never)]
 pub fn open<R: Wait, C: WriteCalls + ReadCalls>(
     rt: &R,
     alloc: Global,

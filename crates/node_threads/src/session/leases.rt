@@ -146,7 +146,9 @@ fn is_of<L>(lease: &Lease<L>, database: DatabaseNo) -> bool
     lease.details().at.database.0 == database.0
 }
 
-// Opens the link of a permit, at the server of the permit's database.
+// Opens the link of a permit, at the server of the permit's database. It isn't inlined, so that a
+// session's stack has no room for what only this needs.
+#[inline(never)]
 fn open<R: Wait, O: Opener, G: Gate>(
     service: Service<'_, R, Link<O::Stream>, O, G>,
     caller: &mut Caller<Link<O::Stream>>,

@@ -39,6 +39,7 @@ impl<'a, M: Machine> ClientStream<'a, M> {
     }
 
     // Waits until more of the first packets can be read. Fails at their deadline.
+    #[inline(never)]
     fn await_first(&mut self, deadline: Deadline) -> io::Result<()> {
         if let Ok(left) = deadline.left(self.machine) {
             if wait_readable(self.connection.descriptor(), left) {
@@ -108,6 +109,7 @@ impl<'a, M: Machine> ClientStream<'a, M> {
     // Returns the last byte of a cancel request, and leaves it unread in the socket: if this process
     // ends before the request is settled, its sender's connection is reset instead of closed
     // cleanly.
+    #[inline(never)]
     fn peek_last(&mut self, buffer: &mut [u8]) -> io::Result<usize>
         ensures bound { ReadsAtMost result buffer.new }
     {
