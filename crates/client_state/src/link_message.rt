@@ -49,7 +49,7 @@ impl LinkMessage {
 }
 
 /// Whether a session passes a message of this type on to its client, whatever its length field is.
-/// The types of most replies are tested first.
+/// RowDescription, DataRow and CommandComplete are tested first.
 #[inline(always)]
 #[tactic(auto, unfolding(crate::specs::LinkMessage::link_message))]
 pub fn is_passed_on(kind: u8) -> bool
@@ -57,19 +57,22 @@ pub fn is_passed_on(kind: u8) -> bool
     ensures type_byte { IsTrue result → IsTrue (is_type kind) }
 {
     match kind {
-        b'T' | b'D' | b'C' | b'I' | b'E' | b'N' | b'S' => true,
+        b'T' | b'D' | b'C' => true,
         _ => is_other_passed_on(kind),
     }
 }
 
-// Whether it is the type of a message that only extended queries are answered with.
+// Whether it is the type of another message that is passed on.
 #[inline(never)]
 #[tactic(auto, unfolding(crate::specs::LinkMessage::link_message))]
 fn is_other_passed_on(kind: u8) -> bool
-    ensures passed { IsTrue result ↔ IsTrue (is_one_of (codes "123nst") kind) }
+    ensures passed { IsTrue result ↔ IsTrue (is_one_of (codes "IENS123nst") kind) }
     ensures type_byte { IsTrue result → IsTrue (is_type kind) }
 {
-    matches!(kind, b'1' | b'2' | b'3' | b'n' | b's' | b't')
+    match kind {
+        b'I' | b'E' | b'N' | b'S' => true,
+        _ => matches!(kind, b'1' | b'2' | b'3' | b'n' | b's' | b't'),
+    }
 }
 
 impl Status {
