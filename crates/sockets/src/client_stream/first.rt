@@ -12,7 +12,8 @@ use std::io::{ErrorKind, Read};
 use telemetry::Event;
 
 impl<'a, M: Machine> ClientStream<'a, M> {
-    // Reads the first packets.
+    // Reads the first packets. It isn't inlined, so that reads of the session take less stack.
+    #[inline(never)]
     pub(super) fn read_first(
         &mut self,
         packet: FirstPacket,

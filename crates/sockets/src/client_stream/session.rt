@@ -10,6 +10,7 @@ use crate::poll::{is_ended, wait_either};
 use crate::{DrainSignal, Machine};
 use std::io;
 use std::io::{ErrorKind, Read};
+use std::os::fd::RawFd;
 use std::time::Duration;
 use telemetry::Event;
 
@@ -106,10 +107,7 @@ impl<'a, M: Machine> ClientStream<'a, M> {
     fn check_link_and_drain(&mut self) -> io::Result<()> {
         match self.connection.link() {
             Some(link) if is_ended(link) => {
-                self.final_error = final_error(self.alloc, link).ok();
-                if let Some(error) = &self.final_error {
-                    self.write_error(Event::LinkLost, error.as_slice());
-                }
+                self.lose_link(link);
                 Err(io::Error::from(ErrorKind::ConnectionAborted))
             }
             Some(_) => Ok(()),
@@ -120,6 +118,17 @@ impl<'a, M: Machine> ClientStream<'a, M> {
                     self.connection.socket().set_read_timeout(None)
                 }
             },
+        }
+    }
+
+    // Keeps the final error of the client's link, which the server has closed. It isn't inlined, so
+    // that a client that waits in a transaction takes no stack for the error's buffer.
+    #[cold]
+    #[inline(never)]
+    fn lose_link(&mut self, link: RawFd) {
+        self.final_error = final_error(self.alloc, link).ok();
+        if let Some(error) = &self.final_error {
+            self.write_error(Event::LinkLost, error.as_slice());
         }
     }
 
@@ -134,10 +143,17 @@ impl<'a, M: Machine> ClientStream<'a, M> {
     // Fails if the group drains and the client is idle. Keeps the final error.
     fn fail_if_draining(&mut self) -> io::Result<()> {
         if self.has_to_end() {
-            self.final_error = shutdown_error(self.alloc).ok();
+            self.keep_shutdown_error();
             return Err(io::Error::from(ErrorKind::ConnectionAborted));
         }
         Ok(())
+    }
+
+    // Keeps the error of a session that ends because the group drains.
+    #[cold]
+    #[inline(never)]
+    fn keep_shutdown_error(&mut self) {
+        self.final_error = shutdown_error(self.alloc).ok();
     }
 
     // Returns whether the group drains, and the client is idle: it has no link and has sent nothing
