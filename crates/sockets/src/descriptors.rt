@@ -52,6 +52,8 @@ impl Needs {
         ensures kept { result.connections + min self.links ((descriptors - (32 + 9 * self.nodes)) / 2)
             + min (256 * self.nodes) ((descriptors - (32 + 9 * self.nodes)) / 8)
             ≡ descriptors - (32 + 9 * self.nodes) }
+        // 320 of each node may be pending.
+        ensures pending { result.pending ≡ min (320 * self.nodes) 18446744073709551615 }
     {
         let own = self
             .nodes
