@@ -50,7 +50,7 @@ use Rattle.node_threads.specs.declared.session.outcome.Stayed.TheVariants as sta
 use Rattle.node_threads.specs.Progress.{asking}
 use Rattle.node_threads.specs.Turn.{handed_in, GoesOnWithout}
 use Rattle.node_threads.specs.Desks.{reported, Tells}
-use Rattle.node_threads.specs.Balance.{answered, passes_made, passes_spent, permits_made, permits_spent, leases_made, leases_spent, tickets_made, tickets_spent, cancels, Hand, nothing, a_pass, a_permit, a_lease, a_ticket, Leads, Moves, Balanced, CancelsAtMostOnce}
+use Rattle.node_threads.specs.Balance.{answered, passes_made, passes_spent, permits_made, permits_spent, leases_made, leases_spent, tickets_made, tickets_spent, restarted, cancels, Hand, nothing, a_pass, a_permit, a_lease, a_ticket, a_restart, Leads, Moves, Balanced, BalancedByRestart, CancelsAtMostOnce}
 
 -- one if a call is of the kind at this place
 abbrev one_of : ℕ → Exchange → ℕ
@@ -69,6 +69,7 @@ beside one other = record {
   permits = one.permits + other.permits;
   leases = one.leases + other.leases;
   tickets = one.tickets + other.tickets;
+  restarts = one.restarts + other.restarts;
 }
 
 -- the values that a call makes, and those that it spends
@@ -78,6 +79,7 @@ made_by call = record {
   permits = gain permits_made call;
   leases = gain leases_made call;
   tickets = gain tickets_made call;
+  restarts = gain restarted call;
 }
 
 abbrev spent_by : Exchange → Hand
@@ -86,6 +88,7 @@ spent_by call = record {
   permits = gain permits_spent call;
   leases = gain leases_spent call;
   tickets = gain tickets_spent call;
+  restarts = 0;
 }
 
 -- with a call the values in hand before are those after
@@ -192,6 +195,7 @@ step_moves call reply at_end old new before after shifts counted =
       permits = leads permits_made permits_spent _ _ (ap (λ (hand : Hand). hand.permits) shifts);
       leases = leads leases_made leases_spent _ _ (ap (λ (hand : Hand). hand.leases) shifts);
       tickets = leads tickets_made tickets_spent _ _ (ap (λ (hand : Hand). hand.tickets) shifts);
+      restarts = leads restarted [] _ _ (ap (λ (hand : Hand). hand.restarts) shifts);
     }
 
 -- steps after others
@@ -213,6 +217,8 @@ moves_on before between after old middle new first more =
           (first.leases (some left)) (more.leases left);
       tickets = λ left. leads_on before.tickets between.tickets after.tickets _ _ _ _ _ _
           (first.tickets (some left)) (more.tickets left);
+      restarts = λ left. leads_on before.restarts between.restarts after.restarts _ _ _ _ _ _
+          (first.restarts (some left)) (more.restarts left);
     }
 
 -- no step
@@ -225,6 +231,7 @@ moves_nothing hand old new is = subst (λ (v : CallerView). Moves hand old hand 
   permits = λ left. omega arith;
   leases = λ left. omega arith;
   tickets = λ left. omega arith;
+  restarts = λ left. omega arith;
 })
 
 -- what else is in hand stays there
@@ -240,6 +247,8 @@ moves_beside more before after old new moves = record {
   leases = λ left. leads_beside more.leases before.leases after.leases _ _ _ _ (moves.leases left);
   tickets = λ left. leads_beside more.tickets before.tickets after.tickets _ _ _ _ (moves.tickets
       left);
+  restarts = λ left. leads_beside more.restarts before.restarts after.restarts _ _ _ _
+      (moves.restarts left);
 }
 
 -- Each step, by its reply.
@@ -397,16 +406,19 @@ up_failed_moves permit said reply at_end old new =
     (up_failed_shifts permit said)
 
 restart_shifts : (boot : ℕ) (reply : RestartReply)
-    → Shifts nothing (step.Restart boot reply) nothing
+    → Shifts nothing (step.Restart boot reply) a_restart
 restart_shifts boot restart.Restarted = refl
 restart_shifts boot restart.Exhausted = refl
 
 pub restart_moves : {R : Type 0} (boot : ℕ) (said : RestartReply) (reply at_end : R)
     (old new : CallerView) → Counted (step.Restart boot said) reply at_end old new
-    → Balanced old new
-restart_moves boot said reply at_end old new =
-    step_moves (step.Restart boot said) reply at_end old new nothing nothing
-    (restart_shifts boot said)
+    → BalancedByRestart old new
+restart_moves boot said reply at_end old new counted =
+    inr (step_moves (step.Restart boot said) reply at_end old new nothing a_restart
+    (restart_shifts boot said) counted)
+
+pub no_restart : (old new : CallerView) → new ≡ old → BalancedByRestart old new
+no_restart old new is = inl (moves_nothing nothing old new is)
 
 release_shifts : (lease : LinkRecord) (reply : ReleaseReply (Unit {0}))
     → Shifts a_lease (step.Release lease reply) nothing

@@ -1,7 +1,7 @@
--- Which replies make and which consume a pass, a permit, a lease or a ticket (own). `Moves`: the
--- steps that a caller counted lead from these values in hand to those. `Balanced`: from none to
--- none.
-use Rattle.std.specs.Prelude.{ℕ, ◌≡◌, ◌+◌, ◌<◌, ◌≤◌, List, [], ◌∷◌}
+-- Which replies make and which consume a pass, a permit, a lease or a ticket, and which are those of
+-- a restart (own). `Moves`: the steps that a caller counted lead from these values in hand to those.
+-- `Balanced`: from none to none, without a restart.
+use Rattle.std.specs.Prelude.{ℕ, ◌≡◌, ◌⊎◌, ◌+◌, ◌<◌, ◌≤◌, List, [], ◌∷◌}
 use Rattle.locked_node.specs.declared.call_answer.CallAnswer.{CallAnswer}
 use Rattle.locked_node.specs.declared.call_answer.CallAnswer.TheVariants as answer
 use Rattle.locked_node.specs.declared.tally.Tally.{Tally}
@@ -47,33 +47,41 @@ tickets_spent = answer.EndedFreed ∷ answer.EndedCounted ∷ answer.EndedStale
     ∷ answer.EndedExhausted ∷ answer.FailedCondemned ∷ answer.FailedClosed ∷ answer.FailedStale
     ∷ answer.FailedExhausted ∷ []
 
+-- the answers to restarts
+abbrev pub restarted : List CallAnswer
+restarted = answer.Restarted ∷ answer.RestartExhausted ∷ []
+
 -- the answers to cancel requests
 abbrev pub cancels : List CallAnswer
 cancels = answer.Served ∷ answer.Forwarded ∷ answer.Unwaited ∷ answer.CancelSpent
     ∷ answer.CancelUnknown ∷ answer.CancelNoPeer ∷ answer.CancelNoLink ∷ answer.CancelBusy
     ∷ answer.CancelExhausted ∷ []
 
--- how many values of each kind are in hand
+-- how many values of each kind are in hand, and how many restarts there were
 pub record Hand : Type 0 where
   pub passes : ℕ
   pub permits : ℕ
   pub leases : ℕ
   pub tickets : ℕ
+  pub restarts : ℕ
 
 abbrev pub nothing : Hand
-nothing = record { passes = 0; permits = 0; leases = 0; tickets = 0 }
+nothing = record { passes = 0; permits = 0; leases = 0; tickets = 0; restarts = 0 }
 
 abbrev pub a_pass : Hand
-a_pass = record { passes = 1; permits = 0; leases = 0; tickets = 0 }
+a_pass = record { passes = 1; permits = 0; leases = 0; tickets = 0; restarts = 0 }
 
 abbrev pub a_permit : Hand
-a_permit = record { passes = 0; permits = 1; leases = 0; tickets = 0 }
+a_permit = record { passes = 0; permits = 1; leases = 0; tickets = 0; restarts = 0 }
 
 abbrev pub a_lease : Hand
-a_lease = record { passes = 0; permits = 0; leases = 1; tickets = 0 }
+a_lease = record { passes = 0; permits = 0; leases = 1; tickets = 0; restarts = 0 }
 
 abbrev pub a_ticket : Hand
-a_ticket = record { passes = 0; permits = 0; leases = 0; tickets = 1 }
+a_ticket = record { passes = 0; permits = 0; leases = 0; tickets = 1; restarts = 0 }
+
+abbrev pub a_restart : Hand
+a_restart = record { passes = 0; permits = 0; leases = 0; tickets = 0; restarts = 1 }
 
 -- With `before` values in hand at the old tally, `after` are in hand at the new one: each call that
 -- was counted in between makes one if its answer is in `made`, and spends one if it is in `spent`.
@@ -83,7 +91,7 @@ Leads made spent before old after new = before + (answered new made + answered o
 
 -- A caller's allowance and its counts make as much as before, and the allowance isn't greater; and
 -- if some is left, the steps that it counted lead from the values in hand before to those after,
--- each kind by itself.
+-- each kind by itself. A restart is never undone.
 pub record Moves (before : Hand) (old : CallerView) (after : Hand) (new : CallerView) : Type 0 where
   pub same : (new.lock ≡ old.lock) × (new.start ≡ old.start)
   pub total : new.allowance + all_calls new.tally ≡ old.allowance + all_calls old.tally
@@ -96,11 +104,17 @@ pub record Moves (before : Hand) (old : CallerView) (after : Hand) (new : Caller
       → Leads leases_made leases_spent before.leases old.tally after.leases new.tally
   pub tickets : 0 < new.allowance
       → Leads tickets_made tickets_spent before.tickets old.tally after.tickets new.tally
+  pub restarts : 0 < new.allowance
+      → Leads restarted [] before.restarts old.tally after.restarts new.tally
 
 -- the steps that a caller counted spent as many passes, permits, leases and tickets as they made,
--- each kind by itself, if some allowance is left
+-- each kind by itself, and none was a restart, if some allowance is left
 abbrev pub Balanced : CallerView → CallerView → Type 0
 Balanced old new = Moves nothing old nothing new
+
+-- the same with one restart at most
+abbrev pub BalancedByRestart : CallerView → CallerView → Type 0
+BalancedByRestart old new = Balanced old new ⊎ Moves nothing old a_restart new
 
 -- a caller counted at most one cancel request
 abbrev pub CancelsAtMostOnce : CallerView → CallerView → Type 0

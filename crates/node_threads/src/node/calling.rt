@@ -4,7 +4,7 @@ ghost use Rattle.std.specs.Option.{ForSome};
 ghost use Rattle.std.specs.Arc.{arc_value};
 ghost use Rattle.locked_node.specs.Lock.{Splits};
 ghost use Rattle.node_core.specs.View.{IsFresh};
-ghost use Rattle.node_threads.specs.Balance.{Balanced};
+ghost use Rattle.node_threads.specs.Balance.{BalancedByRestart};
 ghost use Rattle.node_threads.specs.Restarting.{boot_after, RestartsAt};
 ghost use Rattle.node_threads.specs.Secrets.{drawing_of, secret_at};
 
@@ -167,7 +167,7 @@ impl<L: Drop> Calling<L> {
     pub fn restart<R: Wait>(&mut self, rt: &R) -> RestartReply
         ensures restarts { (boot now : ℕ)
             × RestartsAt (boot_after boot) boot self.old.caller result now self.new.caller }
-        ensures balanced { Balanced self.old.caller self.new.caller }
+        ensures balanced { BalancedByRestart self.old.caller self.new.caller }
     {
         let mut boot = self.node.boot.lock(rt);
         restart(rt, &self.node.shared, &mut self.caller, &mut boot)

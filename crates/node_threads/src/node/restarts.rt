@@ -1,7 +1,7 @@
 //! A node is started anew, while its threads run.
 ghost use Rattle.std.specs.Prelude.{◌≡◌};
 ghost use Rattle.node_threads.specs.Restarting.{boot_after, RestartsAt};
-ghost use Rattle.node_threads.specs.Balance.{Balanced};
+ghost use Rattle.node_threads.specs.Balance.{BalancedByRestart};
 
 use link_pool::RestartReply;
 use locked_node::{Caller, Shared};
@@ -23,7 +23,7 @@ pub fn restart<R: Wait, S: Drop>(
     requires own { caller.old.lock ≡ shared.now }
     ensures restarts { RestartsAt (boot_after boot.old) boot.old caller.old result
         boot.new caller.new }
-    ensures balanced { Balanced caller.old caller.new }
+    ensures balanced { BalancedByRestart caller.old caller.new }
 {
     let Some(next) = boot_behind(*boot) else {
         return RestartReply::Exhausted;
