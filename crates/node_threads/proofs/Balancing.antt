@@ -45,9 +45,9 @@ use Rattle.peer_forward.specs.declared.outcome.Outcome.{Outcome}
 use Rattle.peer_forward.specs.declared.outcome.Outcome.TheVariants as outcome
 use Rattle.client_state.specs.Session.{Session}
 use Rattle.client_state.specs.Acts.{start}
-use Rattle.node_threads.specs.declared.session.outcome.Stayed.{Stayed}
-use Rattle.node_threads.specs.declared.session.outcome.Stayed.TheVariants as stayed
-use Rattle.node_threads.specs.Progress.{asking}
+use Rattle.session_io.specs.declared.session.outcome.Stayed.{Stayed}
+use Rattle.session_io.specs.declared.session.outcome.Stayed.TheVariants as stayed
+use Rattle.session_io.specs.Progress.{asking}
 use Rattle.node_threads.specs.Turn.{handed_in, GoesOnWithout}
 use Rattle.node_threads.specs.Desks.{reported, Tells}
 use Rattle.node_threads.specs.Balance.{answered, passes_made, passes_spent, permits_made, permits_spent, leases_made, leases_spent, tickets_made, tickets_spent, restarted, cancels, Hand, nothing, a_pass, a_permit, a_lease, a_ticket, a_restart, Leads, Moves, Balanced, BalancedByRestart, CancelsAtMostOnce}

@@ -9,8 +9,8 @@ use Rattle.peer_forward.specs.Calls.{Effect}
 use Rattle.peer_forward.specs.declared.verdict.Verdict.{Verdict}
 use Rattle.stat_board.specs.Seats.{SeatView}
 use Rattle.startup.specs.declared.error_code.ErrorCode.TheVariants.{InvalidCatalogName}
-use Rattle.node_threads.specs.StreamCalls.{SomeCalls}
-use Rattle.node_threads.specs.Asking.{SendsError}
+use Rattle.session_io.specs.StreamCalls.{SomeCalls}
+use Rattle.session_io.specs.Asking.{SendsError}
 use Rattle.node_threads.specs.Cancelling.{Opens, IsCarried, ServesCancel}
 use Rattle.node_threads.specs.Leasing.{Logins, IsLogin}
 use Rattle.node_threads.specs.Secrets.{Drawing, secret_at}

@@ -12,12 +12,12 @@ use Rattle.ini_config.specs.Node.{NodeSettings}
 use Rattle.node_core.specs.View.{NodeView}
 use Rattle.locked_node.specs.Lock.{CallerView}
 use Rattle.console.specs.Rows.{Answers}
-use Rattle.node_threads.specs.StreamCalls.{given, SomeCalls, IsFailedRead, Read, Wrote, WroteSome}
-use Rattle.node_threads.specs.Asking.{SendsError}
+use Rattle.session_io.specs.StreamCalls.{given, SomeCalls, IsFailedRead, Read, Wrote, WroteSome}
+use Rattle.session_io.specs.Asking.{SendsError}
 use Rattle.node_threads.specs.Words.{AreRead}
 use Rattle.node_threads.specs.ConsoleSession.{NeedsMore, ReadsOn, Parting, Faulty, Silent, NoMemory, Parts, Awaits, IsTextOf, IsReadAs, IsMoment, IsReply, TakesQuery, Takes, Answered, IsAnswered, Answer, EndsConsole, Queries, GreetsConsole, ServesConsole}
 use Rattle.peer_forward.proofs.CallLemmas.{Makes-append}
-use Rattle.node_threads.proofs.FaultLemmas.{fault_here}
+use Rattle.session_io.proofs.FaultLemmas.{fault_here}
 
 -- ---- reads
 

@@ -16,10 +16,10 @@ use Rattle.locked_node.specs.Lock.{CallerView, Counted}
 use Rattle.startup.specs.declared.error_code.ErrorCode.{ErrorCode}
 use Rattle.startup.specs.declared.error_code.ErrorCode.TheVariants.{TooManyConnections}
 use Rattle.peer_forward.specs.Calls.{Effect}
+use Rattle.session_io.specs.declared.session.link.Link.{Link}
 use Rattle.node_threads.specs.Balance.{Balanced, nothing}
 use Rattle.node_threads.specs.Cancelling.{Opens}
 use Rattle.node_threads.specs.Leasing.{OfLease, IsLoggedIn, Logins, IsLogin, IsThisLogin, WasAnswered, WentUp, IsGiven, IsUnopened, IsDenied, IsAnswer, IsOpened, IsKept}
-use Rattle.node_threads.specs.declared.session.link.Link.{Link}
 use Rattle.node_threads.specs.declared.session.leases.Acquired.{Acquired}
 use Rattle.node_threads.specs.declared.session.leases.Acquired.TheVariants.{Lease, Cancelled, Refused, Ended}
 use Rattle.node_threads.proofs.Balancing.{moves_on, moves_nothing}

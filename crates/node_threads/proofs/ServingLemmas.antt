@@ -18,41 +18,29 @@ use Rattle.startup.specs.declared.error_code.Severity.TheVariants.{Error}
 use Rattle.pg_frames.specs.Passage.{Passage, start}
 use Rattle.client_state.specs.Acts.{start as begun, fatal, error_text, ready_text}
 use Rattle.client_state.specs.Session.{Session}
-use Rattle.node_threads.specs.declared.session.link.Link.{Link}
-use Rattle.node_threads.specs.declared.session.outcome.Stayed.{Stayed}
-use Rattle.node_threads.specs.declared.session.outcome.Stayed.TheVariants.{Release, Close}
+use Rattle.session_io.specs.declared.session.link.Link.{Link}
+use Rattle.session_io.specs.declared.session.outcome.Stayed.{Stayed}
+use Rattle.session_io.specs.declared.session.outcome.Stayed.TheVariants.{Release, Close}
+use Rattle.session_io.specs.StreamCalls.{SomeCalls, Wrote, WroteSome, Sends}
+use Rattle.session_io.specs.Asking.{IsError, SendsError}
+use Rattle.session_io.specs.Finding.{AsksNext}
+use Rattle.session_io.specs.Stay.{Stay}
 use Rattle.node_threads.specs.declared.session.leases.Acquired.{Acquired}
 use Rattle.node_threads.specs.declared.session.leases.Acquired.TheVariants as acquired
-use Rattle.node_threads.specs.StreamCalls.{SomeCalls, Wrote, WroteSome, Sends}
-use Rattle.node_threads.specs.Asking.{IsError, SendsError}
-use Rattle.node_threads.specs.Finding.{AsksNext}
-use Rattle.node_threads.specs.Stay.{Stay}
 use Rattle.node_threads.specs.Turn.{handed_in}
 use Rattle.node_threads.specs.Desks.{Tells}
 use Rattle.node_threads.specs.Balance.{Moves, nothing, a_pass}
 use Rattle.node_threads.specs.Leasing.{Logins, hand_of, OfLease, WasAnswered, IsDenied, IsAnswer}
 use Rattle.node_threads.specs.Serving.{Greets, TellsCancelled, Fate, Carried, Spoilt, Cancelled, Refused, Dropped, end_of, EndsWith, Gets, Comes, IsRequest, Serves, Requests, Stays, Joins, ServesClient, ComesOf}
 use Rattle.peer_forward.proofs.CallLemmas.{Makes-append, Wrote-append, WroteSome-append}
+use Rattle.session_io.proofs.SendingLemmas.{sends}
 use Rattle.node_threads.proofs.Told.{said-counted}
 
--- a text was written, whole or not
-pub sends : {T : Type 0} (wrote gave : Effect T) (a b : T) (text : List ℕ) (whole : Bool)
-    → (whole ≡ true → SomeCalls wrote gave a b (Wrote text))
-    → (whole ≡ false → SomeCalls wrote gave a b (WroteSome text))
-    → SomeCalls wrote gave a b (Sends text)
-sends wrote gave a b text true did some = let calls = did refl in (calls.0, calls.1, inl calls.2)
-sends wrote gave a b text false did some = let calls = some refl in (calls.0, calls.1, inr calls.2)
-
+-- an equal text was written
 pub sends_same : {T : Type 0} (wrote gave : Effect T) (a b : T) (xs ys : List ℕ) → xs ≡ ys
     → SomeCalls wrote gave a b (Sends xs) → SomeCalls wrote gave a b (Sends ys)
 sends_same wrote gave a b xs ys same said =
     (said.0, said.1, subst (λ zs. Sends zs said.0) same said.2)
-
--- an error was written, whole or not
-pub sends_error : {T : Type 0} (wrote gave : Effect T) (a b : T) (code : ErrorCode) (text : List ℕ)
-    → text ≡ fatal code → SomeCalls wrote gave a b (Sends text)
-    → SomeCalls wrote gave a b (SendsError code)
-sends_error wrote gave a b code text is said = (said.0, said.1, (text, inl is, said.2))
 
 -- one text after the other
 pub wrote_both : {T : Type 0} (wrote gave : Effect T) (a b c : T) (xs ys : List ℕ)

@@ -11,11 +11,11 @@ use Rattle.peer_forward.specs.Finishing.{Finishes}
 use Rattle.stat_board.specs.Seats.{SeatView}
 use Rattle.startup.specs.Replies.{Report}
 use Rattle.startup.specs.declared.error_code.ErrorCode.TheVariants.{InvalidCatalogName}
-use Rattle.node_threads.specs.declared.login.first_packets.Opened.{Opened}
-use Rattle.node_threads.specs.declared.login.first_packets.Opened.TheVariants.{Session, Cancel, Over}
-use Rattle.node_threads.specs.StreamCalls.{SomeCalls}
-use Rattle.node_threads.specs.Asking.{SendsError}
-use Rattle.node_threads.specs.Opening.{Opens}
+use Rattle.session_io.specs.declared.login.first_packets.Opened.{Opened}
+use Rattle.session_io.specs.declared.login.first_packets.Opened.TheVariants.{Session, Cancel, Over}
+use Rattle.session_io.specs.StreamCalls.{SomeCalls}
+use Rattle.session_io.specs.Asking.{SendsError}
+use Rattle.session_io.specs.Opening.{Opens}
 use Rattle.node_threads.specs.Cancelling.{Carries, ServesCancel}
 use Rattle.node_threads.specs.Leasing.{Logins}
 use Rattle.node_threads.specs.Secrets.{Drawing, secret_at}

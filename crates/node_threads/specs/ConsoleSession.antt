@@ -17,8 +17,8 @@ use Rattle.locked_node.specs.Replay.{fixed_of}
 use Rattle.locked_node.specs.Journal.{CountsWithin}
 use Rattle.locked_node.specs.Totals.{calls_at}
 use Rattle.console.specs.Rows.{Answers}
-use Rattle.node_threads.specs.StreamCalls.{given, IsRead, IsFailedRead, Wrote, WroteSome}
-use Rattle.node_threads.specs.Asking.{SendsError}
+use Rattle.session_io.specs.StreamCalls.{given, IsRead, IsFailedRead, Wrote, WroteSome}
+use Rattle.session_io.specs.Asking.{SendsError}
 use Rattle.node_threads.specs.Words.{AreRead}
 
 -- ---- messages

@@ -17,10 +17,10 @@ use Rattle.locked_node.specs.Lock.{CallerView, Counted}
 use Rattle.peer_forward.specs.Calls.{Effect}
 use Rattle.startup.specs.declared.error_code.ErrorCode.{ErrorCode}
 use Rattle.startup.specs.declared.error_code.ErrorCode.TheVariants.{TooManyConnections, ConnectionFailure, AdminShutdown}
+use Rattle.session_io.specs.LoggingIn.{LogsIn}
+use Rattle.session_io.specs.StreamCalls.{SomeCalls}
 use Rattle.node_threads.specs.Balance.{Hand, Balanced, nothing, a_lease}
 use Rattle.node_threads.specs.Cancelling.{Opens}
-use Rattle.node_threads.specs.LoggingIn.{LogsIn}
-use Rattle.node_threads.specs.StreamCalls.{SomeCalls}
 use Rattle.node_threads.specs.declared.session.leases.Acquired.{Acquired}
 use Rattle.node_threads.specs.declared.session.leases.Acquired.TheVariants.{Lease, Cancelled, Refused, Ended}
 

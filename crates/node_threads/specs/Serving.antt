@@ -19,16 +19,16 @@ use Rattle.startup.specs.declared.error_code.ErrorCode.{ErrorCode}
 use Rattle.startup.specs.declared.error_code.ErrorCode.TheVariants.{TooManyConnections, OutOfMemory, ConnectionFailure, QueryCanceled}
 use Rattle.startup.specs.declared.error_code.Severity.TheVariants.{Error}
 use Rattle.client_state.specs.Acts.{error_text, ready_text}
+use Rattle.session_io.specs.declared.session.link.Link.{Link}
+use Rattle.session_io.specs.declared.session.outcome.Stayed.{Stayed}
+use Rattle.session_io.specs.declared.session.outcome.Stayed.TheVariants.{Release, Close, End}
+use Rattle.session_io.specs.StreamCalls.{SomeCalls, Wrote, WroteSome, Sends}
+use Rattle.session_io.specs.Asking.{IsError, SendsError, Leaving, Leaves}
+use Rattle.session_io.specs.Finding.{AsksNext}
+use Rattle.session_io.specs.Stay.{Stay}
 use Rattle.node_threads.specs.declared.desk.call.DeskCall.TheVariants as call
-use Rattle.node_threads.specs.declared.session.link.Link.{Link}
-use Rattle.node_threads.specs.declared.session.outcome.Stayed.{Stayed}
-use Rattle.node_threads.specs.declared.session.outcome.Stayed.TheVariants.{Release, Close, End}
 use Rattle.node_threads.specs.declared.session.leases.Acquired.{Acquired}
 use Rattle.node_threads.specs.declared.session.leases.Acquired.TheVariants as acquired
-use Rattle.node_threads.specs.StreamCalls.{SomeCalls, Wrote, WroteSome, Sends}
-use Rattle.node_threads.specs.Asking.{IsError, SendsError, Leaving, Leaves}
-use Rattle.node_threads.specs.Finding.{AsksNext}
-use Rattle.node_threads.specs.Stay.{Stay}
 use Rattle.node_threads.specs.Turn.{handed_in}
 use Rattle.node_threads.specs.Desks.{Tells}
 use Rattle.node_threads.specs.Leasing.{Logins, WasAnswered, IsGiven, IsDenied}

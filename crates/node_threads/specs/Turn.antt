@@ -3,10 +3,10 @@ use Rattle.std.specs.Prelude.{◌≡◌}
 use Rattle.client_state.specs.Session.{Session}
 use Rattle.client_state.specs.Acts.{over}
 use Rattle.lease.specs.declared.link_record.LinkRecord.{LinkRecord}
+use Rattle.session_io.specs.declared.session.outcome.Stayed.{Stayed}
+use Rattle.session_io.specs.declared.session.outcome.Stayed.TheVariants.{Release, Close, End}
 use Rattle.node_threads.specs.declared.desk.call.DeskCall.{DeskCall}
 use Rattle.node_threads.specs.declared.desk.call.DeskCall.TheVariants as call
-use Rattle.node_threads.specs.declared.session.outcome.Stayed.{Stayed}
-use Rattle.node_threads.specs.declared.session.outcome.Stayed.TheVariants.{Release, Close, End}
 
 -- the link is given back exactly where the stay says so, and closed otherwise
 abbrev pub handed_in : Stayed → LinkRecord → DeskCall

@@ -4,13 +4,12 @@ ghost use Rattle.std.specs.Arc.{arc_value};
 ghost use Rattle.std.specs.Option.{ForSome};
 ghost use Rattle.stat_board.specs.Seats.{SeatView};
 ghost use Rattle.peer_forward.specs.Finishing.{Finishes};
+ghost use Rattle.session_io.specs.StreamCalls.{SomeCalls};
 ghost use Rattle.node_threads.specs.Balance.{Balanced};
-ghost use Rattle.node_threads.specs.StreamCalls.{SomeCalls};
 ghost use Rattle.node_threads.specs.Cancelling.{IsCarried, ServesCancel};
 ghost use Rattle.node_threads.specs.Leasing.{IsLogin};
 ghost use Rattle.node_threads.specs.Connection.{place_of, ServesAt, ServesConnection};
 
-use crate::login::refuse;
 use crate::{
     CONSOLE, Calling, CancelOpener, Context, Gate, Link, Node, Opened, Opener, Service, SingleUse,
     open, serve_cancel, serve_client, serve_console,
@@ -18,6 +17,7 @@ use crate::{
 use peer_forward::{ReadCalls, WriteCalls};
 use pg_frames::{Cutter, MessageLimit};
 use pg_ids::{AnyKey, Kind};
+use session_io::refuse;
 use startup::{ErrorCode, Reports};
 use std::alloc::Global;
 use std::sync::Wait;

@@ -6,22 +6,20 @@ mod cancel;
 mod connection;
 mod desk;
 mod gate;
-mod login;
 mod node;
 mod opener;
 mod service;
 mod session;
-mod stream;
 
 pub use cancel::{CancelOpener, Counting, Seat, Seats, SingleUse, relay, report, serve_cancel};
 pub use connection::serve_connection;
 pub use desk::{Desk, DeskCall, ListDesk, LockDesk, RequestDesk, Requested};
 pub use gate::{Gate, Open, Point};
-pub use login::{Opened, open};
 pub use node::{
     Admission, Calling, ClientCensus, Entrance, Front, LinkCensus, Node, PoolCensus, Secrets,
     restart,
 };
 pub use opener::{Opener, Sender};
 pub use service::{Context, Service};
-pub use session::{CONSOLE, Link, Stayed, serve_client, serve_console, stay, turn};
+pub use session::{CONSOLE, serve_client, serve_console, turn};
+pub use session_io::{Link, Opened, Stayed, open, stay};

@@ -2,16 +2,16 @@
 ghost use Rattle.std.specs.Prelude.{◌≡◌, slice_get};
 ghost use Rattle.std.specs.Arc.{arc_value};
 ghost use Rattle.std.specs.Option.{ForSome};
-ghost use Rattle.node_threads.specs.StreamCalls.{SomeCalls};
+ghost use Rattle.session_io.specs.StreamCalls.{SomeCalls};
 ghost use Rattle.node_threads.specs.ConsoleSession.{Takes, TakesQuery, Queries, GreetsConsole, ServesConsole};
 
-use crate::login::refuse;
 use crate::session::admin_input::next_message;
 use crate::session::admin_replies::{query_of, reply, texts};
 use crate::{Calling, Link, Node};
 use locked_node::Caller;
 use peer_forward::{ReadCalls, WriteCalls, write_whole};
 use pg_frames::{Cutter, Frame};
+use session_io::refuse;
 use startup::{ErrorCode, Reports, write_login};
 use std::alloc::Global;
 use std::sync::Wait;

@@ -1,13 +1,12 @@
 //! The messages of a client of the admin console are read.
 ghost use Rattle.std.specs.Prelude.{◌≡◌, true, false};
 ghost use Rattle.pg_frames.specs.FrameText.{BeginsNoFrame};
-ghost use Rattle.node_threads.specs.StreamCalls.{SomeCalls};
+ghost use Rattle.session_io.specs.StreamCalls.{SomeCalls};
 ghost use Rattle.node_threads.specs.ConsoleSession.{Parting, Parts, ReadsOn, Awaits};
 
-use crate::login::refuse;
-use crate::stream::read_some;
 use peer_forward::{ReadCalls, WriteCalls};
 use pg_frames::{Cutter, Frame};
+use session_io::{read_some, refuse};
 use startup::ErrorCode;
 use std::alloc::Global;
 use std::sync::Wait;

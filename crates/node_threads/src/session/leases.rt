@@ -8,13 +8,13 @@ ghost use Rattle.node_threads.specs.Balance.{Moves, nothing, a_lease, a_permit};
 ghost use Rattle.node_threads.specs.Leasing.{hand_of, hand_of_answer, OfLease, OfAnswer, IsLoggedIn, IsLogin, IsThisLogin, IsAnswer, IsOpened, IsKept};
 ghost use Rattle.node_threads.specs.declared.session.leases.Acquired.{Acquired};
 
-use crate::login::{LinkError, LoggedIn, log_in};
 use crate::{Entrance, Gate, Link, Opener, Point, Service};
 use lease::{Lease, Pass, Permit};
 use link_pool::{AcquireReply, UpReply};
 use locked_node::Caller;
 use peer_forward::{ReadCalls, WriteCalls};
 use pg_ids::DatabaseNo;
+use session_io::{LinkError, LoggedIn, log_in};
 use startup::ErrorCode;
 use std::io;
 use std::io::ErrorKind;

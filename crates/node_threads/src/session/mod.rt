@@ -6,18 +6,8 @@ mod admin_input;
 mod admin_replies;
 mod client;
 mod leases;
-pub(crate) mod link;
-mod outcome;
-mod place;
-mod replies;
-mod requests;
-mod stays;
 mod turns;
-mod whole;
 
 pub use admin::{CONSOLE, serve_console};
 pub use client::serve_client;
-pub use link::Link;
-pub use outcome::Stayed;
-pub use stays::stay;
 pub use turns::turn;

@@ -1,10 +1,10 @@
 //! A session's turn on the link of its lease.
 ghost use Rattle.std.specs.Prelude.{◌≡◌, [], None};
 ghost use Rattle.pg_frames.specs.Passage.{start};
-ghost use Rattle.node_threads.specs.declared.session.outcome.Stayed.TheVariants.{Release};
-ghost use Rattle.node_threads.specs.StreamCalls.{SomeCalls};
-ghost use Rattle.node_threads.specs.Progress.{asking, LeavesBehind};
-ghost use Rattle.node_threads.specs.Stay.{Stay};
+ghost use Rattle.session_io.specs.declared.session.outcome.Stayed.TheVariants.{Release};
+ghost use Rattle.session_io.specs.StreamCalls.{SomeCalls};
+ghost use Rattle.session_io.specs.Progress.{asking, LeavesBehind};
+ghost use Rattle.session_io.specs.Stay.{Stay};
 ghost use Rattle.node_threads.specs.Turn.{handed_in, GoesOnWithout};
 
 use crate::{Context, Desk, Gate, Link, Point, Stayed, stay};

@@ -5,8 +5,8 @@ use Rattle.startup.specs.Replies.{Report}
 use Rattle.ini_config.specs.Node.{NodeSettings}
 use Rattle.locked_node.specs.Lock.{CallerView}
 use Rattle.peer_forward.specs.Calls.{Effect}
-use Rattle.node_threads.specs.StreamCalls.{SomeCalls}
-use Rattle.node_threads.specs.declared.login.first_packets.Opened.TheVariants.{Session}
+use Rattle.session_io.specs.StreamCalls.{SomeCalls}
+use Rattle.session_io.specs.declared.login.first_packets.Opened.TheVariants.{Session}
 use Rattle.node_threads.specs.ConsoleSession.{ServesConsole}
 use Rattle.node_threads.specs.Leasing.{Logins}
 use Rattle.node_threads.specs.Secrets.{Drawing}

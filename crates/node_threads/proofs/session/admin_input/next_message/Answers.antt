@@ -1,5 +1,5 @@
 use Rattle.std.proofs.Common.{◌∙◌, [], Ok, refl, sym, ap}
-use Rattle.node_threads.proofs.FindingLemmas.{frame_at}
+use Rattle.session_io.proofs.FindingLemmas.{frame_at}
 use Rattle.node_threads.proofs.ConsoleLemmas.{reads_same, reads_more, parts_of, awaits_memory, awaits_message, awaits_none}
 use Rattle.node_threads.proofs.session.admin_input.next_message.Goals as goal
 

@@ -1,5 +1,5 @@
 use Rattle.std.proofs.Common.{◌≡◌}
-use Rattle.node_threads.specs.StreamCalls.{SomeCalls}
+use Rattle.session_io.specs.StreamCalls.{SomeCalls}
 use Rattle.node_threads.specs.ConsoleSession.{ReadsOn}
 use Rattle.node_threads.proofs.session.admin_input.next_message.Given as goal
 

@@ -1,6 +1,6 @@
 use Rattle.std.proofs.Common.{◌≡◌, rules, inr, Some, refl, subst}
 use Rattle.startup.specs.Replies.{login_reporting}
-use Rattle.node_threads.specs.StreamCalls.{WroteSome}
+use Rattle.session_io.specs.StreamCalls.{WroteSome}
 use Rattle.node_threads.proofs.session.client.greet.Goals as goal
 
 pub returns : goal.returns

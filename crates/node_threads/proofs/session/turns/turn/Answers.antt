@@ -1,6 +1,6 @@
 use Rattle.std.proofs.Common.{subst}
-use Rattle.node_threads.specs.declared.session.outcome.Stayed.{Stayed}
-use Rattle.node_threads.specs.Progress.{LeavesBehind}
+use Rattle.session_io.specs.declared.session.outcome.Stayed.{Stayed}
+use Rattle.session_io.specs.Progress.{LeavesBehind}
 use Rattle.node_threads.proofs.session.turns.turn.Goals as goal
 
 pub returns-in-Release-clause-stay : goal.returns-in-Release-clause-stay

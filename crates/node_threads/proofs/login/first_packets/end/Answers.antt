@@ -1,9 +1,0 @@
-use Rattle.std.proofs.Common.{true}
-use Rattle.node_threads.proofs.OpeningLemmas.{refused_for, ends_refused}
-use Rattle.node_threads.proofs.login.first_packets.end.Goals as goal
-
-pub returns-in-Err : goal.returns-in-Err
-returns-in-Err g c =
-    ends_refused _ _ _ _ c.args.opening.now c.args.text.now c.in-Err.error
-    (refused_for c.args.opening.now c.args.text.now true c.in-Err.error c.in-Err.ensures.found)
-    c.refuse_first.ensures

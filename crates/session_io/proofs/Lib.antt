@@ -1,0 +1,16 @@
+pub mod CallLists
+pub mod SendingLemmas
+pub mod HandingLemmas
+pub mod FaultLemmas
+pub mod EndLemmas
+pub mod ReadingLemmas
+pub mod PassingLemmas
+pub mod FindingLemmas
+pub mod AskingLemmas
+pub mod Totals
+pub mod StoppingLemmas
+pub mod StayLemmas
+pub mod LoginLemmas
+pub mod OpeningLemmas
+pub mod WholeLemmas
+pub mod FirstReadLemmas

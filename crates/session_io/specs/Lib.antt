@@ -1,0 +1,9 @@
+pub mod StreamCalls
+pub mod Asking
+pub mod Replying
+pub mod Stay
+pub mod Progress
+pub mod Whole
+pub mod Finding
+pub mod LoggingIn
+pub mod Opening

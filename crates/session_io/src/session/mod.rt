@@ -1,0 +1,15 @@
+//! A client's requests, and their replies from a link.
+
+pub(crate) mod link;
+mod outcome;
+mod place;
+mod replies;
+mod requests;
+mod stays;
+mod whole;
+
+pub use link::Link;
+pub use outcome::Stayed;
+pub use replies::lost;
+pub use requests::next_request;
+pub use stays::stay;

@@ -1,0 +1,337 @@
+//! The reply to a request is read from the link and passed on to the client.
+ghost use Rattle.std.specs.Prelude.{◌≡◌, ◌≤◌, ◌+◌, ◌-◌, ◌++◌, ◌∷◌, [], ℕ, List, true, false, length, take, IsTrue, None, Some, IfSome};
+ghost use Rattle.peer_forward.specs.Calls.{Call, Makes};
+ghost use Rattle.pg_frames.specs.FrameText.{HasFault};
+ghost use Rattle.pg_frames.specs.Passage.{start, fed, forgotten, after, HasNoNext, BeginsWith};
+ghost use Rattle.startup.specs.declared.error_code.ErrorCode.TheVariants.{ConnectionFailure};
+ghost use Rattle.client_state.specs.Acts.{ready_text, head_act, after_head};
+ghost use Rattle.client_state.specs.LinkMessage.{link_message};
+ghost use Rattle.client_state.specs.declared.link_message.LinkMessage.TheVariants.{PassOn};
+ghost use Rattle.session_io.specs.StreamCalls.{SomeCalls, Wrote, WroteSome, Read, IsFailedRead};
+ghost use Rattle.session_io.specs.Asking.{IsError};
+ghost use Rattle.session_io.specs.Replying.{EndsStay, Replies};
+ghost use Rattle.session_io.specs.Progress.{asking, in_transaction, HandedOut, HandedLast, HandsOut, IsDry, KeepsSession, EndsHere, GoesOn, LeavesBehind, HeadMeans, PieceMeans, after_part, after_tail, Refuses, FinishesIdle, FinishesOpen};
+ghost use Rattle.session_io.specs.declared.session.outcome.Stayed.{Stayed};
+ghost use Rattle.session_io.specs.declared.session.place.Place.{Place as PlaceOf};
+
+use crate::session::link::{read_more, read_up_to};
+use crate::session::place::{Handed, Place};
+use crate::{Link, Stayed};
+use client_state::{Act, Client, HeadAct, Reply, is_passed_on};
+use peer_forward::{ReadCalls, WriteCalls, write_whole};
+use pg_frames::{Flow, Header, Piece};
+use std::sync::Wait;
+
+// How many bytes are read at once where memory for more is refused.
+const FEW: usize = 512;
+
+/// Passes the reply to a request on to the client, however it comes. It returns nothing where the
+/// reply leaves a transaction open and the stay goes on. It isn't inlined, since most replies come
+/// whole with one read.
+#[inline(never)]
+pub fn pass_rest<R: Wait, C: WriteCalls + ReadCalls, L: WriteCalls + ReadCalls>(
+    rt: &R,
+    session: &mut Client,
+    client: &mut C,
+    link: &mut Link<L>,
+) -> Option<Stayed>
+    requires session { session.old ≡ asking session.old.limit session.old.database }
+    requires between { link.old.flow.left ≡ None }
+    requires written { link.old.flow.passed ≡ [] }
+    ensures goes_on { result ≡ None → SomeCalls L.wrote L.gave link.old.stream link.new.stream
+        (λ reads. SomeCalls C.wrote C.gave client.old client.new
+        (λ tells. GoesOn link.old.flow.limit link.old.flow.bytes [] reads tells)) }
+    ensures open { result ≡ None → session.new ≡ in_transaction session.old.limit session.old.database }
+    ensures drained { result ≡ None → link.new.flow ≡ start link.old.flow.limit }
+    ensures ends { IfSome result (λ stayed.
+        SomeCalls L.wrote L.gave link.old.stream link.new.stream
+        (λ reads. SomeCalls C.wrote C.gave client.old client.new
+        (λ tells. EndsHere link.old.flow.limit link.old.flow.bytes [] reads tells stayed))) }
+    ensures leaves { IfSome result
+        (λ stayed. LeavesBehind link.old.flow.limit stayed session.old session.new link.new.flow) }
+{
+    let mut room = session.large_room();
+    let mut place = Place::Between;
+    for _ in rt.forever() {
+        match hand_out(session, &mut link.flow, place) {
+            Handed::More(now) => {
+                if let Some(stayed) = read_on(session, client, link, &mut room, now) {
+                    return Some(stayed);
+                }
+                place = now;
+            }
+            Handed::Ready(status) => return finish(session, client, &mut link.flow, status),
+            Handed::Refused(error) => return Some(refuse(client, &mut link.flow, 5, error)),
+        }
+    }
+    unreachable!()
+}
+
+// Hands out what is there of a reply.
+fn hand_out(session: &mut Client, flow: &mut Flow, place: Place) -> Handed
+    requires { session.old ≡ asking session.old.limit session.old.database }
+    ensures handed { (limit : ℕ) (stream written : List ℕ)
+        → HandedOut limit stream written place flow.old
+        → HandsOut limit stream written result flow.new }
+    ensures dry { IsDry result flow.new }
+    ensures session { KeepsSession result session.old session.new }
+{
+    let mut place = place;
+    loop {
+        pass_frames(flow);
+        let Some(piece) = flow.next() else {
+            return Handed::More(place);
+        };
+        match on_piece(session, place, piece) {
+            Handed::More(next) => place = next,
+            Handed::Ready(status) => return Handed::Ready(status),
+            Handed::Refused(error) => return Handed::Refused(error),
+        }
+    }
+}
+
+// Hands out the whole frames at the front that are passed on, where no frame was begun.
+fn pass_frames(flow: &mut Flow)
+    ensures handed { (limit : ℕ) (stream written : List ℕ) (place : PlaceOf)
+        → HandedOut limit stream written place flow.old
+        → HandedOut limit stream written place flow.new }
+    ensures fewer { length flow.new.bytes ≤ length flow.old.bytes }
+    ensures left { flow.new.left ≡ flow.old.left }
+{
+    while let Some(head) = next_passed(flow) {
+        flow.pass_frame(head);
+    }
+}
+
+// The head of the whole frame at the front, if it is passed on.
+fn next_passed(flow: &Flow) -> Option<Header>
+    ensures { IfSome result (λ head. (flow.now.left ≡ None) × BeginsWith flow.now.limit flow.now.bytes head
+        × (1 + head.length ≤ length flow.now.bytes)
+        × (link_message head.kind head.length ≡ PassOn)) }
+{
+    match flow.whole_frame() {
+        Some(head) if is_passed_on(head.kind) => Some(head),
+        _ => None,
+    }
+}
+
+// What a piece of a reply means at this place.
+fn on_piece(session: &mut Client, place: Place, piece: Piece<'_>) -> Handed
+    requires { IsTrue session.old.leased }
+    ensures { PieceMeans place session.old piece.entry result session.new }
+{
+    match piece {
+        Piece::Head { kind, length } => on_head(session, kind, length),
+        Piece::Part(part) => Handed::More(after_part(place, part)),
+        Piece::Tail => after_tail(place),
+    }
+}
+
+// What the head of a frame means.
+fn on_head(session: &mut Client, kind: u8, length: usize) -> Handed
+    requires { IsTrue session.old.leased }
+    ensures means { HeadMeans (head_act session.old kind length) result }
+    ensures session { session.new ≡ after_head session.old kind length }
+{
+    match session.on_link_head(kind, length) {
+        HeadAct::PassOn => Handed::More(Place::Inside),
+        HeadAct::Ready => Handed::More(Place::AtReady),
+        HeadAct::Close(error) => Handed::Refused(error),
+    }
+}
+
+// Where a reader is after a part of a body.
+fn after_part(place: Place, part: &[u8]) -> Place
+    ensures { result ≡ after_part place part.now }
+{
+    match (place, part.first()) {
+        (Place::AtReady, Some(status)) => Place::Status(*status),
+        _ => place,
+    }
+}
+
+// What the end of a frame means.
+fn after_tail(place: Place) -> Handed
+    ensures { result ≡ after_tail place }
+{
+    match place {
+        Place::Status(status) => Handed::Ready(status),
+        _ => Handed::More(Place::Between),
+    }
+}
+
+// Writes to the client what was handed out, except the last `withheld` bytes, and forgets it. It
+// returns whether the client took it.
+fn pass_on<C: WriteCalls + ReadCalls>(client: &mut C, flow: &mut Flow, withheld: usize) -> bool
+    requires { withheld ≤ length flow.old.passed }
+    ensures told { result ≡ true → SomeCalls C.wrote C.gave client.old client.new
+        (Wrote (take (length flow.old.passed - withheld) flow.old.passed)) }
+    ensures untold { result ≡ false → SomeCalls C.wrote C.gave client.old client.new
+        (WroteSome (take (length flow.old.passed - withheld) flow.old.passed)) }
+    ensures flow { flow.new ≡ forgotten flow.old (length flow.old.passed - withheld) }
+{
+    let passed = flow.passed();
+    let count = passed.len() - withheld;
+    let told = write_whole(client, passed.split_at(count).0);
+    flow.forget(count);
+    told
+}
+
+// Passes on what was handed out, and reads more of the reply. It returns how the stay ended, if it
+// did.
+fn read_on<C: WriteCalls + ReadCalls, L: WriteCalls + ReadCalls>(
+    session: &mut Client,
+    client: &mut C,
+    link: &mut Link<L>,
+    room: &mut Vec<u8>,
+    place: Place,
+) -> Option<Stayed>
+    requires session { session.old ≡ asking session.old.limit session.old.database }
+    requires dry { HasNoNext link.old.flow.limit link.old.flow.left link.old.flow.bytes }
+    requires handed { (limit : ℕ) × (stream : List ℕ) × (written : List ℕ)
+        × HandedOut limit stream written place link.old.flow }
+    ensures more { result ≡ None → (call : Call)
+        × Makes L.wrote L.gave link.old.stream (call ∷ []) link.new.stream
+        × SomeCalls C.wrote C.gave client.old client.new
+        (λ tells. (bytes : List ℕ) × Read bytes (call ∷ []) × (text : List ℕ) × Wrote text tells
+        × ((limit : ℕ) (stream written : List ℕ)
+        → HandedOut limit stream written place link.old.flow
+        → HandedOut limit (stream ++ bytes) (written ++ text) place link.new.flow)) }
+    ensures sound { result ≡ None → HasFault link.old.flow.limit (after link.old.flow) None }
+    ensures session { result ≡ None → session.new ≡ session.old }
+    ensures ends { IfSome result (λ stayed.
+        SomeCalls L.wrote L.gave link.old.stream link.new.stream
+        (λ reads. SomeCalls C.wrote C.gave client.old client.new
+        (λ tells. (limit : ℕ) (stream written : List ℕ)
+        → HandedOut limit stream written place link.old.flow
+        → EndsHere limit stream written reads tells stayed))) }
+    ensures leaves { IfSome result
+        (λ stayed. LeavesBehind link.old.flow.limit stayed session.old session.new link.new.flow) }
+{
+    if !pass_on(client, &mut link.flow, place.withheld()) {
+        return Some(Stayed::End(Reply::nothing()));
+    }
+    if link.flow.fault().is_some() {
+        return Some(Stayed::End(lost(session)));
+    }
+    if read_link(link, room) {
+        return None;
+    }
+    match place {
+        Place::Inside => Some(Stayed::End(Reply::nothing())),
+        _ => Some(Stayed::End(lost(session))),
+    }
+}
+
+// The error of a lost link.
+pub fn lost(session: &mut Client) -> Reply
+    requires { IsTrue session.old.leased }
+    ensures { IsError ConnectionFailure result }
+{
+    match session.on_link_fault() {
+        Act::Close(error) => error,
+        _ => Reply::nothing(),
+    }
+}
+
+// Reads more of a link into this memory, or by less where there is none, and returns whether more
+// came.
+fn read_link<L: WriteCalls + ReadCalls>(link: &mut Link<L>, room: &mut Vec<u8>) -> bool
+    requires dry { HasNoNext link.old.flow.limit link.old.flow.left link.old.flow.bytes }
+    requires sound { HasFault link.old.flow.limit (after link.old.flow) None }
+    requires few { length link.old.flow.passed ≤ 6 }
+    ensures more { result ≡ true → (call : Call)
+        × Makes L.wrote L.gave link.old.stream (call ∷ []) link.new.stream
+        × (bytes : List ℕ) × Read bytes (call ∷ []) × (link.new.flow ≡ fed link.old.flow bytes) }
+    ensures none { result ≡ false → (call : Call)
+        × Makes L.wrote L.gave link.old.stream (call ∷ []) link.new.stream × IsFailedRead call }
+{
+    if room.is_empty() {
+        read_up_to::<FEW, L>(link)
+    } else {
+        read_more(link, room.as_mut_slice())
+    }
+}
+
+// Passes on a reply up to its ReadyForQuery. It returns how the stay ended, unless the reply leaves
+// a transaction open and nothing follows it.
+fn finish<C: WriteCalls + ReadCalls>(
+    session: &mut Client,
+    client: &mut C,
+    flow: &mut Flow,
+    status: u8,
+) -> Option<Stayed>
+    requires session { session.old ≡ asking session.old.limit session.old.database }
+    requires handed { (limit : ℕ) × (stream : List ℕ) × (written : List ℕ)
+        × HandedLast limit stream written (ready_text status) flow.old }
+    ensures goes_on { result ≡ None → SomeCalls C.wrote C.gave client.old client.new
+        (λ tells. (limit : ℕ) (stream written : List ℕ)
+        → HandedLast limit stream written (ready_text status) flow.old
+        → GoesOn limit stream written [] tells) }
+    ensures open { result ≡ None → session.new ≡ in_transaction session.old.limit session.old.database }
+    ensures drained { result ≡ None → flow.new ≡ start flow.old.limit }
+    ensures ends { IfSome result (λ stayed. SomeCalls C.wrote C.gave client.old client.new
+        (λ tells. (limit : ℕ) (stream written : List ℕ)
+        → HandedLast limit stream written (ready_text status) flow.old
+        → EndsHere limit stream written [] tells stayed)) }
+    ensures leaves { IfSome result
+        (λ stayed. LeavesBehind flow.old.limit stayed session.old session.new flow.new) }
+{
+    match session.on_ready(status) {
+        Act::Release(_) => Some(finish_idle(client, flow)),
+        Act::ToClient(_) => finish_in_transaction(client, flow),
+        Act::Close(error) => Some(refuse(client, flow, 6, error)),
+        _ => unreachable!(),
+    }
+}
+
+// Passes on a reply that leaves no transaction open.
+fn finish_idle<C: WriteCalls + ReadCalls>(client: &mut C, flow: &mut Flow) -> Stayed
+    ensures told { SomeCalls C.wrote C.gave client.old client.new
+        (FinishesIdle flow.old.passed flow.old.bytes result) }
+    ensures flow { flow.new ≡ record flow.old { passed = [] } }
+{
+    if !pass_on(client, flow, 0) {
+        return Stayed::End(Reply::nothing());
+    }
+    if flow.pending().is_empty() {
+        Stayed::Release
+    } else {
+        Stayed::Close
+    }
+}
+
+// Passes on a reply that leaves a transaction open.
+fn finish_in_transaction<C: WriteCalls + ReadCalls>(
+    client: &mut C,
+    flow: &mut Flow,
+) -> Option<Stayed>
+    ensures told { SomeCalls C.wrote C.gave client.old client.new
+        (FinishesOpen flow.old.passed flow.old.bytes result) }
+    ensures flow { flow.new ≡ record flow.old { passed = [] } }
+    ensures ends { IfSome result (λ stayed. stayed ≡ Stayed.End []) }
+{
+    if pass_on(client, flow, 0) && flow.pending().is_empty() {
+        None
+    } else {
+        Some(Stayed::End(Reply::nothing()))
+    }
+}
+
+// Passes on what was handed out, except the last `withheld` bytes, and ends with an error.
+fn refuse<C: WriteCalls + ReadCalls>(
+    client: &mut C,
+    flow: &mut Flow,
+    withheld: usize,
+    error: Reply,
+) -> Stayed
+    requires { withheld ≤ length flow.old.passed }
+    ensures { SomeCalls C.wrote C.gave client.old client.new
+        (Refuses (take (length flow.old.passed - withheld) flow.old.passed) error result) }
+{
+    if pass_on(client, flow, withheld) {
+        Stayed::End(error)
+    } else {
+        Stayed::End(Reply::nothing())
+    }
+}
