@@ -11,14 +11,12 @@ mod opener;
 mod service;
 mod session;
 
+pub use admission::{Admission, Entrance};
 pub use cancel::{CancelOpener, Counting, Seat, Seats, SingleUse, relay, report, serve_cancel};
 pub use connection::serve_connection;
 pub use desk::{Desk, DeskCall, ListDesk, LockDesk, RequestDesk, Requested};
 pub use gate::{Gate, Open, Point};
-pub use node::{
-    Admission, Calling, ClientCensus, Entrance, Front, LinkCensus, Node, PoolCensus, Secrets,
-    restart,
-};
+pub use node::{Calling, ClientCensus, Front, LinkCensus, Node, PoolCensus, Secrets, restart};
 pub use opener::{Opener, Sender};
 pub use service::{Context, Service};
 pub use session::{CONSOLE, serve_client, serve_console, turn};

@@ -6,7 +6,7 @@
 //! finishes wakes the next one, and those with a permit ask in any order. While one of them waits
 //! in the node's queue all the same, no permit is given. A client without a permit asks after 200
 //! milliseconds, or at once for a cancel request or the console. No contract depends on this.
-use crate::node::semaphore::{ADMITTED, ASKED, QUEUED, Semaphore, State, TOLD, exchange};
+use crate::semaphore::{ADMITTED, ASKED, QUEUED, Semaphore, State, TOLD, exchange};
 use ini_config::Settings;
 use pg_ids::{DatabaseNo, SlotNo};
 use std::alloc::{AllocError, Global};
