@@ -1,1 +1,2 @@
 pub mod CancelEnds
+pub mod UnservedEnds

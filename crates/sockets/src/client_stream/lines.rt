@@ -3,7 +3,6 @@ use super::ClientStream;
 use crate::Machine;
 use crate::dropped::put_dropped;
 use crate::login_answer::{HEAD, field_of};
-use startup::ErrorCode;
 use telemetry::{Event, Field, Value};
 
 impl<'a, M: Machine> ClientStream<'a, M> {
@@ -44,26 +43,21 @@ impl<'a, M: Machine> ClientStream<'a, M> {
 
     // Logs this ErrorResponse.
     pub(super) fn write_error(&self, event: Event, error: &[u8]) {
-        let body = error.get(HEAD..).unwrap_or(&[]);
-        let code = Value::Bytes(field_of(body, b'C').unwrap_or(&[]));
-        let message = Value::Bytes(field_of(body, b'M').unwrap_or(&[]));
-        let fields = [
-            ("client", self.client()),
-            ("code", code),
-            ("message", message),
-        ];
-        self.write(event, &fields);
+        let [code, message] = told_by(error);
+        self.write(event, &[("client", self.client()), code, message]);
     }
 
-    // Logs that the client was refused with this error before its first packets were complete.
-    pub(super) fn write_cut_off(&self, error: ErrorCode, reason: &str) {
-        let fields = [
-            ("client", self.client()),
-            ("code", Value::Text(error.code())),
-            ("message", Value::Text(error.message())),
-            ("reason", Value::Text(reason)),
-        ];
-        self.write(Event::ClientRefused, &fields);
+    // Logs that the client isn't served for this reason, and the error that it gets, if any.
+    pub(super) fn write_unserved(&self, reason: &str, error: Option<&[u8]>) {
+        let client = ("client", self.client());
+        let reason = ("reason", Value::Text(reason));
+        match error {
+            Some(error) => {
+                let [code, message] = told_by(error);
+                self.write(Event::ClientRefused, &[client, code, message, reason]);
+            }
+            None => self.write(Event::ClientRefused, &[client, reason]),
+        }
     }
 
     // Logs an event of the node that serves the client.
@@ -76,4 +70,12 @@ impl<'a, M: Machine> ClientStream<'a, M> {
     fn client(&self) -> Value<'_> {
         Value::Peer(self.connection.socket())
     }
+}
+
+// Returns the code and the message of an ErrorResponse.
+fn told_by(error: &[u8]) -> [Field<'_>; 2] {
+    let body = error.get(HEAD..).unwrap_or(&[]);
+    let code = Value::Bytes(field_of(body, b'C').unwrap_or(&[]));
+    let message = Value::Bytes(field_of(body, b'M').unwrap_or(&[]));
+    [("code", code), ("message", message)]
 }
