@@ -2,7 +2,7 @@
 -- whole StartupMessage. A refused packet, and one that its client didn't complete, gets no byte and a
 -- clean end. One that is given up otherwise may carry a cancel request that wasn't read: it gets no
 -- byte and a reset, unless a StartupMessage shows that it carries none.
-use Rattle.std.specs.Prelude.{Bool, true, false, ⊤, ⊥}
+use Rattle.std.specs.Prelude.{Bool, true, false, ⊤}
 use Rattle.sockets.specs.declared.unserved.Unserved.{Unserved}
 use Rattle.sockets.specs.declared.unserved.Unserved.TheVariants.{Refused, Left, Late, Evicted, Shortage, Draining}
 use Rattle.sockets.specs.declared.unserved.UnservedEnd.{UnservedEnd}

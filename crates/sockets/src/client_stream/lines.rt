@@ -48,7 +48,7 @@ impl<'a, M: Machine> ClientStream<'a, M> {
     }
 
     // Logs that the client isn't served for this reason, and the error that it gets, if any.
-    pub(super) fn write_unserved(&self, reason: &str, error: Option<&[u8]>) {
+    pub(super) fn write_unserved<'b>(&'b self, reason: &'b str, error: Option<&'b [u8]>) {
         let client = ("client", self.client());
         let reason = ("reason", Value::Text(reason));
         match error {
