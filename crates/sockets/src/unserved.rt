@@ -94,12 +94,12 @@ impl UnservedEnd {
 
     /// Ends a connection so, with this error. Its socket has still to be closed. If there is no memory
     /// for the error, the connection is reset.
-    pub fn apply(self, socket: &TcpStream, error: Option<&[u8]>) {
-        match (self, error) {
+    pub fn apply(self, socket: &TcpStream, error: Option<Vec<u8>>) {
+        match (self, &error) {
             (UnservedEnd::Clean, _) => discard(socket.as_raw_fd()),
             (UnservedEnd::TooMany | UnservedEnd::Shutdown, Some(error)) => {
                 let mut writer = socket;
-                let _ = writer.write_all(error);
+                let _ = writer.write_all(error.as_slice());
                 discard(socket.as_raw_fd());
             }
             _ => reset(socket.as_raw_fd()),
@@ -113,10 +113,7 @@ impl UnservedEnd {
 pub fn refuse_accepted(alloc: Global, socket: &TcpStream) {
     let has_startup = has_startup(alloc, socket.as_raw_fd());
     let end = UnservedEnd::of(Unserved::Shortage, has_startup);
-    match end.error(alloc) {
-        Some(error) => end.apply(socket, Some(error.as_slice())),
-        None => end.apply(socket, None),
-    }
+    end.apply(socket, end.error(alloc));
 }
 
 // Returns whether a whole StartupMessage has come, of at most `MAX_PEEK` bytes. Leaves it unread.

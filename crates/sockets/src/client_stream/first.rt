@@ -124,10 +124,12 @@ impl<'a, M: Machine> ClientStream<'a, M> {
         };
         let end = UnservedEnd::of(why, has_startup);
         let error = end.error(self.alloc);
-        let error = error.as_ref().map(|error| error.as_slice());
         // The client's address is known only until the connection is reset.
         if let Some(reason) = why.reason() {
-            self.write_unserved(reason, error);
+            match &error {
+                Some(error) => self.write_refused(reason, error.as_slice()),
+                None => self.write_unserved(reason),
+            }
         }
         end.apply(self.connection.socket(), error);
     }

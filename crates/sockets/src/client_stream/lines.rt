@@ -43,21 +43,29 @@ impl<'a, M: Machine> ClientStream<'a, M> {
 
     // Logs this ErrorResponse.
     pub(super) fn write_error(&self, event: Event, error: &[u8]) {
-        let [code, message] = told_by(error);
-        self.write(event, &[("client", self.client()), code, message]);
+        let fields = [
+            ("client", self.client()),
+            ("code", Value::Bytes(error_field(error, b'C'))),
+            ("message", Value::Bytes(error_field(error, b'M'))),
+        ];
+        self.write(event, &fields);
     }
 
-    // Logs that the client isn't served for this reason, and the error that it gets, if any.
-    pub(super) fn write_unserved<'b>(&'b self, reason: &'b str, error: Option<&'b [u8]>) {
-        let client = ("client", self.client());
-        let reason = ("reason", Value::Text(reason));
-        match error {
-            Some(error) => {
-                let [code, message] = told_by(error);
-                self.write(Event::ClientRefused, &[client, code, message, reason]);
-            }
-            None => self.write(Event::ClientRefused, &[client, reason]),
-        }
+    // Logs that the client isn't served for this reason, and gets no error.
+    pub(super) fn write_unserved(&self, reason: &str) {
+        let fields = [("client", self.client()), ("reason", Value::Text(reason))];
+        self.write(Event::ClientRefused, &fields);
+    }
+
+    // Logs that the client isn't served for this reason, and gets this error.
+    pub(super) fn write_refused(&self, reason: &str, error: &[u8]) {
+        let fields = [
+            ("client", self.client()),
+            ("code", Value::Bytes(error_field(error, b'C'))),
+            ("message", Value::Bytes(error_field(error, b'M'))),
+            ("reason", Value::Text(reason)),
+        ];
+        self.write(Event::ClientRefused, &fields);
     }
 
     // Logs an event of the node that serves the client.
@@ -72,10 +80,7 @@ impl<'a, M: Machine> ClientStream<'a, M> {
     }
 }
 
-// Returns the code and the message of an ErrorResponse.
-fn told_by(error: &[u8]) -> [Field<'_>; 2] {
-    let body = error.get(HEAD..).unwrap_or(&[]);
-    let code = Value::Bytes(field_of(body, b'C').unwrap_or(&[]));
-    let message = Value::Bytes(field_of(body, b'M').unwrap_or(&[]));
-    [("code", code), ("message", message)]
+// Returns this field of an ErrorResponse.
+fn error_field(error: &[u8], kind: u8) -> &[u8] {
+    field_of(error.get(HEAD..).unwrap_or(&[]), kind).unwrap_or(&[])
 }
