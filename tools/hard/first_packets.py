@@ -26,14 +26,11 @@ REFUSALS = {"a length of 7": (b"\0\0\0\7", "08P01", "protocol violation"),
 
 
 def send(port, data, ends=False):
-    """A connection on which this was sent. One that is reset at once fails here, or when it is read."""
+    """A connection on which this was sent. If it is reset before that, this fails, and a read wouldn't."""
     stream = socket.create_connection(("127.0.0.1", port), 10.0)
-    try:
-        stream.sendall(data)
-        if ends:
-            stream.shutdown(socket.SHUT_WR)
-    except OSError:
-        pass
+    stream.sendall(data)
+    if ends:
+        stream.shutdown(socket.SHUT_WR)
     return stream
 
 
