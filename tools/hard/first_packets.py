@@ -8,7 +8,7 @@ import time
 from hard.fake import FakeServer
 from hard.shortage import ALONE, fill, log_in_until_refused, open_strangers
 from hard.trial import Pooler, scenario
-from hard.wire import CANCEL, CLEAN, OPEN, RESET, SSL, error_frame, startup
+from hard.wire import CANCEL, CLEAN, OPEN, RESET, SSL, error_frame, startup, wait_until
 
 WHOLE = startup("shop")
 REQUEST = struct.pack("!II", 16, CANCEL) + b"12345678"
@@ -79,9 +79,18 @@ def judge_end(t, what, came, begun, *wanted):
     return t.check(came in wanted, what, figure, " or ".join(map(words, wanted)))
 
 
+def await_lines(pooler, event, word, count):
+    """The lines of the log of this event with this word, once there are so many: a thread of its own writes them."""
+    def find():
+        return [line for line in pooler.log_lines(event) if word in line]
+
+    wait_until(lambda: len(find()) >= count, 3)
+    return find()
+
+
 def judge_reasons(t, pooler, reason, count):
     """So many lines of the log have this reason, and tell no error that the client didn't get."""
-    lines = [line for line in pooler.log_lines("client_refused") if f"reason={reason}" in line]
+    lines = await_lines(pooler, "client_refused", f"reason={reason}", count)
     told = [line for line in lines if any(word.startswith(("code=", "message=")) for word in line)]
     t.check(len(lines) >= count and not told, f"the log, reason={reason}", f"{len(lines)} lines, {len(told)} with an error",
             f"{count} or more, none with an error")
@@ -146,7 +155,7 @@ def first_packets_full(t):
     judge_sent(t, "a cancel request, refused", pooler.port, REQUEST, (b"", RESET))
     for number in range(5):  # it comes before the connection is accepted, or after
         judge_sent(t, f"StartupMessage {number + 1}, refused", pooler.port, WHOLE, (TOO_MANY, CLEAN), (b"", RESET))
-    lines = pooler.log_lines("serve_failed")
+    lines = await_lines(pooler, "serve_failed", "warn", 1)
     t.check(len(lines) >= 1, "the log, serve_failed", f"{len(lines)} lines", "some")
     for client in clients:
         client.stream.close()
@@ -178,7 +187,7 @@ def first_packets_alone(t):
 
 def judge_reasons_alone(t, pooler):
     """The log tells the error of those that got it, and of the others only the reason."""
-    lines = [line for line in pooler.log_lines("client_refused") if "reason=shortage" in line]
+    lines = await_lines(pooler, "client_refused", "reason=shortage", 6)
     told = [line for line in lines if "code=53300" in line]
     t.check(told and len(told) < len(lines), "the log, reason=shortage", f"{len(lines)} lines, {len(told)} with 53300",
             "some with 53300, some without")
