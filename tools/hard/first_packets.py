@@ -171,18 +171,30 @@ def first_packets_alone(t):
     user = ALONE + t.random.randrange(2000) + os.getpid() % 1000
     pooler = Pooler(t, {"shop": server.port}, clients=300, limits={"NPROC": 40}, user=user)
     clients = log_in_until_refused(t, pooler, 60)
-    judge(t, "a StartupMessage", send(pooler.port, WHOLE), (TOO_MANY, CLEAN))
-    judge(t, "one after a request for encryption", send(pooler.port, ENCRYPTION + WHOLE), (b"N" + TOO_MANY, CLEAN))
+    kept = [client.stream for client in clients]
+    judge_alone(t, kept, "a StartupMessage", pooler.port, WHOLE, (TOO_MANY, CLEAN))
+    judge_alone(t, kept, "one after a request for encryption", pooler.port, ENCRYPTION + WHOLE, (b"N" + TOO_MANY, CLEAN))
     for what, data in PARTS.items():
-        judge(t, what, send(pooler.port, data), (b"", RESET))
-        judge(t, what + ", and the end of input", send(pooler.port, data, ends=True), (b"", CLEAN), (b"", RESET))
+        judge_alone(t, kept, what, pooler.port, data, (b"", RESET))
+        judge(t, what + ", and the end of input", send(pooler.port, data, ends=True), (b"", CLEAN))
     for what, data in OTHERS.items():
         judge(t, what, send(pooler.port, data), (b"", CLEAN))
     judge(t, "a cancel request of an unknown key", send(pooler.port, REQUEST), (b"", CLEAN))
     judge_reasons_alone(t, pooler)
-    for client in clients:
-        client.stream.close()
+    for stream in kept:
+        stream.close()
     server.close()
+
+
+def judge_alone(t, kept, what, port, data, wanted):
+    """As `judge`. If a thread has become free, it serves the connection, which is kept, and another one comes."""
+    for _ in range(5):
+        begun, stream = time.monotonic(), send(port, data)
+        came = read_all(stream, 3.0)
+        kept.append(stream)
+        if came[1] != OPEN:
+            break
+    judge_end(t, what, came, begun, wanted)
 
 
 def judge_reasons_alone(t, pooler):
