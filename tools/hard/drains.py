@@ -6,7 +6,8 @@ import time
 
 from hard.fake import FakeServer
 from hard.trial import Pooler, Postgres, scenario
-from hard.wire import CLEAN, Late, Lost, Refused, ask_cancel, connect, outcome, query_frame, read_end, wait_until
+from hard.wire import (CLEAN, RESET, Late, Lost, Refused, ask_cancel, connect, outcome, query_frame, read_end,
+                       wait_until)
 
 WORDS = "FATAL 57P01 terminating connection due to administrator command"
 
@@ -77,8 +78,8 @@ def drain(t):
     doors = [pooler.front, *ports.values()]
     t.check(all(map(is_refused, doors)), "new connections", f"{[is_refused(port) for port in doors]}", "refused")
     end = read_end(stranger, 5)
-    t.check(time.monotonic() - begun < 2.0, "a connection in its first packets",
-            f"{end} after {time.monotonic() - begun:.2f} s", "its end")
+    t.check(end == RESET and time.monotonic() - begun < 2.0, "a connection in its first packets",
+            f"{end} after {time.monotonic() - begun:.2f} s", RESET)
     t.check(pooler.is_running(), "the process meanwhile", "runs" if pooler.is_running() else "ended", "runs")
     end_transactions(t, begun, busy, waiting, opener)
     half.send(query_frame("select 'whole'")[7:])

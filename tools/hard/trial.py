@@ -206,10 +206,12 @@ class Pooler:
     number."""
 
     count = 0
+    started = []
 
     def __init__(self, trial, databases, ports=None, peers=None, pool=4, clients=100, limits=None,
                  user=None, stdin=subprocess.DEVNULL, stderr=None, closed=(), words=(), boot=None):
         Pooler.count += 1
+        Pooler.started.append(self)
         self.trial, self.limits, self.user, self.stdin, self.stderr = trial, limits or {}, user, stdin, stderr
         self.closed, self.words, self.boot = closed, words, boot
         self.ports = ports or {1: trial.port()}

@@ -5,9 +5,8 @@ use libc::net as c;
 use node_threads::{Calling, Front};
 use sockets::{
     AcceptThreads, ClientStream, Connection, ConnectionContext, ConnectionLimit, Deadline, Host,
-    LinkStream, Machine, PendingId, Serves, end, fatal_error, keep_alive, write_refusal,
+    LinkStream, Machine, PendingId, Serves, end, keep_alive, refuse_accepted,
 };
-use startup::ErrorCode;
 use std::alloc::{AllocError, Global};
 use std::io::ErrorKind;
 use std::net::{TcpListener, TcpStream};
@@ -97,6 +96,7 @@ impl<M: Machine> Acceptor<M> {
             Serves::Cancels
         };
         let Some(node) = self.nodes.get(place) else {
+            refuse_accepted(alloc, &socket);
             return;
         };
         let Some(pending) = self.limit.admit(host, socket.as_raw_fd()) else {
@@ -200,9 +200,9 @@ impl<M: Machine> Acceptor<M> {
         end(host, connection, &mut client);
     }
 
-    // Tells a client that its connection isn't served, and logs why.
+    // Ends a connection that isn't served, and logs why.
     fn refuse(&self, host: &M, alloc: Global, socket: &TcpStream, error: &io::Error) {
-        write_refusal(socket, fatal_error(alloc, ErrorCode::TooManyConnections));
+        refuse_accepted(alloc, socket);
         self.write_error(host, Event::ServeFailed, error);
     }
 

@@ -2,7 +2,7 @@
 use crate::host::TestHost;
 use crate::messages::{CANCEL, GREETING, IDLE, KEY, LONG_CANCEL, LONG_KEY, STARTUP, joined, query};
 use std::io::{ErrorKind, Read, Write};
-use std::net::TcpStream;
+use std::net::{Shutdown, TcpStream};
 use std::test::Fail;
 use std::thread;
 use std::time::Duration;
@@ -232,6 +232,27 @@ impl Client {
     ) -> Result<(), Fail> {
         self.ask(rt, text)?;
         self.expect(rt, answer, None)
+    }
+
+    // Sends nothing more.
+    pub(crate) fn end_input(&self) -> Result<(), Fail> {
+        Ok(self.stream.shutdown(Shutdown::Write)?)
+    }
+
+    // The connection is reset, and nothing came before.
+    pub(crate) fn expect_reset<R: TestHost>(&mut self, rt: &R) -> Result<(), Fail> {
+        let mut buffer = [0; MAX_READ];
+        for _turn in 0..TURNS {
+            thread::sleep(rt, Duration::from_millis(1));
+            match self.stream.read(&mut buffer) {
+                Ok(0) => return Err(Fail::from("the connection was closed")),
+                Ok(_) => return Err(Fail::from("a byte came")),
+                Err(error) if error.kind() == ErrorKind::WouldBlock => {}
+                Err(error) if error.kind() == ErrorKind::ConnectionReset => return Ok(()),
+                Err(error) => return Err(Fail::from(error)),
+            }
+        }
+        Err(Fail::from("no end within the limit of turns"))
     }
 
     // The connection is ended after these bytes.

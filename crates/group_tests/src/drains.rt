@@ -2,6 +2,7 @@
 //! transactions.
 use crate::client::Client;
 use crate::console_client::Console;
+use crate::first_packets::INCOMPLETE;
 use crate::group::{ANY_PORT, await_listening, free_ports, options, start_server};
 use crate::host::TestHost;
 use crate::messages::{BEGIN, COMMIT, HI, IDLE, OPEN, joined};
@@ -159,18 +160,25 @@ fn who_waits_is_served(rt: HostRuntime) -> Result<(), Fail> {
     expect_waiting(&rt, group)
 }
 
-// A connection in its first packets gets the same error.
+// Connections in their first packets are reset, and get no byte.
 fn expect_unserved<R: TestHost>(rt: &R, group: Draining) -> Result<(), Fail> {
-    let mut stranger = Client::connect(rt, group.port)?;
-    stranger.send(b"\0\0\0")?;
+    let mut strangers = Vec::new(rt.alloc());
+    for sent in INCOMPLETE {
+        let mut stranger = Client::connect(rt, group.port)?;
+        stranger.send(sent)?;
+        strangers.push(stranger)?;
+    }
     let (mut idle, _) = Client::log_in(rt, group.port)?;
     drop(group.input);
     expect_shutdown(rt, &mut idle, &[])?;
-    expect_shutdown(rt, &mut stranger, &[])
+    for stranger in &mut strangers {
+        stranger.expect_reset(rt)?;
+    }
+    Ok(())
 }
 
 #[test]
-fn a_pending_connection_is_closed(rt: HostRuntime) -> Result<(), Fail> {
+fn pending_connections_are_reset(rt: HostRuntime) -> Result<(), Fail> {
     let server = TcpListener::bind(&rt, ANY_PORT)?;
     let group = Draining::start(&rt, server)?;
     expect_unserved(&rt, group)

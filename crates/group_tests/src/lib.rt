@@ -25,6 +25,8 @@ mod drains;
 #[cfg(test)]
 mod files;
 #[cfg(test)]
+mod first_packets;
+#[cfg(test)]
 mod front;
 #[cfg(test)]
 mod gated;
@@ -43,6 +45,8 @@ mod messages;
 #[cfg(test)]
 mod metrics;
 #[cfg(test)]
+mod refusals;
+#[cfg(test)]
 mod reported;
 #[cfg(test)]
 mod scripted;
@@ -50,5 +54,7 @@ mod scripted;
 mod settings;
 #[cfg(test)]
 mod too_long;
+#[cfg(test)]
+mod unreliable;
 #[cfg(test)]
 mod waiting;

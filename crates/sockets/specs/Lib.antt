@@ -1,2 +1,3 @@
 pub mod CancelEnds
 pub mod OpenConnections
+pub mod UnservedEnds

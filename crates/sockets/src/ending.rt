@@ -11,9 +11,9 @@ use std::time::Duration;
 // How many bytes are read at once at the end of a connection.
 const DRAIN_READ: usize = 1_024;
 
-/// Closes a connection, once nothing is held for its client any more. If something was written to
-/// the client, its input is first read for a while: a socket that is closed with unread input resets
-/// the connection, and the client may lose what was written.
+/// Ends a connection, once nothing is held for its client any more. Its socket has still to be closed.
+/// If something was written to the client, its input is first read for a while: a socket that is closed
+/// with unread input resets the connection, and the client may lose what was written.
 #[inline(never)]
 pub fn end<M: Machine>(machine: &M, connection: &Connection, client: &mut ClientStream<'_, M>) {
     if let Some(error) = client.take_final_error() {
@@ -21,12 +21,15 @@ pub fn end<M: Machine>(machine: &M, connection: &Connection, client: &mut Client
         let _ = connection.socket().set_write_timeout(Some(limit));
         let _ = client.write_all(error.as_slice());
     }
+    if let Some(why) = client.unserved() {
+        client.dismiss(why);
+        return;
+    }
     match client.last_call() {
         // The last byte of a cancel request stays unread if it got no order, or if the byte for its
         // sender couldn't be written: so the connection is reset.
         LastCall::Failed => {}
         LastCall::Read if connection.is_given_up() => {}
-        LastCall::Read if client.is_pending() => client.refuse(),
         LastCall::Read => settle(connection, client),
         LastCall::Wrote => {
             settle(connection, client);

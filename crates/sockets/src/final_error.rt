@@ -1,8 +1,6 @@
 //! The final error of a session that a server or the group ends, and of a connection that isn't served.
 use startup::{ErrorCode, Severity, write_error};
 use std::alloc::{AllocError, Global};
-use std::io::Write;
-use std::net::TcpStream;
 use std::os::fd::RawFd;
 
 // PostgreSQL's message at a shutdown.
@@ -34,17 +32,6 @@ pub fn fatal_error(alloc: Global, error: ErrorCode) -> Result<Vec<u8>, AllocErro
         Ok(()) => Ok(message),
         Err(_) => Err(AllocError),
     }
-}
-
-/// Writes an error to a client whose connection isn't served, or only its first byte if there is no
-/// memory for it. The sender of a cancel request, which may not have arrived yet, so gets a byte
-/// before the end, and doesn't take the request for one that was served.
-pub fn write_refusal(socket: &TcpStream, error: Result<Vec<u8>, AllocError>) {
-    let mut socket = socket;
-    let _ = match &error {
-        Ok(error) => socket.write_all(error.as_slice()),
-        Err(_) => socket.write_all(b"E"),
-    };
 }
 
 /// Returns the error of a session that ends because the group drains.

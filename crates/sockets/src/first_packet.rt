@@ -18,8 +18,10 @@ enum Body {
     Unknown,
     // The rest of a cancel request, of this many bytes.
     Cancel(usize),
-    // The rest of another packet, of this many bytes.
+    // The rest of a StartupMessage, of this many bytes.
     Session(usize),
+    // Nothing: the packet is refused.
+    Refused,
 }
 
 /// What to read next of a connection.
@@ -29,7 +31,7 @@ pub enum Next {
     Read(usize),
     /// One byte, which ends a cancel request and stays unread for now.
     Peek,
-    /// The first packets were read.
+    /// Nothing: the first packets were read, or are refused.
     Done,
 }
 
@@ -40,12 +42,19 @@ pub enum Asks {
     Unknown,
     /// A cancel request.
     Cancel,
-    /// A session, or something that is refused.
+    /// A session.
     Session,
+    /// Something that is refused.
+    Refused,
 }
 
 // The size of a packet's length and code (PostgreSQL manual, "Message Formats").
 const HEAD: usize = 8;
+
+// Protocols 3.0 and 3.2.
+const STARTUP_CODE: u32 = 3 << 16;
+
+const LONG_STARTUP_CODE: u32 = STARTUP_CODE + 2;
 
 const CANCEL_CODE: u32 = 80_877_102;
 
@@ -72,7 +81,7 @@ impl FirstPacket {
             Body::Unknown => Next::Read(HEAD.saturating_sub(self.read)),
             Body::Cancel(1) => Next::Peek,
             Body::Cancel(left) => Next::Read(left.saturating_sub(1)),
-            Body::Session(0) => Next::Done,
+            Body::Session(0) | Body::Refused => Next::Done,
             Body::Session(left) => Next::Read(left),
         }
     }
@@ -83,7 +92,13 @@ impl FirstPacket {
             Body::Unknown => Asks::Unknown,
             Body::Cancel(_) => Asks::Cancel,
             Body::Session(_) => Asks::Session,
+            Body::Refused => Asks::Refused,
         }
+    }
+
+    /// Returns whether a whole StartupMessage was read.
+    pub fn is_startup(&self) -> bool {
+        matches!(self.body, Body::Session(0))
     }
 
     /// Takes bytes that were read, at most as many as `next` said.
@@ -92,6 +107,7 @@ impl FirstPacket {
             Body::Unknown => self.take_head(bytes),
             Body::Cancel(left) => self.body = Body::Cancel(left.saturating_sub(bytes.len())),
             Body::Session(left) => self.body = Body::Session(left.saturating_sub(bytes.len())),
+            Body::Refused => {}
         }
     }
 
@@ -117,8 +133,8 @@ impl FirstPacket {
         match (u32::from_be_bytes([e, f, g, h]), length) {
             (CANCEL_CODE, 16 | 32) => self.body = Body::Cancel(left),
             (SSL_CODE | GSS_CODE, HEAD) => self.read = 0,
-            _ if length <= LONGEST => self.body = Body::Session(left),
-            _ => self.body = Body::Session(0),
+            (STARTUP_CODE | LONG_STARTUP_CODE, HEAD..=LONGEST) => self.body = Body::Session(left),
+            _ => self.body = Body::Refused,
         }
     }
 }

@@ -24,8 +24,10 @@ mod link_stream;
 mod login_answer;
 mod origin;
 mod poll;
+mod resetting;
 #[cfg(test)]
 mod tests;
+mod unserved;
 
 pub use accept_threads::AcceptThreads;
 pub use cancel_end::{CancelEnd, Target};
@@ -39,7 +41,7 @@ pub use descriptors::{Needs, descriptor_limit};
 pub use drain_signal::DrainSignal;
 pub use dropped::put_dropped;
 pub use ending::end;
-pub use final_error::{fatal_error, find_error, write_refusal};
+pub use final_error::find_error;
 pub use first_packet::{Asks, FirstPacket, Next};
 pub use host::{Host, Machine};
 pub use inspector::Inspector;
@@ -48,3 +50,4 @@ pub use link_stream::LinkStream;
 pub use login_answer::{LoginAnswer, Refusal, field_of};
 pub use origin::Origin;
 pub use poll::wait_readable;
+pub use unserved::{Unserved, UnservedEnd, refuse_accepted};

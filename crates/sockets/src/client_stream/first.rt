@@ -2,11 +2,9 @@
 ghost use Rattle.std.specs.Io.{ReadsAtMost};
 
 use super::{ClientStream, Serves, Stage};
-use crate::final_error::{fatal_error, shutdown_error, write_refusal};
 use crate::first_packet::{Asks, FirstPacket, Next};
 use crate::poll::wait_readable;
-use crate::{Connection, Deadline, Machine};
-use startup::ErrorCode;
+use crate::{Connection, Deadline, Machine, Unserved, UnservedEnd};
 use std::io;
 use std::io::{ErrorKind, Read};
 use telemetry::Event;
@@ -26,9 +24,9 @@ impl<'a, M: Machine> ClientStream<'a, M> {
         let mut packet = packet;
         match packet.next() {
             Next::Peek => self.peek_last(buffer),
-            Next::Done => self.read_session(buffer),
+            Next::Done => Err(io::Error::from(ErrorKind::ConnectionRefused)),
             Next::Read(most) => {
-                let count = read_up_to(self.connection, buffer, most)?;
+                let count = self.read_packet(buffer, most)?;
                 let bytes = buffer.get(..count).unwrap_or(&[]);
                 self.keep(packet, bytes);
                 packet.take(bytes);
@@ -47,8 +45,23 @@ impl<'a, M: Machine> ClientStream<'a, M> {
                 return Ok(());
             }
         }
-        self.is_cut_off = true;
+        let why = match self.context.serves {
+            Serves::All => Unserved::Late,
+            Serves::Cancels => Unserved::Shortage,
+        };
+        self.give_up(why);
         Err(io::Error::from(ErrorKind::TimedOut))
+    }
+
+    // Reads at most this many bytes.
+    fn read_packet(&mut self, buffer: &mut [u8], most: usize) -> io::Result<usize>
+        ensures bound { ReadsAtMost result buffer.new }
+    {
+        let read = read_up_to(self.connection, buffer, most);
+        if !matches!(&read, Ok(1..)) {
+            self.give_up(Unserved::Left);
+        }
+        read
     }
 
     // Keeps what was read of a start-up packet after its head, if the log needs it.
@@ -58,53 +71,67 @@ impl<'a, M: Machine> ClientStream<'a, M> {
         }
     }
 
-    // Fails if the first packets ask for something that isn't served, or if the connection was
-    // evicted.
+    // Begins the session once the StartupMessage was read. Fails if it isn't served, or if the
+    // connection was evicted.
     fn check(&mut self, packet: FirstPacket) -> io::Result<()> {
-        if packet.asks() == Asks::Session && self.context.serves == Serves::Cancels {
-            self.is_cut_off = true;
+        if packet.asks() == Asks::Refused {
+            self.unserved = Some(Unserved::Refused);
+        }
+        if !packet.is_startup() {
+            return Ok(());
+        }
+        if self.context.serves == Serves::Cancels {
+            self.give_up(Unserved::Shortage);
             return Err(io::Error::from(ErrorKind::ConnectionRefused));
         }
-        if packet.next() == Next::Done {
-            self.activate()?;
-            self.stage = Stage::Session;
+        if !self.activate() {
+            self.give_up(Unserved::Evicted);
+            return Err(io::Error::from(ErrorKind::ConnectionAborted));
         }
+        self.stage = Stage::Session;
         Ok(())
     }
 
-    // Makes the connection no longer pending. Fails if it was evicted.
-    fn activate(&self) -> io::Result<()> {
-        if self
-            .context
+    // Makes the connection no longer pending. Returns false if it was evicted.
+    fn activate(&self) -> bool {
+        self.context
             .limit
             .activate(self.machine, self.context.pending)
-        {
-            Ok(())
-        } else {
-            Err(io::Error::from(ErrorKind::ConnectionAborted))
-        }
     }
 
-    /// Tells the client that its connection is closed before its first packets were complete. Logs it,
-    /// unless the client has left or the group drains.
-    pub fn refuse(&self) {
-        let socket = self.connection.socket();
-        if self.context.limit.is_draining() {
-            write_refusal(socket, shutdown_error(self.alloc));
-            return;
-        }
-        let is_evicted = self.activate().is_err();
-        let (error, reason) = if is_evicted {
-            (ErrorCode::TooManyConnections, "evicted")
-        } else if self.context.serves == Serves::Cancels {
-            (ErrorCode::TooManyConnections, "shortage")
+    // Records that the first packets aren't served for this reason, unless the connection was evicted
+    // before. To a read, an eviction looks as if the client had left.
+    fn give_up(&mut self, why: Unserved) {
+        let is_evicted = !self.activate();
+        self.unserved = Some(if why == Unserved::Left && !is_evicted {
+            Unserved::Left
+        } else if self.context.limit.is_draining() {
+            Unserved::Draining
+        } else if is_evicted {
+            Unserved::Evicted
         } else {
-            (ErrorCode::ProtocolViolation, "late")
+            why
+        });
+    }
+
+    /// Ends the connection, which isn't served for this reason. Logs that, unless the client has left
+    /// or the group drains.
+    #[inline(never)]
+    pub fn dismiss(&self, why: Unserved) {
+        let has_startup = match &self.stage {
+            Stage::First(packet, _) => packet.is_startup(),
+            Stage::Cancel | Stage::Session => false,
         };
-        if is_evicted || self.is_cut_off {
-            self.write_cut_off(error, reason);
+        let end = UnservedEnd::of(why, has_startup);
+        let error = end.error(self.alloc);
+        // The client's address is known only until the connection is reset.
+        if let Some(reason) = why.reason() {
+            match &error {
+                Some(error) => self.write_refused(reason, error.as_slice()),
+                None => self.write_unserved(reason),
+            }
         }
-        write_refusal(socket, fatal_error(self.alloc, error));
+        end.apply(self.connection.socket(), error);
     }
 
     // Returns the last byte of a cancel request, and leaves it unread in the socket: if this process
@@ -117,22 +144,24 @@ impl<'a, M: Machine> ClientStream<'a, M> {
         let Some(last) = buffer.get_mut(..1) else {
             return Ok(0);
         };
-        let count = self.connection.socket().peek(last)?;
-        if count == 1 {
+        let peeked = self.connection.socket().peek(last);
+        if matches!(&peeked, Ok(1..)) {
             self.stage = Stage::Cancel;
             self.cancel_received = self.machine.monotonic().ok();
             self.activate_cancel()?;
+        } else {
+            self.give_up(Unserved::Left);
         }
-        Ok(count)
+        peeked
     }
 
     // Makes the connection no longer pending. Its cancel request is given up if it was evicted.
     fn activate_cancel(&self) -> io::Result<()> {
-        let activated = self.activate();
-        if activated.is_err() {
-            self.connection.give_up();
+        if self.activate() {
+            return Ok(());
         }
-        activated
+        self.connection.give_up();
+        Err(io::Error::from(ErrorKind::ConnectionAborted))
     }
 }
 

@@ -3,7 +3,6 @@ use super::ClientStream;
 use crate::Machine;
 use crate::dropped::put_dropped;
 use crate::login_answer::{HEAD, field_of};
-use startup::ErrorCode;
 use telemetry::{Event, Field, Value};
 
 impl<'a, M: Machine> ClientStream<'a, M> {
@@ -44,23 +43,26 @@ impl<'a, M: Machine> ClientStream<'a, M> {
 
     // Logs this ErrorResponse.
     pub(super) fn write_error(&self, event: Event, error: &[u8]) {
-        let body = error.get(HEAD..).unwrap_or(&[]);
-        let code = Value::Bytes(field_of(body, b'C').unwrap_or(&[]));
-        let message = Value::Bytes(field_of(body, b'M').unwrap_or(&[]));
         let fields = [
             ("client", self.client()),
-            ("code", code),
-            ("message", message),
+            ("code", Value::Bytes(error_field(error, b'C'))),
+            ("message", Value::Bytes(error_field(error, b'M'))),
         ];
         self.write(event, &fields);
     }
 
-    // Logs that the client was refused with this error before its first packets were complete.
-    pub(super) fn write_cut_off(&self, error: ErrorCode, reason: &str) {
+    // Logs that the client isn't served for this reason, and gets no error.
+    pub(super) fn write_unserved(&self, reason: &str) {
+        let fields = [("client", self.client()), ("reason", Value::Text(reason))];
+        self.write(Event::ClientRefused, &fields);
+    }
+
+    // Logs that the client isn't served for this reason, and gets this error.
+    pub(super) fn write_refused(&self, reason: &str, error: &[u8]) {
         let fields = [
             ("client", self.client()),
-            ("code", Value::Text(error.code())),
-            ("message", Value::Text(error.message())),
+            ("code", Value::Bytes(error_field(error, b'C'))),
+            ("message", Value::Bytes(error_field(error, b'M'))),
             ("reason", Value::Text(reason)),
         ];
         self.write(Event::ClientRefused, &fields);
@@ -76,4 +78,9 @@ impl<'a, M: Machine> ClientStream<'a, M> {
     fn client(&self) -> Value<'_> {
         Value::Peer(self.connection.socket())
     }
+}
+
+// Returns this field of an ErrorResponse.
+fn error_field(error: &[u8], kind: u8) -> &[u8] {
+    field_of(error.get(HEAD..).unwrap_or(&[]), kind).unwrap_or(&[])
 }

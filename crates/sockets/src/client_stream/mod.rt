@@ -10,7 +10,7 @@ use crate::connection_limit::ConnectionLimit;
 use crate::connections::PendingId;
 use crate::error_kind::with_error;
 use crate::first_packet::FirstPacket;
-use crate::{Connection, Deadline, Machine};
+use crate::{Connection, Deadline, Machine, Unserved};
 use std::alloc::Global;
 use std::io;
 use std::io::{Read, Write};
@@ -49,8 +49,8 @@ pub struct ClientStream<'a, M: Machine> {
     // The start-up packet after its code, as far as it was read, until it is answered. Only kept if
     // the log has lines about parameters without effect.
     packet: Vec<u8>,
-    // Whether this side gave up its first packets: they took too long, or aren't served.
-    is_cut_off: bool,
+    // Why its first packets aren't served, if that is known.
+    unserved: Option<Unserved>,
     // Whether the client is logged in, or was refused.
     is_answered: bool,
     // Whether reads of the socket have a timeout.
@@ -112,7 +112,7 @@ impl<'a, M: Machine> ClientStream<'a, M> {
             stage: Stage::First(FirstPacket::new(), context.deadline),
             cancel_received: None,
             packet: Vec::new(alloc),
-            is_cut_off: false,
+            unserved: None,
             is_answered: false,
             has_timeout: false,
             last: LastCall::Read,
@@ -133,9 +133,15 @@ impl<'a, M: Machine> ClientStream<'a, M> {
         }
     }
 
-    /// Returns whether its first packets aren't complete.
-    pub fn is_pending(&self) -> bool {
-        matches!(self.stage, Stage::First(..))
+    /// Returns why the connection isn't served, unless its first packets were complete, an error was
+    /// written, or a write failed.
+    pub fn unserved(&self) -> Option<Unserved> {
+        let is_first = matches!(self.stage, Stage::First(..));
+        if !is_first || self.is_answered || self.last == LastCall::Failed {
+            return None;
+        }
+        // If the stream doesn't know why, there was no memory for the first packets.
+        Some(self.unserved.unwrap_or(Unserved::Shortage))
     }
 
     /// Returns whether the last byte of a cancel request is unread.

@@ -70,11 +70,15 @@ fn a_request_for_encryption_is_followed_by_another_packet(rt: HostRuntime) {
 }
 
 #[test]
-fn another_length_is_no_cancel_request(rt: HostRuntime) {
+fn another_length_or_code_is_refused(rt: HostRuntime) {
     let short = b"\0\0\0\x0c\x04\xd2\x16\x2e\0\0\0\x03";
-    assert_eq!(&rt; unread(&rt, short, 40), (0, Asks::Session, Next::Done));
+    assert_eq!(&rt; unread(&rt, short, 40), (4, Asks::Refused, Next::Done));
+    let old = b"\0\0\0\x12\0\x02\0\0user\0app\0\0";
+    assert_eq!(&rt; unread(&rt, old, 40), (10, Asks::Refused, Next::Done));
     let http = b"GET / HTTP/1.1\r\n";
-    assert_eq!(&rt; unread(&rt, http, 40), (8, Asks::Session, Next::Done));
+    assert_eq!(&rt; unread(&rt, http, 40), (8, Asks::Refused, Next::Done));
     let empty = b"\0\0\0\0\0\0\0\0";
-    assert_eq!(&rt; unread(&rt, empty, 40), (0, Asks::Session, Next::Done));
+    assert_eq!(&rt; unread(&rt, empty, 40), (0, Asks::Refused, Next::Done));
+    let too_short = b"\0\0\0\x07\0\x03\0\0";
+    assert_eq!(&rt; unread(&rt, too_short, 40), (0, Asks::Refused, Next::Done));
 }

@@ -1,7 +1,6 @@
 //! Tests of connections by public names alone.
 mod client_lines;
 mod connections;
-mod cut_off;
 mod descriptors;
 mod dropped;
 mod ends;
@@ -10,3 +9,4 @@ mod first_packets;
 mod host;
 mod log_lines;
 mod login_answers;
+mod unserved;
