@@ -3,37 +3,40 @@
    With EACH set to "FIRST STEP LAST", the program runs once for each of these numbers, for LIMIT seconds at most. In
    the folder that OUTPUT names, NUMBER.out and NUMBER.err are what it wrote, and NUMBER.end tells how it ended.
    With COUNT set, how many allocations were asked for goes to standard error at the end. */
-#define _GNU_SOURCE
-#include <dlfcn.h>
-#include <errno.h>
-#include <fcntl.h>
-#include <stdatomic.h>
-#include <stdio.h>
-#include <stdlib.h>
-#include <sys/syscall.h>
-#include <sys/wait.h>
-#include <unistd.h>
+/* Declared here as on x86-64 with glibc, since the kit's clang comes without headers. */
+typedef unsigned long size_t;
+void *dlsym(void *, const char *);
+int *__errno_location(void);
+int snprintf(char *, size_t, const char *, ...);
+long write(int, const void *, size_t), strtol(const char *, char **, int), atol(const char *), syscall(long, ...);
+int open(const char *, int, ...), close(int), dup2(int, int), fork(void), waitpid(int, int *, int), atoi(const char *);
+unsigned alarm(unsigned);
+char *getenv(const char *);
+void abort(void) __attribute__((noreturn));
+#define NULL ((void *)0)
+#define RTLD_NEXT ((void *)-1L)
+enum { ENOMEM = 12, O_WRONLY = 01, O_CREAT = 0100, O_TRUNC = 01000, EXIT_GROUP = 231 };
 
-static atomic_long asked;
+static long asked;
 static long number;
 static int onwards;
 
 static int refused(void) {
-    long now = atomic_fetch_add(&asked, 1) + 1;
+    long now = __atomic_add_fetch(&asked, 1, __ATOMIC_SEQ_CST);
     return now == number || (onwards && number > 0 && now > number);
 }
 
 void *malloc(size_t size) {
     static void *(*next)(size_t);
     if (!next) next = (void *(*)(size_t))dlsym(RTLD_NEXT, "malloc");
-    if (refused()) return errno = ENOMEM, NULL;
+    if (refused()) return *__errno_location() = ENOMEM, NULL;
     return next(size);
 }
 
 void *realloc(void *old, size_t size) {
     static void *(*next)(void *, size_t);
     if (!next) next = (void *(*)(void *, size_t))dlsym(RTLD_NEXT, "realloc");
-    if (refused()) return errno = ENOMEM, NULL;
+    if (refused()) return *__errno_location() = ENOMEM, NULL;
     return next(old, size);
 }
 
@@ -51,7 +54,7 @@ __attribute__((destructor)) static void tell(void) {
 /* How a program with threads ends. */
 void _exit(int status) {
     tell();
-    syscall(SYS_exit_group, status);
+    syscall(EXIT_GROUP, status);
     __builtin_unreachable();
 }
 
@@ -67,7 +70,7 @@ static int file(const char *end) {
 static void run_each(char *words) {
     long first = strtol(words, &words, 10), step = strtol(words, &words, 10), last = strtol(words, &words, 10);
     for (number = first; step > 0 && number <= last; number += step) {
-        pid_t child = fork();
+        int child = fork();
         if (child < 0) abort();
         if (child == 0) {
             if (dup2(file("out"), 1) < 0 || dup2(file("err"), 2) < 0) abort();
@@ -76,8 +79,8 @@ static void run_each(char *words) {
         }
         int status, end = file("end");
         if (waitpid(child, &status, 0) != child) abort();
-        if (WIFEXITED(status)) write_line(end, "status", WEXITSTATUS(status));
-        else write_line(end, "signal", WTERMSIG(status));
+        if ((status & 0x7f) == 0) write_line(end, "status", status >> 8 & 0xff);
+        else write_line(end, "signal", status & 0x7f);
         close(end);
     }
     _exit(0);
