@@ -206,6 +206,8 @@ pub(crate) struct Desk {
     permits: Vec<PermitRecord>,
     links: Vec<Link>,
     tickets: Vec<TicketRecord>,
+    // A hash of the keys that it gave (FNV-1a, without its offset).
+    keys: u64,
 }
 
 impl Desk {
@@ -234,6 +236,7 @@ impl Desk {
             permits,
             links,
             tickets,
+            keys: 0,
         })
     }
 
@@ -248,6 +251,17 @@ impl Desk {
         self.permits.clear();
         self.links.clear();
         self.tickets.clear();
+    }
+
+    /// A hash of the short keys, and the first halves of the long ones, that it gave so far.
+    pub(crate) fn keys(&self) -> u64 {
+        self.keys
+    }
+
+    fn note(&mut self, key: AnyKey) {
+        for byte in key.short().to_bytes() {
+            self.keys = (self.keys ^ u64::from(byte)).wrapping_mul(0x0100_0000_01b3);
+        }
     }
 
     /// The slot that the next client gets.
@@ -303,6 +317,7 @@ impl Desk {
         match self.core.join(SHOP, Secret(secret), kind) {
             Ok(pass) => {
                 let said = key_said(pass.key());
+                self.note(pass.key());
                 self.passes.push(pass.forfeit())?;
                 Ok(said)
             }

@@ -1,5 +1,7 @@
 //! Ten thousand steps: rounds of forty, drawn by a generator. No step takes memory: all that is
-//! asked for is there before the first one, as `tools/refused_memory` tries from outside.
+//! asked for is there before the first one. `tools/refused_memory` refuses every allocation after it,
+//! and compares: the replies are those of the rows, and the keys, which the rows leave open, have the
+//! same hash.
 use crate::node::desk::{Act, Desk, Made, Said};
 use crate::node::{KEY, NOTHING, OTHER_KEY, run_later};
 use node_core::{CloseReply, EndedReply, FailedReply, ReleaseReply, RestartReply, UpFailedReply};
@@ -268,5 +270,6 @@ fn ten_thousand_steps(rt: HostRuntime) -> Result<(), Fail> {
         desk.forget();
         made = made.and(&round.made);
     }
+    println!(rt; "the keys of ten thousand steps: {}", desk.keys())?;
     Ok(())
 }
