@@ -121,7 +121,7 @@ impl Running {
 }
 
 // Serves the group in its own thread. It listens when this returns.
-fn start_group<R: TestHost>(
+pub(crate) fn start_group<R: TestHost>(
     rt: &R,
     group: Group,
     front: u16,

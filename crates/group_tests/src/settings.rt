@@ -57,7 +57,7 @@ pub(crate) fn texts(
 }
 
 // The settings of the node at a place.
-fn settings(
+pub(crate) fn settings(
     alloc: Global,
     ports: &[u16],
     servers: &[u16],
