@@ -50,9 +50,20 @@ fn expect<R: Wait + Abort>(
     assert_logged(rt, &log, events);
 }
 
-// Requests for the first client's link are carried: one ends cleanly, one by a byte, and one isn't
-// connected.
-fn expect_carried<R: Wait + Abort>(rt: &R, alloc: Global, node: &mut Node) {
+// A request for the first client's link ends cleanly.
+fn expect_ended<R: Wait + Abort>(rt: &R, alloc: Global, node: &mut Node) {
+    let events = [
+        Event::Passed(Point::Ordered),
+        Event::Cancel(0),
+        TO_SERVER,
+        Event::Read,
+        Event::Passed(Point::Carried),
+    ];
+    expect(rt, alloc, node, FIRST, Some(Reply::End), &events);
+}
+
+// One is carried, and fails by this reply.
+fn expect_broken<R: Wait + Abort>(rt: &R, alloc: Global, node: &mut Node, reply: Reply) {
     let events = [
         Event::Passed(Point::Ordered),
         Event::Cancel(0),
@@ -61,15 +72,11 @@ fn expect_carried<R: Wait + Abort>(rt: &R, alloc: Global, node: &mut Node) {
         Event::Passed(Point::Carried),
         UNSETTLED,
     ];
-    expect(
-        rt,
-        alloc,
-        node,
-        FIRST,
-        Some(Reply::End),
-        events.split_at(5).0,
-    );
-    expect(rt, alloc, node, FIRST, Some(Reply::Byte(0x4e)), &events);
+    expect(rt, alloc, node, FIRST, Some(reply), &events);
+}
+
+// One isn't connected.
+fn expect_unconnected<R: Wait + Abort>(rt: &R, alloc: Global, node: &mut Node) {
     let events = [
         Event::Passed(Point::Ordered),
         Event::Cancel(0),
@@ -101,25 +108,47 @@ fn expect_forwarded<R: Wait + Abort>(rt: &R, alloc: Global, node: &mut Node) {
     expect(rt, alloc, node, OTHER, None, &events);
 }
 
-// A link for which a request failed is closed once it is given back.
+// Of two requests for a link one ends cleanly. The other fails by this reply, or isn't connected,
+// so the link is handed back to be closed when it is released.
+fn expect_closed<R: Wait + Abort>(rt: &R, alloc: Global, reply: Option<Reply>) -> Result<(), Fail> {
+    let mut node = Node::new(alloc)?;
+    let pass = node.login(rt, 1).expect(rt, "a slot");
+    let lease = node.open(rt, &pass, 7).expect(rt, "a link");
+    expect_ended(rt, alloc, &mut node);
+    match reply {
+        Some(reply) => expect_broken(rt, alloc, &mut node, reply),
+        None => expect_unconnected(rt, alloc, &mut node),
+    }
+    let released = node.release(rt, lease);
+    assert_eq!(rt; released, ReleaseReply::Closed(Stream(7)));
+    assert!(rt; node.leave(rt, pass));
+    let calls = [
+        (CallAnswer::Served, 2),
+        (CallAnswer::EndedCounted, 1),
+        (CallAnswer::FailedCondemned, 1),
+        (CallAnswer::ReleasedClosed, 1),
+    ];
+    assert_calls(rt, node.caller(), &calls);
+    assert_eq!(rt; node.words(), [0, 0, 0, 0, 0, 2, 1, 1]);
+    Ok(())
+}
+
+// A link for which a request failed is closed: by a byte, by a read that fails, or since nothing
+// could be connected.
 #[test]
 fn carried(rt: HostRuntime) -> Result<(), Fail> {
+    for reply in [Some(Reply::Byte(0x4e)), Some(Reply::Fails), None] {
+        expect_closed(&rt, rt.alloc(), reply)?;
+    }
+    Ok(())
+}
+
+#[test]
+fn forwarded(rt: HostRuntime) -> Result<(), Fail> {
     let mut node = Node::new(rt.alloc())?;
-    let pass = node.login(&rt, 1).expect(&rt, "a slot");
-    let lease = node.open(&rt, &pass, 7).expect(&rt, "a link");
-    expect_carried(&rt, rt.alloc(), &mut node);
     expect_forwarded(&rt, rt.alloc(), &mut node);
-    let released = node.release(&rt, lease);
-    assert_eq!(rt; released, ReleaseReply::Closed(Stream(7)));
-    assert!(rt; node.leave(&rt, pass));
-    let calls = [
-        (CallAnswer::Served, 3),
-        (CallAnswer::EndedCounted, 1),
-        (CallAnswer::FailedCondemned, 2),
-        (CallAnswer::Forwarded, 3),
-    ];
-    assert_calls(&rt, node.caller(), &calls);
-    assert_eq!(rt; node.words(), [0, 0, 0, 0, 3, 3, 1, 2]);
+    assert_calls(&rt, node.caller(), &[(CallAnswer::Forwarded, 3)]);
+    assert_eq!(rt; node.words(), [0, 0, 0, 0, 3, 0, 0, 0]);
     Ok(())
 }
 

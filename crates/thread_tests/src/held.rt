@@ -1,7 +1,7 @@
 //! Threads that are held until a session at the same node was served: no lock is held at a gate,
 //! and no connection waits for the end of another.
 use crate::gates::Where;
-use crate::messages::{CANCELS, FORWARDS, HELD, SERVED_AT_1, SERVED_AT_2};
+use crate::messages::{CANCELS, CANCELS_BROKEN, FORWARDS, HELD, SERVED_AT_1, SERVED_AT_2};
 use crate::owner::KEY;
 use crate::scene::{Scene, Task, assert_played};
 use locked_node::CallAnswer;
@@ -31,7 +31,31 @@ const CANCEL: Scene = Scene {
     ],
 };
 
-// The same of a request for peer 3.
+// The same of a request that fails, since its connection can't be read. The owner's link is closed
+// when it is given back: both its stream and that of the request are closed before the node is.
+const BROKEN: Scene = Scene {
+    task: Task::Cancel(KEY),
+    script: CANCELS_BROKEN,
+    held_at: Where::Point(Point::Carried),
+    links: 2,
+    restarts: false,
+    other: SERVED_AT_1,
+    clients: 2,
+    connections: 2,
+    closed: 2,
+    calls: &[
+        (CallAnswer::Joined, 2),
+        (CallAnswer::AcquireOpen, 2),
+        (CallAnswer::WentUp, 2),
+        (CallAnswer::Served, 1),
+        (CallAnswer::FailedCondemned, 1),
+        (CallAnswer::ReleasedClosed, 1),
+        (CallAnswer::ReleasedIdle, 1),
+        (CallAnswer::Left, 2),
+    ],
+};
+
+// As `CANCEL`, with a request for peer 3.
 const FORWARD: Scene = Scene {
     task: Task::Cancel([0, 12, 0, 0, 0, 0, 0, 7]),
     script: FORWARDS,
@@ -74,7 +98,7 @@ const SESSION: Scene = Scene {
 
 #[test]
 fn held_until_a_session_was_served(rt: HostRuntime) -> Result<(), Fail> {
-    for scene in &[CANCEL, FORWARD, SESSION] {
+    for scene in &[CANCEL, BROKEN, FORWARD, SESSION] {
         assert_played(&rt, rt.alloc(), scene)?;
     }
     Ok(())

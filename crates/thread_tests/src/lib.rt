@@ -64,6 +64,8 @@ mod talk;
 #[cfg(test)]
 mod together;
 #[cfg(test)]
+mod told;
+#[cfg(test)]
 mod tracked;
 #[cfg(test)]
 mod turns;

@@ -205,6 +205,12 @@ pub(crate) const CANCELS_IN_VAIN: Script = Script {
     server: &[Turn::Takes(CANCEL), Turn::Gives(b"N")],
 };
 
+// One whose connection takes the request and then can't be read.
+pub(crate) const CANCELS_BROKEN: Script = Script {
+    client: &[Turn::Takes(b"E")],
+    server: &[Turn::Takes(CANCEL), Turn::Breaks],
+};
+
 // One that peer 3 gets.
 pub(crate) const FORWARDS: Script = Script {
     client: &[],

@@ -1,15 +1,15 @@
 //! The client at slot 0, which has a link while another is held, and how a client opens a link.
 ghost use Rattle.std.specs.Prelude.{◌≡◌, ◌<◌, length};
 
-use crate::scene_node::{Caller, Lock, PLAIN};
+use crate::scene_node::{Caller, Node, PLAIN};
 use crate::tracked::{Talk, Tracker};
 use lease::{Lease, Pass, Permit};
 use link_pool::{AcquireReply, UpReply};
 use locked_node::{Caller as LockCaller, Shared};
 use node_core::LeaveReply;
-use node_threads::Link;
+use node_threads::{Entrance, Link};
 use pg_frames::Flow;
-use pg_ids::{Kind, Secret, ServerKey};
+use pg_ids::{Kind, Secret, ServerKey, SlotNo};
 use std::alloc::Global;
 use std::sync::{Arc, Wait};
 
@@ -19,45 +19,71 @@ const SERVER: ServerKey = ServerKey([0x11, 0x12, 0x13, 0x14, 0x15, 0x16, 0x17, 0
 // Its own key: peer 2, slot 0, secret 1, three hops.
 pub(crate) const KEY: [u8; 8] = [0, 8, 0, 0, 0, 0, 0, 7];
 
-pub(crate) struct Owner {
+pub(crate) struct Owner<'a> {
     pass: Pass,
     lease: Lease<Link<Talk>>,
+    entrance: Entrance<'a>,
 }
 
-impl Owner {
-    // The client logs in and opens a link, to which nothing may be written.
+impl<'a> Owner<'a> {
+    // The client logs in and opens a link, to which nothing may be written. It comes first.
     pub(crate) fn new<R: Wait>(
         rt: &R,
         alloc: Global,
-        lock: &Lock,
+        node: &'a Node,
         caller: &mut Caller,
         servers: &Arc<Tracker, Global>,
-    ) -> Option<Owner>
-        requires own { caller.old.lock ≡ lock.now }
+    ) -> Option<Owner<'a>>
+        requires own { caller.old.lock ≡ node.now.lock }
         requires database { 0 < length caller.old.start.view.pools }
         ensures { (caller.new.lock ≡ caller.old.lock) × (caller.new.start ≡ caller.old.start) }
     {
+        let lock = &node.lock;
         let link = link(alloc, servers)?;
         let Ok(pass) = lock.join(rt, caller, PLAIN, Secret(1), Kind::Short) else {
+            return None;
+        };
+        let Some(entrance) = enter(rt, alloc, node, pass.key().slot()) else {
+            pass.forfeit();
             return None;
         };
         let Some(lease) = open(rt, lock, caller, &pass, link) else {
             pass.forfeit();
             return None;
         };
-        Some(Owner { pass, lease })
+        Some(Owner {
+            pass,
+            lease,
+            entrance,
+        })
     }
 
-    // It gives its link back and leaves.
-    pub(crate) fn leave<R: Wait>(self, rt: &R, lock: &Lock, caller: &mut Caller)
-        requires own { caller.old.lock ≡ lock.now }
+    // It gives its link and its permit back and leaves.
+    pub(crate) fn leave<R: Wait>(self, rt: &R, node: &Node, caller: &mut Caller)
+        requires own { caller.old.lock ≡ node.now.lock }
         ensures { (caller.new.lock ≡ caller.old.lock) × (caller.new.start ≡ caller.old.start) }
     {
-        let Owner { pass, lease } = self;
-        let _reply = lock.release(rt, caller, lease);
-        if let LeaveReply::Holding(pass) = lock.leave(rt, caller, pass) {
+        let Owner {
+            pass,
+            lease,
+            entrance,
+        } = self;
+        let _reply = node.lock.release(rt, caller, lease);
+        entrance.leave(rt);
+        node.admission.forget(rt, pass.key().slot());
+        if let LeaveReply::Holding(pass) = node.lock.leave(rt, caller, pass) {
             pass.forfeit();
         }
+    }
+}
+
+// The client of a slot gets a permit, if one is free.
+fn enter<'a, R: Wait>(rt: &R, alloc: Global, node: &'a Node, slot: SlotNo) -> Option<Entrance<'a>> {
+    let entrance = Entrance::new(rt, alloc, &node.admission, slot, PLAIN).ok()?;
+    if entrance.try_enter() {
+        Some(entrance)
+    } else {
+        None
     }
 }
 

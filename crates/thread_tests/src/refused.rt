@@ -77,7 +77,7 @@ const ANSWERS: &[&[u8]] = &[
 
 // A server or a peer, which is read in these pieces to its end, and takes everything.
 #[derive(Drop)]
-struct Server {
+pub(crate) struct Server {
     pieces: &'static [&'static [u8]],
     // How many pieces were read, and how many bytes it took.
     given: usize,
@@ -117,12 +117,12 @@ impl Write for Server {
 
 // What connects to servers, and to peers and servers that end a cancel request cleanly.
 #[derive(Drop)]
-struct Servers {
+pub(crate) struct Servers {
     ended: Arc<Cell<u32>, Global>,
 }
 
 impl Servers {
-    fn new(alloc: Global) -> Result<Servers, AllocError> {
+    pub(crate) fn new(alloc: Global) -> Result<Servers, AllocError> {
         let ended = Arc::new(alloc, Cell::new(0))?;
         Ok(Servers { ended })
     }
@@ -217,7 +217,7 @@ fn transactions(taken: &[u8]) -> Option<u32> {
 }
 
 // What follows the key of a greeting.
-fn behind_key(taken: &[u8]) -> Option<&[u8]> {
+pub(crate) fn behind_key(taken: &[u8]) -> Option<&[u8]> {
     let key = taken.strip_prefix(WELCOME)?;
     let key = key.strip_prefix(KEY)?;
     let (_key, rest) = key.split_at_checked(KEY_LENGTH)?;
@@ -260,7 +260,7 @@ fn got_by_console(taken: &[u8]) -> Got {
 
 // A connection, which is read in these pieces, is served with this gate. Returns what it took, and
 // none where there is no memory for it.
-fn visit<R: Wait, G: Gate>(
+pub(crate) fn visit<R: Wait, G: Gate>(
     rt: &R,
     alloc: Global,
     calling: &mut Calling<Server>,

@@ -30,7 +30,7 @@ const fn session(script: Script, held_at: Where) -> Scene {
         task: Task::Session,
         script,
         held_at,
-        links: 2,
+        links: 3,
         restarts: true,
         other: SERVED_AT_0,
         clients: 3,

@@ -6,7 +6,7 @@ use crate::calls::assert_calls;
 use crate::gates::{HeldClient, Hold, LOOKS, LetsGo, Where};
 use crate::messages::{SERVED_AT_0, Script};
 use crate::owner::Owner;
-use crate::scene_node::{BOOT, Caller, Node, Visit};
+use crate::scene_node::{BOOT, Caller, Node, PLAIN, Visit};
 use crate::tracked::{Ends, Tracker};
 use locked_node::CallAnswer;
 use node_threads::{Gate, Open, restart};
@@ -33,7 +33,7 @@ pub(crate) struct Scene {
     pub(crate) task: Task,
     pub(crate) script: Script,
     pub(crate) held_at: Where,
-    // How many links the node has.
+    // How many links the node has, and so how many clients its semaphore lets in.
     pub(crate) links: u16,
     // Whether the node is started anew while the thread is held.
     pub(crate) restarts: bool,
@@ -107,7 +107,7 @@ impl Trackers {
 }
 
 // This many streams are closed, which took all their turns and nothing else.
-fn all_done(count: u64) -> Ends {
+pub(crate) fn all_done(count: u64) -> Ends {
     Ends {
         made: count,
         closed: count,
@@ -133,13 +133,12 @@ fn held<R: Wait>(rt: &R, stage: &Stage<'_>, mut caller: Caller) -> Caller
     requires database { 0 < length caller.start.view.pools }
     ensures { (result.lock ≡ caller.lock) × (result.start ≡ caller.start) }
 {
-    let lock = &stage.node.lock;
     let servers = &stage.trackers.held;
-    let Some(owner) = Owner::new(rt, stage.alloc, lock, &mut caller, servers) else {
+    let Some(owner) = Owner::new(rt, stage.alloc, stage.node, &mut caller, servers) else {
         return caller;
     };
     serve_task(rt, stage, &mut caller);
-    owner.leave(rt, lock, &mut caller);
+    owner.leave(rt, stage.node, &mut caller);
     caller
 }
 
@@ -273,6 +272,7 @@ pub(crate) fn assert_played<R: Threads + Wait + Sync + Abort>(
     assert_eq!(rt; trackers.clients.ends().strayed, 0, "strayed");
     assert!(rt; hold.was_let_go());
     trackers.assert_open(rt, scene);
+    assert_eq!(rt; node.admission.used(PLAIN), 0);
     let counted = assert_calls(rt, &caller, scene.calls);
     assert_eq!(rt; node.total_calls(caller), counted);
     trackers.assert_closed(rt, scene);

@@ -52,9 +52,11 @@ impl Visit<'_> {
     }
 }
 
+// It has one semaphore, as a running node has, which its sessions share.
 #[derive(Drop)]
 pub(crate) struct Node {
     pub(crate) lock: Lock,
+    pub(crate) admission: Admission,
     settings: Settings,
     alloc: Global,
 }
@@ -71,10 +73,12 @@ impl Node {
         let me = PeerNo::new(2).ok_or("no such peer")?;
         let peer = PeerNo::new(3).ok_or("no such peer")?;
         let settings = Settings::plain(alloc, me, vec![in alloc; peer]?, links, 4)?;
+        let admission = Admission::new(alloc, &settings)?;
         let core = NodeCore::new(alloc, &settings, BOOT)?;
         let (lock, caller) = Shared::new(alloc, Journal::new(alloc, core)?)?;
         let node = Node {
             lock,
+            admission,
             settings,
             alloc,
         };
@@ -95,10 +99,6 @@ impl Node {
         ensures { (caller.new.lock ≡ caller.old.lock) × (caller.new.start ≡ caller.old.start) }
     {
         let alloc = self.alloc;
-        // No other session comes in by this way, so each waits in the node's queue.
-        let Ok(admission) = Admission::new(alloc, &self.settings) else {
-            return;
-        };
         let mut cutter = Cutter::new(alloc);
         let service = Service {
             rt,
@@ -107,7 +107,7 @@ impl Node {
             settings: &self.settings,
             reports: &Reports::new(alloc),
             limit: &MessageLimit::DEFAULT,
-            admission: &admission,
+            admission: &self.admission,
             opener: &visit.dialer(),
             gate,
         };
@@ -150,19 +150,17 @@ impl Node {
     pub(crate) fn total_calls(self, caller: Caller) -> u128
         requires own { caller.lock ≡ self.lock }
     {
-        let Node {
-            lock,
-            settings: _,
-            alloc: _,
-        } = self;
+        let Node { lock, .. } = self;
         lock.total_calls(caller)
     }
 
-    // Whether a client waits for a link now.
+    // Whether a client waits for a link now. One that waits for a permit asks first, as where the
+    // console looks.
     pub(crate) fn has_waiting<R: Wait>(&self, rt: &R, caller: &mut Caller) -> bool
         requires own { caller.old.lock ≡ self.now.lock }
         ensures { caller.new ≡ caller.old }
     {
+        self.admission.tell_all_to_ask(rt);
         match self.lock.copy_view(rt, self.alloc, caller) {
             Ok(view) => has_waiting(view.claims()),
             Err(_) => false,

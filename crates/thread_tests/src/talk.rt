@@ -15,6 +15,8 @@ pub(crate) enum Turn {
     Gives(&'static [u8]),
     // The same, where they end inside the body of a message.
     GivesPart(&'static [u8]),
+    // A read fails. Only the streams of `tracked` have this turn.
+    Breaks,
 }
 
 // A side of a conversation. What isn't its turn fails, and a read finds the end of the input.

@@ -153,6 +153,10 @@ impl Read for Talk {
         if !self.takes.is_empty() {
             return Ok(0);
         }
+        if let Some(Turn::Breaks) = self.turns.first() {
+            self.turns = self.turns.split_at(1).1;
+            return Err(io::Error::from(ErrorKind::ConnectionReset));
+        }
         let Some(Turn::Gives(text)) = self.turns.first() else {
             return Ok(0);
         };
