@@ -13,6 +13,9 @@ use stub_server::Mode;
 // How many descriptors a process may have for the second test: more than a system allows by itself.
 const MOST_DESCRIPTORS: u32 = 1_048_576;
 
+// How often a client tries to connect.
+const MOST_TRIES: u32 = 100;
+
 // How many clients connect while no descriptor is left: more than threads wait for one.
 const STRANGERS: u32 = 12;
 
@@ -49,6 +52,22 @@ fn take_descriptors<R: TestHost>(rt: &R) -> Result<Vec<TcpListener>, Fail> {
     Err(Fail::from("the limit of open files is too high for this test"))
 }
 
+// Connects with a descriptor that is given back, unless a thread that accepts connections takes it
+// first.
+fn connect_with<R: TestHost>(
+    rt: &R,
+    taken: &mut Vec<TcpListener>,
+    port: u16,
+) -> Result<Client, Fail> {
+    for _ in 0..MOST_TRIES {
+        drop(taken.pop());
+        if let Ok(client) = Client::connect(rt, port) {
+            return Ok(client);
+        }
+    }
+    Err(Fail::from("no descriptor"))
+}
+
 // No descriptor is left, so no connection can be accepted: the oldest that sends nothing is reset,
 // and once there are descriptors a client is served.
 #[test]
@@ -58,12 +77,10 @@ fn connections_cannot_be_accepted(rt: HostRuntime) -> Result<(), Fail> {
     let (mut client, _) = Client::log_in(&rt, port)?;
     client.expect_answer(&rt, "echo hi", &[HI, IDLE])?;
     let mut taken = take_descriptors(&rt)?;
-    drop(taken.pop());
-    let mut oldest = Client::connect(&rt, port)?;
+    let mut oldest = connect_with(&rt, &mut taken, port)?;
     let mut others = Vec::new(rt.alloc());
     for _ in 0..STRANGERS {
-        drop(taken.pop());
-        others.push(Client::connect(&rt, port)?)?;
+        others.push(connect_with(&rt, &mut taken, port)?)?;
     }
     client.expect_answer(&rt, "echo hi", &[HI, IDLE])?;
     oldest.expect_reset(&rt)?;
