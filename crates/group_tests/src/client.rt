@@ -93,7 +93,11 @@ pub(crate) struct Client {
 
 impl Client {
     pub(crate) fn connect<R: TestHost>(rt: &R, port: u16) -> Result<Client, Fail> {
-        let stream = TcpStream::connect(rt, ("127.0.0.1", port))?;
+        Client::over(TcpStream::connect(rt, ("127.0.0.1", port))?)
+    }
+
+    // A client with this connection, on which nothing was sent.
+    pub(crate) fn over(stream: TcpStream) -> Result<Client, Fail> {
         stream.set_nodelay(true)?;
         stream.set_nonblocking(true)?;
         Ok(Client { stream })

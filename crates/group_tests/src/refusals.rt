@@ -61,8 +61,8 @@ fn connect_with<R: TestHost>(
 ) -> Result<Client, Fail> {
     for _ in 0..MOST_TRIES {
         drop(taken.pop());
-        if let Ok(client) = Client::connect(rt, port) {
-            return Ok(client);
+        if let Ok(stream) = TcpStream::connect(rt, ("127.0.0.1", port)) {
+            return Client::over(stream);
         }
     }
     Err(Fail::from("no descriptor"))
