@@ -2,7 +2,6 @@
 //! transactions.
 use crate::client::Client;
 use crate::console_client::Console;
-use crate::first_packets::INCOMPLETE;
 use crate::group::{ANY_PORT, await_listening, free_ports, options, start_server};
 use crate::host::TestHost;
 use crate::messages::{BEGIN, COMMIT, HI, IDLE, OPEN, joined};
@@ -21,6 +20,15 @@ use stub_server::Mode;
 // The error of a session that ends, with PostgreSQL's message.
 const SHUTDOWN: &[u8] = b"E\0\0\0\x4fSFATAL\0VFATAL\0C57P01\0\
     Mterminating connection due to administrator command\0\0";
+
+// Parts of first packets (PostgreSQL manual, "Message Formats"): nothing, 7 and 15 bytes of a
+// CancelRequest, half a StartupMessage.
+const INCOMPLETE: [&[u8]; 4] = [
+    b"",
+    b"\0\0\0\x10\x04\xd2\x16",
+    b"\0\0\0\x10\x04\xd2\x16\x2e\0\0\0\x03\0\x0f\x42",
+    b"\0\0\0\x20\0\x03\0\0user\0ann",
+];
 
 const WAITING: &[&[&str]] = &[&["0", "shop", "link"], &["1", "shop", "waiting"]];
 

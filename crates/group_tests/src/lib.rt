@@ -25,8 +25,6 @@ mod drains;
 #[cfg(test)]
 mod files;
 #[cfg(test)]
-mod first_packets;
-#[cfg(test)]
 mod front;
 #[cfg(test)]
 mod gated;
@@ -45,8 +43,6 @@ mod messages;
 #[cfg(test)]
 mod metrics;
 #[cfg(test)]
-mod refusals;
-#[cfg(test)]
 mod reported;
 #[cfg(test)]
 mod scripted;
@@ -54,7 +50,5 @@ mod scripted;
 mod settings;
 #[cfg(test)]
 mod too_long;
-#[cfg(test)]
-mod unreliable;
 #[cfg(test)]
 mod waiting;
