@@ -1,14 +1,15 @@
 """First packets that are refused, incomplete, late or not served: each byte that comes, and how the connection ends."""
 import os
+import resource
 import socket
 import struct
 import subprocess
 import time
 
 from hard.fake import FakeServer
-from hard.shortage import ALONE, fill, log_in_until_refused, open_strangers
+from hard.shortage import ALONE, fill, log_in_until_refused, open_strangers, serve_all, served
 from hard.trial import Pooler, scenario
-from hard.wire import CANCEL, CLEAN, OPEN, RESET, SSL, error_frame, startup, wait_until
+from hard.wire import CANCEL, CLEAN, OPEN, RESET, SSL, Reader, error_frame, outcome, startup, wait_until
 
 WHOLE = startup("shop")
 REQUEST = struct.pack("!II", 16, CANCEL) + b"12345678"
@@ -203,3 +204,54 @@ def judge_reasons_alone(t, pooler):
     told = [line for line in lines if "code=53300" in line]
     t.check(told and len(told) < len(lines), "the log, reason=shortage", f"{len(lines)} lines, {len(told)} with 53300",
             "some with 53300, some without")
+
+
+@scenario("first-packets-unaccepted", limit=30)
+def first_packets_unaccepted(t):
+    """for a while no connection can be accepted, and then one can't be served: the others go on"""
+    server = FakeServer(t.port())
+    pooler = Pooler(t, {"shop": server.port}, pool=6)
+    clients = [pooler.client() for _ in range(6)]
+    wrong = serve_all(clients)
+    process = pooler.process.pid
+    soft, hard = resource.prlimit(process, resource.RLIMIT_NOFILE)
+    resource.prlimit(process, resource.RLIMIT_NOFILE, (3, hard))
+    stream = send(pooler.port, WHOLE)
+    begun = time.monotonic()
+    while time.monotonic() - begun < 1.5:
+        wrong += serve_all(clients)
+    t.check(not wrong, "six clients meanwhile", served(6, wrong), "6")
+    lines = await_lines(pooler, "accept_failed", "accept_failed", 1)
+    t.check(len(lines) >= 1, "the log, accept_failed", f"{len(lines)} lines", "some")
+    resource.prlimit(process, resource.RLIMIT_NOFILE, (soft, hard))
+    came = outcome(lambda: Reader(stream).read_frame(time.monotonic() + 3)[0])
+    t.check(came == "ok:b'R'", "a login that waited", came, "a login's first message")
+    wrong = serve_all(clients)
+    t.check(not wrong, "six clients afterwards", served(6, wrong), "6")
+    for client in clients:
+        client.stream.close()
+    stream.close()
+    server.close()
+
+
+@scenario("first-packets-no-memory", limit=60)
+def first_packets_no_memory(t):
+    """an address space of 220 MB: a connection without a thread or memory gets 53300 or is reset; the others go on"""
+    server = FakeServer(t.port())
+    pooler = Pooler(t, {"shop": server.port}, pool=6, clients=1000, limits={"AS": 220_000_000})
+    clients = [pooler.client() for _ in range(6)]
+    wrong = serve_all(clients)
+    more = log_in_until_refused(t, pooler, 400)
+    for _ in range(3):
+        wrong += serve_all(clients)
+    t.check(not wrong, "six clients meanwhile", served(6, wrong), "6")
+    judge(t, "a cancel request of an unknown key", send(pooler.port, REQUEST), (b"", CLEAN))
+    t.check(pooler.is_running(), "the pooler", f"status {pooler.process.poll()}", "it runs")
+    for client in more:
+        client.stream.close()
+    time.sleep(0.5)
+    wrong = serve_all(clients)
+    t.check(not wrong, "six clients once they left", served(6, wrong), "6")
+    for client in clients:
+        client.stream.close()
+    server.close()

@@ -304,7 +304,7 @@ impl<'a, M: Machine> Opener for ClientDialer<'a, M> {
         stream.is_quiet()
     }
 
-    fn attach(&self, stream: &mut LinkStream<M>) {
+    fn attach(&self, stream: &LinkStream<M>) {
         stream.attach(self.connection.descriptor());
         self.connection.set_link(Some(stream.descriptor()));
         if let Some(database) = stream.database() {
@@ -327,10 +327,6 @@ impl<'a, M: Machine> Opener for ClientDialer<'a, M> {
     fn is_gone(&self) -> bool {
         self.connection.meter().wait();
         self.connection.is_gone()
-    }
-
-    fn give_up_cancel(&self) {
-        self.connection.give_up();
     }
 
     fn refuse_message(&self, database: DatabaseNo, from: Sender, bytes: usize, limit: u32) {

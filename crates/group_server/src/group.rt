@@ -13,7 +13,7 @@ use crate::options::{ServeOptions, copy_of, write_start};
 use crate::{Dialer, ServeError, Serving, Unbound};
 use ini_config::Group;
 use libc::net as c;
-use node_threads::Calling;
+use node_threads::{Calling, NodePlace};
 use pg_ids::Boot;
 use sockets::{Capacity, ConnectionLimit, DrainSignal, Host, Needs, descriptor_limit};
 use std::alloc::{AllocError, Global};
@@ -85,25 +85,21 @@ impl<H: Host> Listening<H> {
         let log = Arc::new(alloc, Log::new(alloc, options.log))?;
         write_start(host, alloc, &log, &group, options)?;
         let counters = counters_of(alloc, &group, &listeners.metrics)?;
-        let group = Arc::new(alloc, group)?;
         let reports = Arc::new(alloc, copy_of(alloc, options.reports)?)?;
         let mut nodes = Vec::with_capacity(alloc, listeners.nodes.len())?;
-        let mut place = 0;
-        for listener in listeners.nodes {
-            if place < group.len() {
-                let mut dialer = Dialer::new(
-                    *host,
-                    alloc,
-                    Arc::try_clone(&group)?,
-                    place,
-                    Arc::try_clone(&log)?,
-                    Arc::try_clone(&reports)?,
-                );
-                count_at(&mut dialer, &counters, place)?;
-                let serving = serving_at(alloc, &group, place, options, dialer)?;
-                nodes.push(ListeningNode { listener, serving })?;
-                place += 1;
-            }
+        let (group, places) = NodePlace::of_group(alloc, group)?;
+        for (listener, at) in listeners.nodes.into_iter().zip(places) {
+            let mut dialer = Dialer::new(
+                *host,
+                alloc,
+                Arc::try_clone(&group)?,
+                at.index(),
+                Arc::try_clone(&log)?,
+                Arc::try_clone(&reports)?,
+            );
+            count_at(&mut dialer, &counters, at.index())?;
+            let serving = serving_at(alloc, at, options, dialer)?;
+            nodes.push(ListeningNode { listener, serving })?;
         }
         let metrics = match (listeners.metrics, counters) {
             (Some(listener), Some(counters)) => {
@@ -312,17 +308,14 @@ fn exporter_of<H: Host>(
     Ok(Arc::new(alloc, Exporter::new(listener, version, all, sources))?)
 }
 
-// Makes the node at this place of the group, without clients and links.
+// Makes the node at this place of its group, without clients and links.
 fn serving_at<H: Host>(
     alloc: Global,
-    group: &Arc<Group, Global>,
-    place: usize,
+    at: NodePlace,
     options: &ServeOptions<'_>,
     dialer: Dialer<H>,
-) -> Result<Arc<Serving<H>, Global>, AllocError>
-    requires { place < length (arc_value group.now) }
-{
-    let first = calling_at(alloc, group, place, options)?;
+) -> Result<Arc<Serving<H>, Global>, AllocError> {
+    let first = calling_at(alloc, at, options)?;
     let first = Box::new(alloc, first)?;
     Ok(Arc::new(
         alloc,
@@ -330,27 +323,25 @@ fn serving_at<H: Host>(
     )?)
 }
 
-// Makes the shared state of the node at this place of the group, and its first caller.
+// Makes the shared state of the node at this place of its group, and its first caller.
 fn calling_at<L: Drop>(
     alloc: Global,
-    group: &Arc<Group, Global>,
-    place: usize,
+    at: NodePlace,
     options: &ServeOptions<'_>,
 ) -> Result<Calling<L>, AllocError>
-    requires { place < length (arc_value group.now) }
     // The node is new: it has the settings of its place, and the boot of the options.
-    ensures fresh { IfOk result (λ calling. ForSome (slice_get (arc_value group.now) place)
+    ensures fresh { IfOk result (λ calling. ForSome (slice_get at.group at.place)
         (λ settings. IsFresh settings (options.now.boot * 2 ^ 32) calling.caller.start.view)) }
     // It serves with the settings of its place.
     ensures group { IfOk result (λ calling.
-        arc_value (arc_value calling.node).group ≡ arc_value group.now) }
-    ensures place { IfOk result (λ calling. (arc_value calling.node).place ≡ place) }
+        arc_value (arc_value calling.node).group ≡ at.group) }
+    ensures place { IfOk result (λ calling. (arc_value calling.node).place ≡ at.place) }
     // Its secrets are those of the options' seed and of its number.
-    ensures seeded { IfOk result (λ calling. ForSome (slice_get (arc_value group.now) place)
+    ensures seeded { IfOk result (λ calling. ForSome (slice_get at.group at.place)
         (λ settings. (arc_value calling.node).secrets
         ≡ drawing_of options.now.seed settings.peer_id)) }
 {
-    Calling::new(alloc, group, place, options.seed, boot_of(options.boot))
+    Calling::new(alloc, at, options.seed, boot_of(options.boot))
 }
 
 // Returns the first boot of the process with this start number, which has 2^32 boots.

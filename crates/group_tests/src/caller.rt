@@ -67,7 +67,7 @@ impl<R: TestHost> Caller<R> {
         let mut link = self.open(rt)?;
         let mut buffer = [0; 1_024];
         let _count = link.read(&mut buffer)?;
-        self.dialer.on_behalf(&self.connection).attach(&mut link);
+        self.dialer.on_behalf(&self.connection).attach(&link);
         Ok(link)
     }
 

@@ -2,7 +2,7 @@
 use crate::host::TestHost;
 use crate::messages::{CANCEL, GREETING, IDLE, KEY, LONG_CANCEL, LONG_KEY, STARTUP, joined, query};
 use std::io::{ErrorKind, Read, Write};
-use std::net::{Shutdown, TcpStream};
+use std::net::TcpStream;
 use std::test::Fail;
 use std::thread;
 use std::time::Duration;
@@ -93,11 +93,7 @@ pub(crate) struct Client {
 
 impl Client {
     pub(crate) fn connect<R: TestHost>(rt: &R, port: u16) -> Result<Client, Fail> {
-        Client::over(TcpStream::connect(rt, ("127.0.0.1", port))?)
-    }
-
-    // A client with this connection, on which nothing was sent.
-    pub(crate) fn over(stream: TcpStream) -> Result<Client, Fail> {
+        let stream = TcpStream::connect(rt, ("127.0.0.1", port))?;
         stream.set_nodelay(true)?;
         stream.set_nonblocking(true)?;
         Ok(Client { stream })
@@ -236,11 +232,6 @@ impl Client {
     ) -> Result<(), Fail> {
         self.ask(rt, text)?;
         self.expect(rt, answer, None)
-    }
-
-    // Sends nothing more.
-    pub(crate) fn end_input(&self) -> Result<(), Fail> {
-        Ok(self.stream.shutdown(Shutdown::Write)?)
     }
 
     // The connection is reset, and nothing came before.

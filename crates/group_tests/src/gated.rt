@@ -4,15 +4,17 @@ use crate::host::TestHost;
 use crate::settings::group;
 use group_server::{Dialer, MessageLimit};
 use ini_config::Group;
-use node_threads::{Calling, Context, Gate, Point, serve_connection};
+use node_threads::{Calling, Context, Gate, NodePlace, Point, serve_connection};
+use peer_forward::Requester;
 use pg_ids::Boot;
 use sockets::{Connection, LinkStream, Machine};
 use startup::Reports;
 use std::alloc::{AllocError, Global};
+use std::io::{Read, Write};
 use std::net::{TcpListener, TcpStream};
 use std::sync::{Arc, Condvar, Mutex, Wait};
 use std::test::Fail;
-use std::thread;
+use std::{io, thread};
 use telemetry::{Level, Log};
 
 // A gate that is closed before a link is given back, until it is opened for all.
@@ -82,7 +84,9 @@ fn start<R: TestHost>(
 ) -> Result<(u16, Arc<Log, Global>), Fail> {
     let listener = TcpListener::bind(rt, ANY_PORT)?;
     let port = listener.local_addr()?.port();
-    let group = Arc::new(rt.alloc(), group(rt.alloc(), &[port], server, &[&[]])?)?;
+    let group = group(rt.alloc(), &[port], server, &[&[]])?;
+    let (group, mut places) = NodePlace::of_group(rt.alloc(), group)?;
+    let at = places.pop().ok_or("no node")?;
     let log = Arc::new(rt.alloc(), Log::new(rt.alloc(), Level::Info))?;
     let dialer = dialer_of(rt, &group, &log)?;
     let node = Node {
@@ -90,7 +94,7 @@ fn start<R: TestHost>(
         gate,
         limit,
     };
-    start_accepting(rt, &group, Arc::new(rt.alloc(), node)?, listener)?;
+    start_accepting(rt, at, Arc::new(rt.alloc(), node)?, listener)?;
     Ok((port, log))
 }
 
@@ -107,14 +111,11 @@ fn dialer_of<R: TestHost>(
 // Accepts connections in a thread apart.
 fn start_accepting<R: TestHost>(
     rt: &R,
-    group: &Arc<Group, Global>,
+    at: NodePlace,
     node: Arc<Node<R>, Global>,
     listener: TcpListener,
 ) -> Result<(), Fail> {
-    if group.is_empty() {
-        return Err(Fail::from("no node"));
-    }
-    let first = Calling::new(rt.alloc(), group, 0, [0; 32], Boot(0))?;
+    let first = Calling::new(rt.alloc(), at, [0; 32], Boot(0))?;
     let own = *rt;
     thread::spawn(rt, move || accept(&own, first, node, listener)).map_err(AllocError::from)?;
     Ok(())
@@ -149,6 +150,33 @@ fn start_serving<R: TestHost>(
     Ok(())
 }
 
+// A client's socket.
+struct Client<'a>(&'a TcpStream);
+
+impl Read for Client<'_> {
+    fn read(&mut self, buffer: &mut [u8]) -> io::Result<usize> {
+        self.0.read(buffer)
+    }
+}
+
+impl Write for Client<'_> {
+    fn write(&mut self, bytes: &[u8]) -> io::Result<usize> {
+        self.0.write(bytes)
+    }
+
+    fn flush(&mut self) -> io::Result<()> {
+        Ok(())
+    }
+}
+
+impl Requester for Client<'_> {
+    ghost use Rattle.std.specs.Prelude.{⊤};
+
+    ghost resets = { λ _ _. ⊤ };
+
+    fn give_up(&mut self) {}
+}
+
 fn serve<R: TestHost>(
     rt: &R,
     mut calling: Calling<LinkStream<R>>,
@@ -157,7 +185,7 @@ fn serve<R: TestHost>(
 ) {
     let connection = Connection::new(socket);
     let opener = node.dialer.on_behalf(&connection);
-    let mut client = connection.socket();
+    let mut client = Client(connection.socket());
     let context = Context {
         rt,
         gate: &*node.gate,

@@ -16,7 +16,7 @@ use Rattle.locked_node.specs.Lock.{CallerView, Counted}
 use Rattle.startup.specs.declared.error_code.ErrorCode.{ErrorCode}
 use Rattle.startup.specs.declared.error_code.ErrorCode.TheVariants.{TooManyConnections}
 use Rattle.peer_forward.specs.Calls.{Effect}
-use Rattle.session_io.specs.declared.session.link.Link.{Link}
+use Rattle.session_io.specs.LinkView.{LinkView}
 use Rattle.node_threads.specs.Balance.{Balanced, nothing}
 use Rattle.node_threads.specs.Cancelling.{Opens}
 use Rattle.node_threads.specs.Leasing.{OfLease, IsLoggedIn, Logins, IsLogin, IsThisLogin, WasAnswered, WentUp, IsGiven, IsUnopened, IsDenied, IsAnswer, IsOpened, IsKept}
@@ -36,12 +36,12 @@ of_lease A B C D all Ended a b c = tt
 
 -- a link at the same place, over the same stream
 pub same_link : {T : Type 0} (limit : ℕ) (wrote gave : Effect T) (opens : Opens T)
-    (entries : List DatabaseSettings) (key : List ℕ) (at is : LinkPlace) (link opened : Link T)
+    (entries : List DatabaseSettings) (key : List ℕ) (at is : LinkPlace) (link opened : LinkView T)
     → at ≡ is → link ≡ opened
     → IsLoggedIn limit wrote gave opens entries is.database key opened.stream
     → IsLoggedIn limit wrote gave opens entries at.database key link.stream
 same_link limit wrote gave opens entries key at is link opened place stream logged =
-    subst (λ (l : Link _). IsLoggedIn limit wrote gave opens entries at.database key l.stream)
+    subst (λ (l : LinkView _). IsLoggedIn limit wrote gave opens entries at.database key l.stream)
     (sym stream)
     (subst
     (λ (p : LinkPlace). IsLoggedIn limit wrote gave opens entries p.database key opened.stream)

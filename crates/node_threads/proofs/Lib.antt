@@ -5,4 +5,4 @@ pub mod LeaseLemmas
 pub mod ServingLemmas
 pub mod ConsoleLemmas
 pub mod ConnectionLemmas
-pub mod AboveLemmas
+pub mod PlaceLemmas

@@ -18,9 +18,9 @@ use Rattle.startup.specs.declared.error_code.Severity.TheVariants.{Error}
 use Rattle.pg_frames.specs.Passage.{Passage, start}
 use Rattle.client_state.specs.Acts.{start as begun, fatal, error_text, ready_text}
 use Rattle.client_state.specs.Session.{Session}
-use Rattle.session_io.specs.declared.session.link.Link.{Link}
 use Rattle.session_io.specs.declared.session.outcome.Stayed.{Stayed}
 use Rattle.session_io.specs.declared.session.outcome.Stayed.TheVariants.{Release, Close}
+use Rattle.session_io.specs.LinkView.{LinkView}
 use Rattle.session_io.specs.StreamCalls.{SomeCalls, Wrote, WroteSome, Sends}
 use Rattle.session_io.specs.Asking.{IsError, SendsError}
 use Rattle.session_io.specs.Finding.{AsksNext}
@@ -129,7 +129,7 @@ none_of stayed is = elim is [
 -- a link that isn't as it was left is closed
 pub spoilt : {T C : Type 0} (limit : ℕ) (wrote gave : Effect T) (wrote' gave' : Effect C)
     (client : C)
-    (lease : LinkValue (Link T)) (request reply kept : List ℕ) (said : CloseReply (Link T))
+    (lease : LinkValue (LinkView T)) (request reply kept : List ℕ) (said : CloseReply (LinkView T))
     (old new : CallerView)
     → Counted (step.Close lease.details (close_said said)) said (close.Exhausted lease.stream) old
     new
@@ -165,17 +165,16 @@ stay_at_start limit wrote gave wrote' gave' stream after client client' flow req
 -- a stay on a link, after which the session goes on or ends
 pub rides : {T C : Type 0} (limit : ℕ) (wrote gave : Effect T) (wrote' gave' : Effect C)
     (client client' : C)
-    (lease : LinkValue (Link T)) (stream : T) (request kept left : List ℕ) (stayed : Stayed)
+    (lease : LinkValue (LinkView T)) (request kept left : List ℕ) (stayed : Stayed)
     (end : Option (List ℕ)) (old new : CallerView)
-    → ((after : T) × SomeCalls wrote gave stream after (λ on_link.
+    → ((after : T) × SomeCalls wrote gave lease.stream.stream after (λ on_link.
     SomeCalls wrote' gave' client client' (λ on_client.
     Stay limit request [] kept on_link on_client stayed left)))
     → Tells (handed_in stayed lease.details) old new → end ≡ end_of stayed
     → SomeCalls wrote' gave' client client' (λ calls. ComesOf limit wrote gave (acquired.Lease
     lease)
     request end kept calls left old new)
-rides limit wrote gave wrote' gave' client client' lease stream request kept left stayed end old
-    new stays
+rides limit wrote gave wrote' gave' client client' lease request kept left stayed end old new stays
     told is =
     let on_link = stays.1 in
     let on_client = on_link.2 in (
@@ -184,7 +183,6 @@ rides limit wrote gave wrote' gave' client client' lease stream request kept lef
       inl (
         stayed,
         record {
-          stream = stream;
           after = stays.0;
           stay = (on_link.0, on_link.1, on_client.2);
           told = told;
@@ -194,25 +192,23 @@ rides limit wrote gave wrote' gave' client client' lease stream request kept lef
     )
 
 pub rides_on : {T C : Type 0} (limit : ℕ) (wrote gave : Effect T) (wrote' gave' : Effect C)
-    (client client' : C) (lease : LinkValue (Link T)) (stream : T) (request kept left : List ℕ)
+    (client client' : C) (lease : LinkValue (LinkView T)) (request kept left : List ℕ)
     (stayed : Stayed) (old new : CallerView)
-    → ((after : T) × SomeCalls wrote gave stream after (λ on_link.
+    → ((after : T) × SomeCalls wrote gave lease.stream.stream after (λ on_link.
     SomeCalls wrote' gave' client client' (λ on_client.
     Stay limit request [] kept on_link on_client stayed left)))
     → Tells (handed_in stayed lease.details) old new → (stayed ≡ Release) ⊎ (stayed ≡ Close)
     → SomeCalls wrote' gave' client client' (λ calls. ComesOf limit wrote gave (acquired.Lease
     lease)
     request None kept calls left old new)
-rides_on limit wrote gave wrote' gave' client client' lease stream request kept left stayed old new
-    stays
+rides_on limit wrote gave wrote' gave' client client' lease request kept left stayed old new stays
     told is =
-    rides limit wrote gave wrote' gave' client client' lease stream request kept left stayed None
-    old new
+    rides limit wrote gave wrote' gave' client client' lease request kept left stayed None old new
     stays told (none_of stayed is)
 
 -- what came of a request, by what came of asking for a link
 comes_of : {T : Type 0} (limit : ℕ) (wrote gave : Effect T) (logins : Logins) (pass : PassRecord) (database : ℕ)
-    (given : Acquired (LinkValue (Link T))) (request : List ℕ) (end : Option (List ℕ))
+    (given : Acquired (LinkValue (LinkView T))) (request : List ℕ) (end : Option (List ℕ))
     (kept : List ℕ) (calls : List Call) (left : List ℕ) (old between new : CallerView)
     → IsAnswer logins pass given old between → OfLease (λ lease. lease.details.at.database ≡ database) given
     → Moves nothing old (hand_of given) between
@@ -227,7 +223,7 @@ comes_of limit wrote gave logins pass database (acquired.Lease lease) request en
     elim comes [
       | inl carried ↦ (
         Carried lease.details carried.0,
-        (between, gets, carried.1),
+        (between, gets, lease.stream.stream, carried.1),
         carried.2,
       )
       | inr closed ↦ (
@@ -277,7 +273,7 @@ served_by limit wrote gave logins pass database (Some reply) kept calls left old
 -- the next request was read, a link asked for, and it was served
 pub request_served : {T C : Type 0} (limit : ℕ) (wrote gave : Effect T) (logins : Logins) (wrote' gave' : Effect C)
     (a b c : C)
-    (pass : PassRecord) (database : ℕ) (given : Acquired (LinkValue (Link T))) (request : List ℕ)
+    (pass : PassRecord) (database : ℕ) (given : Acquired (LinkValue (LinkView T))) (request : List ℕ)
     (end : Option (List ℕ)) (kept behind left : List ℕ) (old between new : CallerView)
     → SomeCalls wrote' gave' a b (λ calls. AsksNext limit kept calls (Ok request) behind)
     → IsAnswer logins pass given old between → OfLease (λ lease. lease.details.at.database ≡ database) given
@@ -309,7 +305,7 @@ request_served limit wrote gave logins wrote' gave' a b c pass database given re
 
 pub request_served_at : {T C : Type 0} (limit limit' : ℕ) (wrote gave : Effect T) (logins : Logins)
     (wrote' gave' : Effect C)
-    (a b c : C) (pass : PassRecord) (at database : ℕ) (given : Acquired (LinkValue (Link T)))
+    (a b c : C) (pass : PassRecord) (at database : ℕ) (given : Acquired (LinkValue (LinkView T)))
     (request : List ℕ) (end : Option (List ℕ)) (kept behind left : List ℕ)
     (old between new : CallerView) → at ≡ database → limit' ≡ limit
     → SomeCalls wrote' gave' a b (λ calls. AsksNext limit kept calls (Ok request) behind)

@@ -3,6 +3,7 @@
 -- a cancel request.
 use Rattle.std.specs.Prelude.{◌≡◌, ◌⊎◌, ℕ, List, codes, string_bytes, position, true, false, Option, Some, None}
 use Rattle.std.specs.Str.{bytes_eq}
+use Rattle.pg_ids.specs.declared.any_key.AnyKey.{AnyKey}
 use Rattle.pg_ids.specs.declared.any_key.Kind.{Kind}
 use Rattle.ini_config.specs.Node.{DatabaseSettings, NodeSettings}
 use Rattle.locked_node.specs.Lock.{CallerView}
@@ -16,8 +17,8 @@ use Rattle.session_io.specs.declared.login.first_packets.Opened.TheVariants.{Ses
 use Rattle.session_io.specs.StreamCalls.{SomeCalls}
 use Rattle.session_io.specs.Asking.{SendsError}
 use Rattle.session_io.specs.Opening.{Opens}
-use Rattle.node_threads.specs.Cancelling.{Carries, ServesCancel}
-use Rattle.node_threads.specs.Leasing.{Logins}
+use Rattle.node_threads.specs.Cancelling.{Opens as MayOpen, IsCarried, ServesCancel}
+use Rattle.node_threads.specs.Leasing.{Logins, IsLogin}
 use Rattle.node_threads.specs.Secrets.{Drawing, secret_at}
 use Rattle.node_threads.specs.Serving.{ServesClient}
 use Rattle.node_threads.specs.ConsoleSession.{ServesConsole}
@@ -44,41 +45,64 @@ ServesAt limit wrote gave logins secrets reports (Some database) kind kept calls
     × ServesClient limit wrote gave logins reports database (secret_at secrets number) kind kept
     calls left old new
 
--- What the first packets lead to, behind which this was read of the client. A cancel request for
--- which no seat is free is given up without an order.
-abbrev pub ServesOpened : {T C : Type 0} → ℕ → Effect T → Effect T → Effect C → Effect C
-    → Logins → Drawing → Carries
-    → Carries → List Report → NodeSettings → Opened → List ℕ → C → C → CallerView
+-- What a connection is served with, and what its parts mean: the limit of a message; what the calls
+-- of a link's stream and of the client's make of them, and what giving the client's connection up
+-- makes of it; what may come of connecting for a link and for a cancel request, to a server and to a
+-- peer; the secrets, what logins report, and the settings.
+pub record Served (T C : Type 0) : Type 1 where
+  pub limit : ℕ
+  pub link_wrote : Effect T
+  pub link_gave : Effect T
+  pub wrote : Effect C
+  pub gave : Effect C
+  pub resets : C → C → Type 0
+  pub connects : MayOpen T
+  pub cancels : MayOpen T
+  pub reaches : MayOpen T
+  pub secrets : Drawing
+  pub reports : List Report
+  pub settings : NodeSettings
+
+-- which logins may have given a key: over a stream that was opened for a link of these settings
+abbrev pub logins : {T C : Type 0} → Served T C → Logins
+logins served = IsLogin served.limit served.link_wrote served.link_gave served.connects
+    served.settings.databases
+
+-- A session of this name was served: at the console, or on the database with this name.
+abbrev pub ServesSession : {T C : Type 0} → Served T C → (name : List ℕ) → Kind → List ℕ
+    → List Call → List ℕ → CallerView → CallerView → Type 0
+ServesSession served name kind kept calls left old new =
+    ((bytes_eq name console_name ≡ true) × (new ≡ old)
+    × ServesConsole served.limit served.reports served.settings old kept calls left)
+    ⊎ ((bytes_eq name console_name ≡ false)
+    × ServesAt served.limit served.link_wrote served.link_gave (logins served) served.secrets
+    served.reports (place_of name served.settings.databases) kind kept calls left old new)
+
+-- A cancel request with this key was served, and its sender's connection finished by the verdict. Or
+-- no seat was free for it: it got no order, and the connection was given up.
+abbrev pub ServesRequest : {T C : Type 0} → Served T C → AnyKey → C → C → CallerView → CallerView
+    → Type 0
+ServesRequest served key client client' old new =
+    (served.resets client client' × (new ≡ old))
+    ⊎ ((seat next : SeatView) × ServesCancel
+    (IsCarried served.link_wrote served.link_gave served.cancels)
+    (IsCarried served.link_wrote served.link_gave served.reaches) key old new seat next
+    (λ verdict. Finishes served.wrote client verdict client'))
+
+-- What the first packets lead to, behind which this was read of the client, was served.
+abbrev pub ServesOpened : {T C : Type 0} → Served T C → Opened → List ℕ → C → C → CallerView
     → CallerView → Type 0
-ServesOpened limit wrote gave wrote' gave' logins secrets ToServer ToPeer reports settings (Session name kind)
-    behind
-    client client' old new =
-    ((bytes_eq (string_bytes name) console_name ≡ true) × (new ≡ old) × (left : List ℕ)
-    × SomeCalls wrote' gave' client client' (λ calls. ServesConsole limit reports settings old behind
-    calls left))
-    ⊎ ((bytes_eq (string_bytes name) console_name ≡ false) × (left : List ℕ)
-    × SomeCalls wrote' gave' client client' (λ calls. ServesAt limit wrote gave logins secrets
-    reports (place_of (string_bytes name) settings.databases) kind behind calls left old new))
-ServesOpened limit wrote gave wrote' gave' logins secrets ToServer ToPeer reports settings (Cancel key) behind
-    client
-    client' old new =
-    ((client' ≡ client) × (new ≡ old))
-    ⊎ ((seat next : SeatView) × ServesCancel ToServer ToPeer key old new seat next
-    (λ verdict. Finishes wrote' client verdict client'))
-ServesOpened limit wrote gave wrote' gave' logins secrets ToServer ToPeer reports settings Over behind client
-    client'
-    old new =
-    (client' ≡ client) × (new ≡ old)
+ServesOpened served (Session name kind) behind client client' old new =
+    (left : List ℕ) × SomeCalls served.wrote served.gave client client'
+    (λ calls. ServesSession served (string_bytes name) kind behind calls left old new)
+ServesOpened served (Cancel key) behind client client' old new =
+    ServesRequest served key client client' old new
+ServesOpened served Over behind client client' old new = (client' ≡ client) × (new ≡ old)
 
 -- The first packets were read, and then what they lead to was served.
-abbrev pub ServesConnection : {T C : Type 0} → ℕ → Effect T → Effect T → Effect C → Effect C
-    → Logins → Drawing → Carries
-    → Carries → List Report → NodeSettings → C → C → CallerView → CallerView → Type 0
-ServesConnection {T} {C} limit wrote gave wrote' gave' logins secrets ToServer ToPeer reports settings client
-    client'
-    old new =
+abbrev pub ServesConnection : {T C : Type 0} → Served T C → C → C → CallerView → CallerView
+    → Type 0
+ServesConnection {T} {C} served client client' old new =
     (opened : Opened) × (behind : List ℕ) × (next : C)
-    × SomeCalls wrote' gave' client next (λ calls. Opens calls opened behind)
-    × ServesOpened limit wrote gave wrote' gave' logins secrets ToServer ToPeer reports settings opened behind
-    next
-    client' old new
+    × SomeCalls served.wrote served.gave client next (λ calls. Opens calls opened behind)
+    × ServesOpened served opened behind next client' old new

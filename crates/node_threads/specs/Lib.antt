@@ -1,5 +1,6 @@
 pub mod Secrets
 pub mod Front
+pub mod NodePlaces
 pub mod Desks
 pub mod Cancelling
 pub mod Words

@@ -19,9 +19,9 @@ use Rattle.startup.specs.declared.error_code.ErrorCode.{ErrorCode}
 use Rattle.startup.specs.declared.error_code.ErrorCode.TheVariants.{TooManyConnections, OutOfMemory, ConnectionFailure, QueryCanceled}
 use Rattle.startup.specs.declared.error_code.Severity.TheVariants.{Error}
 use Rattle.client_state.specs.Acts.{error_text, ready_text}
-use Rattle.session_io.specs.declared.session.link.Link.{Link}
 use Rattle.session_io.specs.declared.session.outcome.Stayed.{Stayed}
 use Rattle.session_io.specs.declared.session.outcome.Stayed.TheVariants.{Release, Close, End}
+use Rattle.session_io.specs.LinkView.{LinkView}
 use Rattle.session_io.specs.StreamCalls.{SomeCalls, Wrote, WroteSome, Sends}
 use Rattle.session_io.specs.Asking.{IsError, SendsError, Leaving, Leaves}
 use Rattle.session_io.specs.Finding.{AsksNext}
@@ -90,11 +90,11 @@ pub record Gets (logins : Logins) (pass : PassRecord) (database : ℕ) (link : L
   pub place : link.at.database ≡ database
   pub moves : Moves nothing old a_lease new
 
--- A request was carried over a stream of a link, which was handed in by how the stay there ended.
-pub record Carries {T : Type 0} (limit : ℕ) (wrote gave : Effect T) (link : LinkRecord)
+-- A request was carried over this stream, which is a link's, and the link was handed in by how the
+-- stay there ended.
+pub record Carries {T : Type 0} (limit : ℕ) (wrote gave : Effect T) (link : LinkRecord) (stream : T)
     (request kept : List ℕ)
     (stayed : Stayed) (calls : List Call) (left : List ℕ) (old new : CallerView) : Type 0 where
-  pub stream : T
   pub after : T
   pub stay : SomeCalls wrote gave stream after
       (λ on_link. Stay limit request [] kept on_link calls stayed left)
@@ -105,8 +105,8 @@ pub record Carries {T : Type 0} (limit : ℕ) (wrote gave : Effect T) (link : Li
 abbrev pub Comes : {T : Type 0} → ℕ → Effect T → Effect T → Logins → PassRecord → ℕ → List ℕ → Fate
     → Option (List ℕ) → List ℕ → List Call → List ℕ → CallerView → CallerView → Type 0
 Comes limit wrote gave logins pass database request (Carried link stayed) end kept calls left old new =
-    (got : CallerView) × Gets logins pass database link old got
-    × Carries limit wrote gave link request kept stayed calls left got new
+    (got : CallerView) × Gets logins pass database link old got × (stream : _)
+    × Carries limit wrote gave link stream request kept stayed calls left got new
 Comes limit wrote gave logins pass database request (Spoilt link) end kept calls left old new =
     (got : CallerView) × Gets logins pass database link old got × Tells (call.Close link) got new
     × (calls ≡ []) × (left ≡ kept)
@@ -220,11 +220,13 @@ ServesClient limit wrote gave logins reports database secret kind kept calls lef
 
 -- What comes of a request whose client asked for a link, with what came of that: the session goes
 -- on, or ends, and this is written then.
-abbrev pub ComesOf : {T : Type 0} → ℕ → Effect T → Effect T → Acquired (LinkValue (Link T)) → List ℕ
+abbrev pub ComesOf : {T : Type 0} → ℕ → Effect T → Effect T → Acquired (LinkValue (LinkView T))
+    → List ℕ
     → Option (List ℕ) → List ℕ → List Call → List ℕ → CallerView → CallerView → Type 0
 ComesOf limit wrote gave (acquired.Lease lease) request end kept calls left old new =
     ((stayed : Stayed)
-    × Carries limit wrote gave lease.details request kept stayed calls left old new
+    × Carries limit wrote gave lease.details lease.stream.stream request kept stayed calls left old
+    new
     × (end ≡ end_of stayed))
     ⊎ (Tells (call.Close lease.details) old new × EndsByError ConnectionFailure end
     × (calls ≡ []) × (left ≡ kept))

@@ -14,7 +14,7 @@ use crate::{
     CONSOLE, Calling, CancelOpener, Context, Gate, Link, Node, Opened, Opener, Service, SingleUse,
     open, serve_cancel, serve_client, serve_console,
 };
-use peer_forward::{ReadCalls, WriteCalls};
+use peer_forward::{ReadCalls, Requester, WriteCalls};
 use pg_frames::{Cutter, MessageLimit};
 use pg_ids::{AnyKey, Kind};
 use session_io::refuse;
@@ -24,7 +24,8 @@ use std::sync::Wait;
 
 /// Serves a connection from its first packet to its end: a client's session on the database that it
 /// asks for or on the console, or a cancel request. A database that isn't in the settings is
-/// refused. A cancel request for which no seat at the board is free is given up without an order.
+/// refused. A cancel request for which no seat at the board is free is given up without an order:
+/// its connection is reset.
 pub fn serve_connection<R, O, G, C>(
     context: Context<'_, R, G>,
     alloc: Global,
@@ -38,23 +39,26 @@ where
     R: Wait,
     O: Opener,
     G: Gate,
-    C: WriteCalls + ReadCalls,
+    C: WriteCalls + ReadCalls + Requester,
     // Each pass, permit, lease and ticket that was made was spent.
     ensures balanced { Balanced calling.old.caller calling.new.caller }
     // The first packets were read, and then what they ask for was served.
     ensures served { ForSome
         (slice_get (arc_value (arc_value calling.old.node).group) (arc_value calling.old.node).place)
-        (λ settings. ServesConnection
-        limit.now ⟦<O::Stream as WriteCalls>⟧.wrote ⟦<O::Stream as ReadCalls>⟧.gave C.wrote C.gave
-        (IsLogin limit.now ⟦<O::Stream as WriteCalls>⟧.wrote ⟦<O::Stream as ReadCalls>⟧.gave
-        (O.connects opener.now) settings.databases)
-        (arc_value calling.old.node).secrets
-        (IsCarried ⟦<O::Stream as WriteCalls>⟧.wrote ⟦<O::Stream as ReadCalls>⟧.gave
-        (O.cancels opener.now))
-        (IsCarried ⟦<O::Stream as WriteCalls>⟧.wrote ⟦<O::Stream as ReadCalls>⟧.gave
-        (O.reaches opener.now))
-        reports.now settings client.old client.new calling.old.caller
-        calling.new.caller) }
+        (λ settings. ServesConnection (record {
+          limit = limit.now;
+          link_wrote = ⟦<O::Stream as WriteCalls>⟧.wrote;
+          link_gave = ⟦<O::Stream as ReadCalls>⟧.gave;
+          wrote = ⟦<C as WriteCalls>⟧.wrote;
+          gave = ⟦<C as ReadCalls>⟧.gave;
+          resets = C.resets;
+          connects = O.connects opener.now;
+          cancels = O.cancels opener.now;
+          reaches = O.reaches opener.now;
+          secrets = (arc_value calling.old.node).secrets;
+          reports = reports.now;
+          settings = settings;
+        }) client.old client.new calling.old.caller calling.new.caller) }
 {
     let mut cutter = Cutter::with_limit(alloc, *limit);
     let Context { rt, gate } = context;
@@ -152,21 +156,21 @@ where
     S: Drop,
     O: CancelOpener,
     G: Gate,
-    C: WriteCalls,
+    C: WriteCalls + Requester,
     ensures balanced { Balanced calling.old.caller calling.new.caller }
-    ensures served { ((client.new ≡ client.old) × (calling.new.caller ≡ calling.old.caller))
+    ensures served { (C.resets client.old client.new × (calling.new.caller ≡ calling.old.caller))
         ⊎ ((seat next : SeatView) × ServesCancel
         (IsCarried ⟦<O::Stream as WriteCalls>⟧.wrote ⟦<O::Stream as ReadCalls>⟧.gave
         (O.cancels opener))
         (IsCarried ⟦<O::Stream as WriteCalls>⟧.wrote ⟦<O::Stream as ReadCalls>⟧.gave
         (O.reaches opener))
         key calling.old.caller calling.new.caller seat next
-        (λ verdict. Finishes C.wrote client.old verdict client.new)) }
+        (λ verdict. Finishes ⟦<C as WriteCalls>⟧.wrote client.old verdict client.new)) }
 {
     let rt = context.rt;
     let is_own = key.peer() == calling.node.settings().peer_id();
     let Some(mut seat) = calling.node.seats.take(rt, key, is_own) else {
-        opener.give_up();
+        client.give_up();
         return;
     };
     if is_own {

@@ -16,7 +16,9 @@ pub use cancel::{CancelOpener, Counting, Seat, Seats, SingleUse, relay, report, 
 pub use connection::serve_connection;
 pub use desk::{Desk, DeskCall, ListDesk, LockDesk, RequestDesk, Requested};
 pub use gate::{Gate, Open, Point};
-pub use node::{Calling, ClientCensus, Front, LinkCensus, Node, PoolCensus, Secrets, restart};
+pub use node::{
+    Calling, ClientCensus, Front, LinkCensus, Node, NodePlace, PoolCensus, Secrets, restart,
+};
 pub use opener::{Opener, Sender};
 pub use service::{Context, Service};
 pub use session::{CONSOLE, serve_client, serve_console, turn};

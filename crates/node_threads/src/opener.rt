@@ -51,7 +51,7 @@ pub trait Opener {
     }
 
     /// The client has this link from now on. A read of it fails once the client is gone.
-    fn attach(&self, _stream: &mut Self::Stream) {}
+    fn attach(&self, _stream: &Self::Stream) {}
 
     /// The client has no link from now on.
     fn detach(&self) {}
@@ -63,10 +63,6 @@ pub trait Opener {
     fn is_gone(&self) -> bool {
         false
     }
-
-    /// The cancel request of this connection gets no order. Its sender isn't to take it for one
-    /// that was settled: the connection is reset.
-    fn give_up_cancel(&self) {}
 
     /// On this database a message has this length field, or a client's messages of an extended
     /// query have this many bytes together, more than the limit.

@@ -5,11 +5,13 @@
 mod calls;
 mod carrying;
 mod outcome;
+mod requester;
 mod verdict;
 mod writing;
 
 pub use calls::{ReadCalls, WriteCalls};
 pub use carrying::carry;
 pub use outcome::Outcome;
+pub use requester::Requester;
 pub use verdict::{Verdict, finish};
 pub use writing::write_whole;

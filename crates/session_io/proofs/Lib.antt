@@ -14,3 +14,4 @@ pub mod LoginLemmas
 pub mod OpeningLemmas
 pub mod WholeLemmas
 pub mod FirstReadLemmas
+pub mod AboveLemmas

@@ -1,4 +1,5 @@
 pub mod StreamCalls
+pub mod LinkView
 pub mod Asking
 pub mod Replying
 pub mod Stay

@@ -7,5 +7,5 @@ mod session;
 mod stream;
 
 pub use login::{LinkError, LoggedIn, Opened, log_in, open, refuse};
-pub use session::{Link, Stayed, lost, next_request, stay};
+pub use session::{Link, Stayed, length_above, lost, next_request, stay};
 pub use stream::read_some;

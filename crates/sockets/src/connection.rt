@@ -12,8 +12,6 @@ pub struct Connection {
     socket: TcpStream,
     // The socket of the link that its client has.
     link: Cell<Option<RawFd>>,
-    // Whether its cancel request got no order.
-    is_given_up: Cell<bool>,
     // Where its cancel request is sent.
     target: Cell<Option<Target>>,
     meter: Meter,
@@ -30,7 +28,6 @@ impl Connection {
         Connection {
             socket,
             link: Cell::new(None),
-            is_given_up: Cell::new(false),
             target: Cell::new(None),
             meter,
         }
@@ -59,16 +56,6 @@ impl Connection {
     /// Sets the socket of the link that its client has, or none.
     pub fn set_link(&self, link: Option<RawFd>) {
         self.link.set(link);
-    }
-
-    /// Records that its cancel request gets no order.
-    pub fn give_up(&self) {
-        self.is_given_up.set(true);
-    }
-
-    /// Returns whether its cancel request got no order.
-    pub fn is_given_up(&self) -> bool {
-        self.is_given_up.get()
     }
 
     /// Sets where its cancel request is sent.

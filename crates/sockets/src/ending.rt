@@ -29,7 +29,7 @@ pub fn end<M: Machine>(machine: &M, connection: &Connection, client: &mut Client
         // The last byte of a cancel request stays unread if it got no order, or if the byte for its
         // sender couldn't be written: so the connection is reset.
         LastCall::Failed => {}
-        LastCall::Read if connection.is_given_up() => {}
+        LastCall::Read if client.is_given_up() => {}
         LastCall::Read => settle(connection, client),
         LastCall::Wrote => {
             settle(connection, client);

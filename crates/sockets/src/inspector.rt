@@ -7,6 +7,7 @@ use crate::poll::wait_readable;
 use link_state::Watch;
 use startup::Reports;
 use std::alloc::{AllocError, Global};
+use std::cell::Cell;
 use std::io;
 use std::io::ErrorKind;
 use std::os::fd::RawFd;
@@ -20,6 +21,8 @@ use telemetry::Event;
 pub struct Inspector {
     origin: Origin,
     stage: Stage,
+    // Whether a client has or had the link. Its login is over then.
+    is_used: Cell<bool>,
     // Compares what the server of a link reports with what clients get.
     watch: Option<Watch>,
     // Whether its failure was logged.
@@ -65,6 +68,7 @@ impl Inspector {
         Ok(Inspector {
             origin,
             stage: Stage::Login(Box::new(alloc, login)?),
+            is_used: Cell::new(false),
             watch,
             is_logged: false,
         })
@@ -75,14 +79,20 @@ impl Inspector {
         Inspector {
             origin,
             stage: Stage::Cancel,
+            is_used: Cell::new(false),
             watch: None,
             is_logged: false,
         }
     }
 
     /// A client gets the link.
-    pub fn attach(&mut self) {
-        if matches!(self.stage, Stage::Login(_)) {
+    pub fn attach(&self) {
+        self.is_used.set(true);
+    }
+
+    // Leaves the stage of the login, and frees what it needs, once a client has the link.
+    fn end_login(&mut self) {
+        if self.is_used.get() && matches!(self.stage, Stage::Login(_)) {
             self.stage = Stage::Link;
         }
     }
@@ -118,6 +128,7 @@ impl Inspector {
     /// Inspects received bytes. Fails if they belong to a login and the server reports another value
     /// than clients get.
     pub fn inspect<R: Wait + Clock>(&mut self, rt: &R, bytes: &[u8]) -> io::Result<()> {
+        self.end_login();
         self.watch(bytes);
         match &mut self.stage {
             Stage::Login(login) => {
@@ -158,6 +169,7 @@ impl Inspector {
 
     /// The peer has closed the connection.
     pub fn end<R: Wait + Clock>(&mut self, rt: &R) {
+        self.end_login();
         match self.stage {
             Stage::Cancel => {}
             _ => self.log_reason(rt, "the server ended the connection"),
@@ -166,6 +178,7 @@ impl Inspector {
 
     /// A read or a write failed.
     pub fn fail<R: Wait + Clock>(&mut self, rt: &R, error: &io::Error) {
+        self.end_login();
         // The client has closed its connection.
         if error.kind() == ErrorKind::ConnectionAborted || self.is_logged {
             return;

@@ -10,6 +10,7 @@ use crate::{Deadline, Machine};
 use bytes::BytesMut;
 use pg_ids::DatabaseNo;
 use std::alloc::Global;
+use std::cell::Cell;
 use std::io;
 use std::io::{ErrorKind, Read, Write};
 use std::net::TcpStream;
@@ -32,9 +33,9 @@ struct Inside<M: Machine> {
     machine: M,
     alloc: Global,
     socket: TcpStream,
-    deadline: Option<Deadline>,
+    deadline: Cell<Option<Deadline>>,
     // The socket of the client that has this link.
-    client: Option<RawFd>,
+    client: Cell<Option<RawFd>>,
     // Buffered writes.
     unwritten: BytesMut,
     // Inspects what is received.
@@ -62,8 +63,8 @@ impl<M: Machine> LinkStream<M> {
             machine,
             alloc,
             socket,
-            deadline: Some(deadline),
-            client: None,
+            deadline: Cell::new(Some(deadline)),
+            client: Cell::new(None),
             unwritten: BytesMut::new(alloc),
             inspector,
             database,
@@ -88,9 +89,9 @@ impl<M: Machine> LinkStream<M> {
     }
 
     /// Makes it the link of the client with this socket, without a deadline.
-    pub fn attach(&mut self, client: RawFd) {
-        self.inside.deadline = None;
-        self.inside.client = Some(client);
+    pub fn attach(&self, client: RawFd) {
+        self.inside.deadline.set(None);
+        self.inside.client.set(Some(client));
         self.inside.inspector.attach();
     }
 
@@ -115,7 +116,7 @@ impl<M: Machine> Inside<M> {
     // Fails if the deadline has passed.
     #[inline(never)]
     fn check_deadline(&self) -> io::Result<()> {
-        if let Some(deadline) = self.deadline {
+        if let Some(deadline) = self.deadline.get() {
             deadline.left(&self.machine)?;
         }
         Ok(())
@@ -123,7 +124,7 @@ impl<M: Machine> Inside<M> {
 
     // Fails if the client has closed its connection.
     fn check_client(&self) -> io::Result<()> {
-        match self.client {
+        match self.client.get() {
             Some(client) if is_ended(client) => Err(io::Error::from(ErrorKind::ConnectionAborted)),
             _ => Ok(()),
         }
@@ -134,9 +135,7 @@ impl<M: Machine> Inside<M> {
         ensures bound { ReadsAtMost result buffer.new }
     {
         for _ in 0..u64::MAX {
-            if self.deadline.is_some() {
-                self.check_deadline()?;
-            }
+            self.check_deadline()?;
             match self.read_once(buffer) {
                 Ok(count) => return Ok(count),
                 Err(error) if is_pause(&error) => self.check_client()?,
@@ -172,7 +171,9 @@ impl<M: Machine> Inside<M> {
     // Returns whether a read of the stream may begin with a read of the socket.
     #[inline(always)]
     fn is_plain(&self) -> bool {
-        self.deadline.is_none() && self.unwritten.is_empty() && self.inspector.is_of_used_link()
+        self.deadline.get().is_none()
+            && self.unwritten.is_empty()
+            && self.inspector.is_of_used_link()
     }
 
     // Reads, and inspects what is received.
@@ -233,7 +234,7 @@ impl<M: Machine> Inside<M> {
     fn read_or_write(&mut self, buffer: &mut [u8]) -> io::Result<usize>
         ensures bound { ReadsAtMost result buffer.new }
     {
-        let ready = wait_both(self.socket.as_raw_fd(), self.client);
+        let ready = wait_both(self.socket.as_raw_fd(), self.client.get());
         if ready.client_ended {
             return Err(io::Error::from(ErrorKind::ConnectionAborted));
         }

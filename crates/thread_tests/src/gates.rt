@@ -1,6 +1,7 @@
 //! Where one thread is held until another lets it go.
 use crate::tracked::Talk;
 use node_threads::{Gate, Point};
+use peer_forward::Requester;
 use std::io::{Read, Write};
 use std::sync::Wait;
 use std::sync::atomic::{AtomicBool, AtomicUsize, Ordering};
@@ -207,6 +208,14 @@ impl Read for Asking<'_> {
         }
         self.talk.read(buffer)
     }
+}
+
+impl Requester for Asking<'_> {
+    ghost use Rattle.std.specs.Prelude.{⊤};
+
+    ghost resets = { λ _ _. ⊤ };
+
+    fn give_up(&mut self) {}
 }
 
 impl Write for Asking<'_> {

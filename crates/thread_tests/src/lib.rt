@@ -24,6 +24,8 @@ mod keys;
 #[cfg(test)]
 mod line;
 #[cfg(test)]
+mod linked;
+#[cfg(test)]
 mod links;
 #[cfg(test)]
 mod log;

@@ -4,6 +4,7 @@ use crate::log::{Event, Log, written};
 use crate::messages::IDLE;
 use crate::talk::{Talk, Turn, is_error, is_out_of_memory};
 use node_threads::Opener;
+use peer_forward::Requester;
 use pg_ids::{DatabaseNo, PeerNo};
 use std::alloc::{AllocError, Global};
 use std::cell::Cell;
@@ -312,6 +313,14 @@ impl Line {
     }
 }
 
+impl Requester for Line {
+    ghost use Rattle.std.specs.Prelude.{⊤};
+
+    ghost resets = { λ _ _. ⊤ };
+
+    fn give_up(&mut self) {}
+}
+
 impl Write for Line {
     fn write(&mut self, bytes: &[u8]) -> io::Result<usize> {
         match self.take(bytes) {
@@ -439,7 +448,7 @@ impl Opener for Dials<'_> {
         self.is_quiet.replace(true)
     }
 
-    fn attach(&self, _stream: &mut Line) {
+    fn attach(&self, _stream: &Line) {
         self.stage.log.add(Event::Attached);
     }
 

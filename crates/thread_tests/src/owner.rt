@@ -1,15 +1,18 @@
 //! The client at slot 0, which has a link while another is held, and how a client opens a link.
 ghost use Rattle.std.specs.Prelude.{◌≡◌, ◌<◌, length};
 
+use crate::messages::{LOGIN, STARTUP};
 use crate::scene_node::{Caller, Node, PLAIN};
+use crate::talk::Turn;
 use crate::tracked::{Talk, Tracker};
 use lease::{Lease, Pass, Permit};
 use link_pool::{AcquireReply, UpReply};
 use locked_node::{Caller as LockCaller, Shared};
 use node_core::LeaveReply;
 use node_threads::{Entrance, Link};
-use pg_frames::Flow;
+use pg_frames::MessageLimit;
 use pg_ids::{Kind, Secret, ServerKey, SlotNo};
+use session_io::log_in;
 use std::alloc::Global;
 use std::sync::{Arc, Wait};
 
@@ -39,7 +42,7 @@ impl<'a> Owner<'a> {
         ensures { (caller.new.lock ≡ caller.old.lock) × (caller.new.start ≡ caller.old.start) }
     {
         let lock = &node.lock;
-        let link = link(alloc, servers)?;
+        let link = link(rt, alloc, servers)?;
         let Ok(pass) = lock.join(rt, caller, PLAIN, Secret(1), Kind::Short) else {
             return None;
         };
@@ -87,10 +90,14 @@ fn enter<'a, R: Wait>(rt: &R, alloc: Global, node: &'a Node, slot: SlotNo) -> Op
     }
 }
 
-fn link(alloc: Global, servers: &Arc<Tracker, Global>) -> Option<Link<Talk>> {
-    let flow = Flow::new(alloc).ok()?;
-    let stream = Talk::new(servers, &[]).ok()?;
-    Some(Link { stream, flow })
+// A link whose server does nothing after the login.
+fn link<R: Wait>(rt: &R, alloc: Global, servers: &Arc<Tracker, Global>) -> Option<Link<Talk>> {
+    let turns = &[Turn::Takes(STARTUP), Turn::Gives(LOGIN)];
+    let stream = Talk::new(servers, turns).ok()?;
+    match log_in(rt, alloc, MessageLimit::DEFAULT, stream, "plain", "plain") {
+        Ok(logged) => Some(logged.link),
+        Err(_) => None,
+    }
 }
 
 // The client of a pass opens a link with this stream.

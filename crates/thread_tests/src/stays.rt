@@ -3,9 +3,11 @@
 ghost use Rattle.std.specs.Prelude.{◌≡◌, IfOk};
 ghost use Rattle.node_threads.specs.Progress.{asking};
 
+use crate::linked::link_over;
 use client_state::{Act, Client, DatabaseNo, Request};
-use node_threads::{Link, Stayed, stay};
-use pg_frames::{Body, Cutter, Flow, Frame, MessageLimit};
+use node_threads::{Stayed, stay};
+use peer_forward::Requester;
+use pg_frames::{Body, Cutter, Frame, MessageLimit};
 use std::alloc::{AllocError, Global};
 use std::io;
 use std::io::{ErrorKind, Read, Write};
@@ -67,6 +69,14 @@ impl<'a> Wire<'a> {
     pub(crate) fn taken(&self) -> &[u8] {
         self.taken.as_slice()
     }
+}
+
+impl Requester for Wire<'_> {
+    ghost use Rattle.std.specs.Prelude.{⊤};
+
+    ghost resets = { λ _ _. ⊤ };
+
+    fn give_up(&mut self) {}
 }
 
 impl Read for Wire<'_> {
@@ -176,10 +186,8 @@ fn assert_stay_within<R: Abort + AllocGlobal + Wait>(
     let (mut session, request) = begin(rt, limit)?;
     let mut client = Wire::new(rt.alloc(), on_client)?;
     let mut cutter = Cutter::with_limit(rt.alloc(), limit);
-    let mut link = Link {
-        stream: Wire::new(rt.alloc(), on_link)?,
-        flow: Flow::with_limit(rt.alloc(), limit)?,
-    };
+    let wire = Wire::new(rt.alloc(), on_link)?;
+    let mut link = link_over(rt, rt.alloc(), limit, wire)?;
     let stayed = stay(
         rt,
         &mut session,
@@ -189,7 +197,7 @@ fn assert_stay_within<R: Abort + AllocGlobal + Wait>(
         request,
     );
     assert_eq!(rt; ending_of(&stayed), expected.ending);
-    assert_streams(rt, &client, &link.stream, expected);
+    assert_streams(rt, &client, &link.stream().stream, expected);
     assert_eq!(rt; cutter.pending(), expected.left);
     Ok(())
 }

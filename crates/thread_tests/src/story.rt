@@ -3,14 +3,14 @@ use crate::line::{Dials, Line, Side, Stage};
 use crate::log::Event;
 use crate::talk::Turn;
 use ini_config::{Group, read_settings};
-use node_threads::{Calling, Context, Gate, Open, Opener, Point, serve_connection};
-use peer_forward::{ReadCalls, WriteCalls};
+use node_threads::{Calling, Context, Gate, NodePlace, Open, Opener, Point, serve_connection};
+use peer_forward::{ReadCalls, Requester, WriteCalls};
 use pg_frames::MessageLimit;
 use pg_ids::Boot;
 use startup::Reports;
 use std::alloc::Global;
 use std::cell::{Cell, RefCell};
-use std::sync::{Arc, Wait};
+use std::sync::Wait;
 use std::test::Fail;
 
 // Node 2 with the peer 3, one link and one slot.
@@ -48,11 +48,9 @@ pub(crate) fn calling<S: Drop>(
 ) -> Result<Calling<S>, Fail> {
     let settings = read_settings(alloc, settings)?;
     let group = Group::check(vec![in alloc; settings]?)?;
-    if group.is_empty() {
-        return Err(Fail::from("no node"));
-    }
-    let group = Arc::new(alloc, group)?;
-    Ok(Calling::new(alloc, &group, 0, seed, boot)?)
+    let (_group, mut places) = NodePlace::of_group(alloc, group)?;
+    let at = places.pop().ok_or("no node")?;
+    Ok(Calling::new(alloc, at, seed, boot)?)
 }
 
 // A connection is served from its first packet to its end. A login reports nothing further.
@@ -68,7 +66,7 @@ where
     R: Wait,
     O: Opener,
     G: Gate,
-    C: WriteCalls + ReadCalls,
+    C: WriteCalls + ReadCalls + Requester,
 {
     let (context, reports) = (Context { rt, gate }, Reports::new(alloc));
     let limit = MessageLimit::DEFAULT;

@@ -1,6 +1,7 @@
 //! A stream that plays one side of a conversation in any thread, and what becomes of such streams.
 use crate::talk::{Turn, is_error, is_out_of_memory};
 use node_threads::Opener;
+use peer_forward::Requester;
 use pg_ids::{DatabaseNo, PeerNo};
 use std::alloc::{AllocError, Global};
 use std::io;
@@ -170,6 +171,16 @@ impl Read for Talk {
     }
 }
 
+impl Requester for Talk {
+    ghost use Rattle.std.specs.Prelude.{⊤};
+
+    ghost resets = { λ _ _. ⊤ };
+
+    fn give_up(&mut self) {
+        add_one(&self.tracker.given_up);
+    }
+}
+
 impl Write for Talk {
     fn write(&mut self, bytes: &[u8]) -> io::Result<usize> {
         if self.take(bytes) {
@@ -222,9 +233,5 @@ impl Opener for Dialer<'_> {
 
     fn peer<R: Wait>(&self, _rt: &R, _peer: PeerNo) -> io::Result<Talk> {
         self.dial()
-    }
-
-    fn give_up_cancel(&self) {
-        add_one(&self.tracker.given_up);
     }
 }

@@ -1,12 +1,13 @@
 //! Turns on leased links over streams in memory, and which call each makes of its desk.
 ghost use Rattle.std.specs.Prelude.{◌≡◌};
 
+use crate::linked::link_over;
 use crate::stays::Ending::{self, Close, End, Release};
 use crate::stays::{BEGUN, ROW, Script, Wire, begin, ending_of, reads};
 use client_state::DatabaseNo;
 use lease::{Lease, LinkPlace, LinkRecord, Permit, PermitRecord};
-use node_threads::{Context, DeskCall, Link, ListDesk, Open, turn};
-use pg_frames::{Cutter, Flow, MessageLimit};
+use node_threads::{Context, DeskCall, ListDesk, Open, turn};
+use pg_frames::{Cutter, MessageLimit};
 use pg_ids::{LinkNo, PeerNo};
 use std::process::Abort;
 use std::sync::Wait;
@@ -53,10 +54,8 @@ fn assert_turn<R: Abort + AllocGlobal + Wait>(
     let mut client = Wire::new(rt.alloc(), reads(&[]))?;
     let mut cutter = Cutter::new(rt.alloc());
     let mut desk = ListDesk::new(rt.alloc(), 1)?;
-    let link = Link {
-        stream: Wire::new(rt.alloc(), on_link)?,
-        flow: Flow::new(rt.alloc())?,
-    };
+    let wire = Wire::new(rt.alloc(), on_link)?;
+    let link = link_over(rt, rt.alloc(), MessageLimit::DEFAULT, wire)?;
     let lease = lease_of(record, link);
     let stayed = turn(
         Context { rt, gate: &Open },

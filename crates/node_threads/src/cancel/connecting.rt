@@ -28,10 +28,6 @@ pub trait CancelOpener: Drop {
     /// Connects to this peer.
     fn peer<R: Wait>(self, rt: &R, peer: PeerNo) -> io::Result<Self::Stream>
         ensures opened { reaches self peer result };
-
-    /// The cancel request gets no order. Its sender isn't to take it for one that was settled: the
-    /// connection is reset.
-    fn give_up(self);
 }
 
 /// An opener for one cancel request.
@@ -54,9 +50,5 @@ impl<O: Opener> CancelOpener for SingleUse<'_, O> {
 
     fn peer<R: Wait>(self, rt: &R, peer: PeerNo) -> io::Result<O::Stream> {
         self.opener.peer(rt, peer)
-    }
-
-    fn give_up(self) {
-        self.opener.give_up_cancel();
     }
 }

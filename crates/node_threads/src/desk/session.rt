@@ -55,7 +55,7 @@ impl<O: Opener, L: Drop> Desk<Link<L>> for SessionDesk<'_, O, L> {
     {
         let mut lease = lease;
         let database = lease.details().at.database;
-        tell_of_server(self.opener, database, &mut lease.stream_mut().flow);
+        tell_of_server(self.opener, database, lease.stream_mut());
         self.desk.close(rt, lease);
     }
 }

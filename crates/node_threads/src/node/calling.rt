@@ -9,7 +9,7 @@ ghost use Rattle.node_threads.specs.Restarting.{boot_after, RestartsAt};
 ghost use Rattle.node_threads.specs.Secrets.{drawing_of, secret_at};
 
 use crate::node::restarts::restart;
-use crate::{Admission, Link, Seats, Secrets};
+use crate::{Admission, Link, NodePlace, Seats, Secrets};
 use ini_config::{Group, Settings};
 use link_pool::RestartReply;
 use locked_node::{Caller, Journal, Shared};
@@ -48,25 +48,22 @@ impl<L: Drop> Node<L> {
         Shared::new(alloc, Journal::new(alloc, core)?)
     }
 
-    // A node at a place of the group, behind this lock. Its secrets are these.
+    // A node at a place of its group, behind this lock. Its secrets are these.
     fn new(
         alloc: Global,
-        group: &Arc<Group, Global>,
-        place: usize,
+        at: NodePlace,
         secrets: Secrets,
         boot: Boot,
         shared: Shared<Link<L>>,
     ) -> Result<Node<L>, AllocError>
-        requires { place < length (arc_value group.now) }
         ensures shared { IfOk result (λ node. node.shared ≡ shared) }
-        ensures group { IfOk result (λ node. arc_value node.group ≡ arc_value group.now) }
-        ensures place { IfOk result (λ node. node.place ≡ place) }
+        ensures group { IfOk result (λ node. arc_value node.group ≡ at.group) }
+        ensures place { IfOk result (λ node. node.place ≡ at.place) }
         ensures secrets { IfOk result (λ node. node.secrets ≡ secrets) }
     {
-        let settings = &group.nodes()[place];
         let seats = Seats::new(alloc)?;
-        let admission = Admission::new(alloc, settings)?;
-        let group = Arc::try_clone(group)?;
+        let admission = Admission::new(alloc, at.settings())?;
+        let NodePlace { group, place } = at;
         Ok(Node {
             shared,
             seats,
@@ -105,31 +102,29 @@ pub struct Calling<L: Drop> {
 }
 
 impl<L: Drop> Calling<L> {
-    /// The node at a place of the group, without clients and links, with its first caller. Its
+    /// The node at this place of its group, without clients and links, with its first caller. Its
     /// secrets are drawn from the seed.
     pub fn new(
         alloc: Global,
-        group: &Arc<Group, Global>,
-        place: usize,
+        at: NodePlace,
         seed: [u8; 32],
         boot: Boot,
     ) -> Result<Calling<L>, AllocError>
-        requires { place < length (arc_value group.now) }
         // The node is new: it has the settings of its place, and this boot.
-        ensures fresh { IfOk result (λ calling. ForSome (slice_get (arc_value group.now) place)
+        ensures fresh { IfOk result (λ calling. ForSome (slice_get at.group at.place)
             (λ settings. IsFresh settings boot calling.caller.start.view)) }
         // It serves with the settings of its place.
         ensures group { IfOk result (λ calling.
-            arc_value (arc_value calling.node).group ≡ arc_value group.now) }
-        ensures place { IfOk result (λ calling. (arc_value calling.node).place ≡ place) }
+            arc_value (arc_value calling.node).group ≡ at.group) }
+        ensures place { IfOk result (λ calling. (arc_value calling.node).place ≡ at.place) }
         // Its secrets are those of the seed and of its number.
-        ensures seeded { IfOk result (λ calling. ForSome (slice_get (arc_value group.now) place)
+        ensures seeded { IfOk result (λ calling. ForSome (slice_get at.group at.place)
             (λ settings. (arc_value calling.node).secrets ≡ drawing_of seed settings.peer_id)) }
     {
-        let settings = &group.nodes()[place];
+        let settings = at.settings();
         let (shared, caller) = Node::lock(alloc, settings, boot)?;
         let secrets = Secrets::new(seed, settings.peer_id());
-        let node = Node::new(alloc, group, place, secrets, boot, shared)?;
+        let node = Node::new(alloc, at, secrets, boot, shared)?;
         let node = Arc::new(alloc, node)?;
         Ok(Calling { node, caller })
     }

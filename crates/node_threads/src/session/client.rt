@@ -1,5 +1,5 @@
 //! A client's session, from its login to its end.
-ghost use Rattle.std.specs.Prelude.{◌≡◌, ◌<◌, [], None, length, IsTrue};
+ghost use Rattle.std.specs.Prelude.{◌≡◌, ◌<◌, [], None, length};
 ghost use Rattle.startup.specs.declared.error_code.ErrorCode.TheVariants.{OutOfMemory};
 ghost use Rattle.client_state.specs.Acts.{start};
 ghost use Rattle.pg_frames.specs.Passage.{start as passage_start};
@@ -23,7 +23,7 @@ use lease::{Lease, Pass};
 use locked_node::{Caller, Shared};
 use node_core::LeaveReply;
 use peer_forward::{ReadCalls, WriteCalls, write_whole};
-use pg_frames::{Cutter, Flow, MessageLimit};
+use pg_frames::Cutter;
 use pg_ids::{DatabaseNo, Kind, Secret};
 use session_io::{lost, next_request, refuse};
 use startup::{ErrorCode, Reports, Severity, write_login};
@@ -262,26 +262,18 @@ where
 {
     service.gate.pass(service.rt, Point::Acquired);
     // A link is given back as it was at its start. No clause of the lock says so.
-    if !is_at_start(session.limit(), &lease.stream().flow) {
+    if !lease.stream().is_at_start(session.limit()) {
         service.gate.pass(service.rt, Point::Ready);
         let _reply = service.shared.close(service.rt, caller, lease);
         return Some(lost(session));
     }
-    let mut lease = lease;
-    service.opener.attach(&mut lease.stream_mut().stream);
+    service.opener.attach(lease.stream().stream());
     let stayed = take_turn(service, caller, client, cutter, session, lease, request);
     service.opener.detach();
     match stayed {
         Stayed::Release | Stayed::Close => None,
         Stayed::End(end) => Some(end),
     }
-}
-
-// Whether a link's flow is as a new one of this limit.
-fn is_at_start(limit: MessageLimit, flow: &Flow) -> bool
-    ensures { IsTrue result → flow.now ≡ passage_start limit }
-{
-    flow.is_at_start() && flow.limit() == limit
 }
 
 // Takes a turn at a desk that is the node behind its lock.

@@ -130,7 +130,7 @@ fn take<R: Wait, O: Opener, G: Gate>(
     ensures kept { IfSome result
         (λ acquired. IsKept (Acquired.Lease lease) acquired caller.old caller.new) }
 {
-    if is_of(&lease, database) && service.opener.is_quiet(&lease.stream().stream) {
+    if is_of(&lease, database) && service.opener.is_quiet(lease.stream().stream()) {
         return Some(Acquired::Lease(lease));
     }
     service.gate.pass(service.rt, Point::Ready);

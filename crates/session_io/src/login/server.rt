@@ -11,7 +11,7 @@ ghost use Rattle.session_io.specs.declared.login.place.Mark.TheVariants.{Head, P
 
 use crate::Link;
 use crate::login::place::{LoginPlace, Mark, Taken};
-use crate::session::link::read_up_to;
+use crate::session::channel::{Channel, read_up_to};
 use link_state::{LinkAct, LinkLogin, LoginHead, ServerKey};
 use peer_forward::{ReadCalls, WriteCalls, write_whole};
 use pg_frames::{Flow, MessageLimit};
@@ -64,13 +64,14 @@ pub fn log_in<R: Wait, L: WriteCalls + ReadCalls + Drop>(
     let Ok(flow) = Flow::with_limit(alloc, limit) else {
         return Err(LinkError::Memory);
     };
-    let mut link = Link { stream, flow };
+    let mut link = Channel { stream, flow };
     if !write_whole(&mut link.stream, login.first_bytes()) {
         return Err(LinkError::Lost);
     }
     let Some(key) = read_login(rt, &mut login, &mut link) else {
         return Err(LinkError::Lost);
     };
+    let link = Link { channel: link };
     Ok(LoggedIn { link, key })
 }
 
@@ -79,7 +80,7 @@ pub fn log_in<R: Wait, L: WriteCalls + ReadCalls + Drop>(
 fn read_login<R: Wait, L: WriteCalls + ReadCalls>(
     rt: &R,
     login: &mut LinkLogin,
-    link: &mut Link<L>,
+    link: &mut Channel<L>,
 ) -> Option<ServerKey>
     requires none { HasRead login.old [] }
     requires fresh { link.old.flow ≡ start link.old.flow.limit }
@@ -214,7 +215,7 @@ fn forget_all(flow: &mut Flow)
 }
 
 // Reads more of a link, and returns whether more came. It reads nothing behind a fault.
-fn read_more<L: WriteCalls + ReadCalls>(link: &mut Link<L>) -> bool
+fn read_more<L: WriteCalls + ReadCalls>(link: &mut Channel<L>) -> bool
     requires dry { HasNoNext link.old.flow.limit link.old.flow.left link.old.flow.bytes }
     requires few { length link.old.flow.passed ≤ 8 }
     ensures { result ≡ true → SomeCalls L.wrote L.gave link.old.stream link.new.stream

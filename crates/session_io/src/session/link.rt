@@ -1,76 +1,65 @@
 //! A link to a server.
-ghost use Rattle.std.specs.Prelude.{◌≡◌, ◌<◌, ◌≤◌, [], ◌∷◌, ℕ, List, None, true, false, length, take, vec_len};
-ghost use Rattle.peer_forward.specs.Calls.{Call, Makes};
-ghost use Rattle.pg_frames.specs.FrameText.{HasFault};
-ghost use Rattle.pg_frames.specs.Passage.{fed, after, HasNoNext};
-ghost use Rattle.session_io.specs.StreamCalls.{Read, IsFailedRead};
+ghost use Rattle.std.specs.Prelude.{◌≡◌, None, Some, IfSome, IsTrue, drop};
+ghost use Rattle.byteorder.specs.Endian.{big_number};
+ghost use Rattle.pg_frames.specs.FrameText.{fault_at};
+ghost use Rattle.pg_frames.specs.declared.error.FrameError.TheVariants.{TooLong};
+ghost use Rattle.pg_frames.specs.Passage.{start};
 
-use crate::stream::read_some;
-use peer_forward::{ReadCalls, WriteCalls};
-use pg_frames::Flow;
+use crate::session::above::next_above;
+use crate::session::channel::Channel;
+use pg_frames::MessageLimit;
+use std::marker::Model;
 
-/// A stream to a server, and what was read of it and isn't passed on.
+/// A link to a server. `log_in` makes it, and from then on `stay` alone writes to it and reads from
+/// it: what was read and isn't passed on stays with it. In contracts it is a `LinkView`: its
+/// stream, and those bytes.
 #[derive(Drop)]
 pub struct Link<L> {
-    /// The stream.
-    pub stream: L,
-    /// What was read of it.
-    pub flow: Flow,
+    pub(crate) channel: Channel<L>,
 }
 
-/// Reads from a link once more into this memory, as much as the link's flow has room for, and
-/// returns whether more came.
-pub(crate) fn read_more<L: WriteCalls + ReadCalls>(link: &mut Link<L>, memory: &mut [u8]) -> bool
-    requires some { 0 < length memory.old }
-    requires dry { HasNoNext link.old.flow.limit link.old.flow.left link.old.flow.bytes }
-    requires sound { HasFault link.old.flow.limit (after link.old.flow) None }
-    requires few { length link.old.flow.passed ≤ 8 }
-    ensures more { result ≡ true → (call : Call)
-        × Makes L.wrote L.gave link.old.stream (call ∷ []) link.new.stream
-        × (bytes : List ℕ) × Read bytes (call ∷ []) × (link.new.flow ≡ fed link.old.flow bytes) }
-    ensures none { result ≡ false → (call : Call)
-        × Makes L.wrote L.gave link.old.stream (call ∷ []) link.new.stream × IsFailedRead call }
-{
-    let room = link.flow.room().min(memory.len());
-    let count = read_some(&mut link.stream, &mut memory[..room]);
-    if count == 0 {
-        return false;
+impl<L> Model for Link<L> {
+    ghost use Rattle.session_io.specs.LinkView.{LinkView};
+
+    ghost Value = { LinkView L };
+
+    ghost view = { λ link. record {
+      stream = link.channel.stream;
+      flow = link.channel.flow;
+    } };
+}
+
+impl<L> Link<L> {
+    /// Its stream, to be looked at.
+    pub fn stream(&self) -> &L
+        ensures { result.now ≡ self.now.stream }
+    {
+        &self.channel.stream
     }
-    link.flow.append(&memory[..count]);
-    true
-}
 
-/// The same into memory of the stack, of `MOST` bytes. It isn't inlined, so that a thread has these
-/// on its stack only while it reads.
-#[inline(never)]
-pub(crate) fn read_up_to<const MOST: usize, L: WriteCalls + ReadCalls>(link: &mut Link<L>) -> bool
-    requires some { 0 < MOST }
-    requires many { MOST ≤ 16384 }
-    requires dry { HasNoNext link.old.flow.limit link.old.flow.left link.old.flow.bytes }
-    requires sound { HasFault link.old.flow.limit (after link.old.flow) None }
-    requires few { length link.old.flow.passed ≤ 8 }
-    ensures more { result ≡ true → (call : Call)
-        × Makes L.wrote L.gave link.old.stream (call ∷ []) link.new.stream
-        × (bytes : List ℕ) × Read bytes (call ∷ []) × (link.new.flow ≡ fed link.old.flow bytes) }
-    ensures none { result ≡ false → (call : Call)
-        × Makes L.wrote L.gave link.old.stream (call ∷ []) link.new.stream × IsFailedRead call }
-{
-    let mut memory = [0; MOST];
-    read_more(link, &mut memory[..])
-}
+    /// The limit of a message.
+    pub fn limit(&self) -> MessageLimit
+        ensures { result ≡ self.now.flow.limit }
+    {
+        self.channel.flow.limit()
+    }
 
-/// Reads once into this memory, and returns how many bytes came: none at the end of the input, and
-/// where the read failed.
-#[inline(always)]
-pub(crate) fn read_into<T: WriteCalls + ReadCalls>(stream: &mut T, room: &mut Vec<u8>) -> usize
-    requires { 0 < vec_len room.old }
-    ensures within { result ≤ vec_len room.new }
-    ensures some { 0 < result → (call : Call)
-        × Makes T.wrote T.gave stream.old (call ∷ []) stream.new
-        × Read (take result room.new.items) (call ∷ []) }
-    ensures none { result ≡ 0 → (call : Call)
-        × Makes T.wrote T.gave stream.old (call ∷ []) stream.new × IsFailedRead call }
-    ensures len { vec_len room.new ≡ vec_len room.old }
-{
-    read_some(stream, room.as_mut_slice())
+    /// The length field of the server's next message, if it is above the limit and stands at the
+    /// front of what was read: behind a part of another message it isn't looked for.
+    pub fn next_above(&mut self) -> Option<usize>
+        ensures found { IfSome result (λ length. (self.old.flow.left ≡ None)
+            × (fault_at self.old.flow.limit self.old.flow.bytes ≡ Some TooLong)
+            × (length ≡ big_number 4 (drop 1 self.old.flow.bytes))) }
+        ensures stream { self.new.stream ≡ self.old.stream }
+    {
+        next_above(&mut self.channel.flow)
+    }
+
+    /// Whether it is as a new one whose messages have this limit: all that was read of it was
+    /// passed on.
+    pub fn is_at_start(&self, limit: MessageLimit) -> bool
+        ensures { IsTrue result → self.now.flow ≡ start limit }
+    {
+        self.channel.flow.is_at_start() && self.channel.flow.limit() == limit
+    }
 }

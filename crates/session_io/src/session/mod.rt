@@ -1,5 +1,7 @@
 //! A client's requests, and their replies from a link.
 
+mod above;
+pub(crate) mod channel;
 pub(crate) mod link;
 mod outcome;
 mod place;
@@ -8,6 +10,7 @@ mod requests;
 mod stays;
 mod whole;
 
+pub use above::length_above;
 pub use link::Link;
 pub use outcome::Stayed;
 pub use replies::lost;

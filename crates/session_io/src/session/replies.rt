@@ -14,9 +14,9 @@ ghost use Rattle.session_io.specs.Progress.{asking, in_transaction, HandedOut, H
 ghost use Rattle.session_io.specs.declared.session.outcome.Stayed.{Stayed};
 ghost use Rattle.session_io.specs.declared.session.place.Place.{Place as PlaceOf};
 
-use crate::session::link::{read_more, read_up_to};
+use crate::Stayed;
+use crate::session::channel::{Channel, read_more, read_up_to};
 use crate::session::place::{Handed, Place};
-use crate::{Link, Stayed};
 use client_state::{Act, Client, HeadAct, Reply, is_passed_on};
 use peer_forward::{ReadCalls, WriteCalls, write_whole};
 use pg_frames::{Flow, Header, Piece};
@@ -33,7 +33,7 @@ pub fn pass_rest<R: Wait, C: WriteCalls + ReadCalls, L: WriteCalls + ReadCalls>(
     rt: &R,
     session: &mut Client,
     client: &mut C,
-    link: &mut Link<L>,
+    link: &mut Channel<L>,
 ) -> Option<Stayed>
     requires session { session.old ≡ asking session.old.limit session.old.database }
     requires between { link.old.flow.left ≡ None }
@@ -182,7 +182,7 @@ fn pass_on<C: WriteCalls + ReadCalls>(client: &mut C, flow: &mut Flow, withheld:
 fn read_on<C: WriteCalls + ReadCalls, L: WriteCalls + ReadCalls>(
     session: &mut Client,
     client: &mut C,
-    link: &mut Link<L>,
+    link: &mut Channel<L>,
     room: &mut Vec<u8>,
     place: Place,
 ) -> Option<Stayed>
@@ -236,7 +236,7 @@ pub fn lost(session: &mut Client) -> Reply
 
 // Reads more of a link into this memory, or by less where there is none, and returns whether more
 // came.
-fn read_link<L: WriteCalls + ReadCalls>(link: &mut Link<L>, room: &mut Vec<u8>) -> bool
+fn read_link<L: WriteCalls + ReadCalls>(link: &mut Channel<L>, room: &mut Vec<u8>) -> bool
     requires dry { HasNoNext link.old.flow.limit link.old.flow.left link.old.flow.bytes }
     requires sound { HasFault link.old.flow.limit (after link.old.flow) None }
     requires few { length link.old.flow.passed ≤ 6 }

@@ -9,7 +9,7 @@ ghost use Rattle.session_io.specs.Asking.{IsError};
 ghost use Rattle.session_io.specs.Progress.{asking};
 ghost use Rattle.session_io.specs.Finding.{gathering, Finds, Quits, IsRefusal, AsksNext};
 
-use crate::session::link::read_into;
+use crate::session::channel::read_into;
 use client_state::{Act, Client, Reply, Request, is_request};
 use peer_forward::{ReadCalls, WriteCalls};
 use pg_frames::{Cutter, FrameError};

@@ -4,6 +4,7 @@ ghost use Rattle.session_io.specs.StreamCalls.{SomeCalls};
 ghost use Rattle.session_io.specs.Progress.{asking, LeavesBehind};
 ghost use Rattle.session_io.specs.Stay.{Stay};
 
+use crate::session::channel::Channel;
 use crate::session::replies::lost;
 use crate::session::requests::next_request;
 use crate::session::whole::pass_reply;
@@ -36,6 +37,31 @@ pub fn stay<R: Wait, C: WriteCalls + ReadCalls, L: WriteCalls + ReadCalls>(
         (λ on_client. Stay session.old.limit request link.old.flow.bytes cutter.old.bytes on_link
         on_client result cutter.new.bytes)) }
     // Where the session goes on it has no lease, and a link that is given back is as at its start.
+    ensures leaves { LeavesBehind session.old.limit result session.old session.new link.new.flow }
+    ensures limit { cutter.new.limit ≡ cutter.old.limit }
+{
+    stay_on(rt, session, client, cutter, &mut link.channel, request)
+}
+
+// The same on what the link is connected to.
+#[inline(always)]
+fn stay_on<R: Wait, C: WriteCalls + ReadCalls, L: WriteCalls + ReadCalls>(
+    rt: &R,
+    session: &mut Client,
+    client: &mut C,
+    cutter: &mut Cutter,
+    link: &mut Channel<L>,
+    request: Request,
+) -> Stayed
+    requires session { session.old ≡ asking session.old.limit session.old.database }
+    requires cutter { cutter.old.limit ≡ session.old.limit }
+    requires link { link.old.flow.limit ≡ session.old.limit }
+    requires between { link.old.flow.left ≡ None }
+    requires written { link.old.flow.passed ≡ [] }
+    ensures stay { SomeCalls L.wrote L.gave link.old.stream link.new.stream
+        (λ on_link. SomeCalls C.wrote C.gave client.old client.new
+        (λ on_client. Stay session.old.limit request link.old.flow.bytes cutter.old.bytes on_link
+        on_client result cutter.new.bytes)) }
     ensures leaves { LeavesBehind session.old.limit result session.old session.new link.new.flow }
     ensures limit { cutter.new.limit ≡ cutter.old.limit }
 {

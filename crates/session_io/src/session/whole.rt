@@ -8,9 +8,9 @@ ghost use Rattle.session_io.specs.StreamCalls.{SomeCalls};
 ghost use Rattle.session_io.specs.Progress.{asking, in_transaction, EndsHere, GoesOn, LeavesBehind, FinishesIdle, FinishesOpen, IsWhole, IsKnown};
 ghost use Rattle.session_io.specs.Whole.{ArePassedOn, BeginsReading};
 
-use crate::session::link::read_into;
+use crate::Stayed;
+use crate::session::channel::{Channel, read_into};
 use crate::session::replies::{lost, pass_rest};
-use crate::{Link, Stayed};
 use client_state::{Client, Reply, is_passed_on};
 use peer_forward::{ReadCalls, WriteCalls, write_whole};
 use pg_frames::{Flow, Header, MessageLimit, whole_head_of};
@@ -25,7 +25,7 @@ pub fn pass_reply<R: Wait, C: WriteCalls + ReadCalls, L: WriteCalls + ReadCalls>
     rt: &R,
     session: &mut Client,
     client: &mut C,
-    link: &mut Link<L>,
+    link: &mut Channel<L>,
 ) -> Option<Stayed>
     requires session { session.old ≡ asking session.old.limit session.old.database }
     requires between { link.old.flow.left ≡ None }
@@ -54,7 +54,7 @@ pub fn pass_reply<R: Wait, C: WriteCalls + ReadCalls, L: WriteCalls + ReadCalls>
 fn pass_first<C: WriteCalls + ReadCalls, L: WriteCalls + ReadCalls>(
     session: &mut Client,
     client: &mut C,
-    link: &mut Link<L>,
+    link: &mut Channel<L>,
 ) -> Option<Option<Stayed>>
     requires session { session.old ≡ asking session.old.limit session.old.database }
     ensures goes_on { result ≡ Some None → SomeCalls L.wrote L.gave link.old.stream link.new.stream

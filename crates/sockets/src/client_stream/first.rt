@@ -5,6 +5,7 @@ use super::{ClientStream, Serves, Stage};
 use crate::first_packet::{Asks, FirstPacket, Next};
 use crate::poll::wait_readable;
 use crate::{Connection, Deadline, Machine, Unserved, UnservedEnd};
+use peer_forward::Requester;
 use std::io;
 use std::io::{ErrorKind, Read};
 use telemetry::Event;
@@ -49,7 +50,7 @@ impl<'a, M: Machine> ClientStream<'a, M> {
             Serves::All => Unserved::Late,
             Serves::Cancels => Unserved::Shortage,
         };
-        self.give_up(why);
+        self.end_unserved(why);
         Err(io::Error::from(ErrorKind::TimedOut))
     }
 
@@ -59,7 +60,7 @@ impl<'a, M: Machine> ClientStream<'a, M> {
     {
         let read = read_up_to(self.connection, buffer, most);
         if !matches!(&read, Ok(1..)) {
-            self.give_up(Unserved::Left);
+            self.end_unserved(Unserved::Left);
         }
         read
     }
@@ -81,11 +82,11 @@ impl<'a, M: Machine> ClientStream<'a, M> {
             return Ok(());
         }
         if self.context.serves == Serves::Cancels {
-            self.give_up(Unserved::Shortage);
+            self.end_unserved(Unserved::Shortage);
             return Err(io::Error::from(ErrorKind::ConnectionRefused));
         }
         if !self.activate() {
-            self.give_up(Unserved::Evicted);
+            self.end_unserved(Unserved::Evicted);
             return Err(io::Error::from(ErrorKind::ConnectionAborted));
         }
         self.stage = Stage::Session;
@@ -101,7 +102,7 @@ impl<'a, M: Machine> ClientStream<'a, M> {
 
     // Records that the first packets aren't served for this reason, unless the connection was evicted
     // before. To a read, an eviction looks as if the client had left.
-    fn give_up(&mut self, why: Unserved) {
+    fn end_unserved(&mut self, why: Unserved) {
         let is_evicted = !self.activate();
         self.unserved = Some(if why == Unserved::Left && !is_evicted {
             Unserved::Left
@@ -150,17 +151,17 @@ impl<'a, M: Machine> ClientStream<'a, M> {
             self.cancel_received = self.machine.monotonic().ok();
             self.activate_cancel()?;
         } else {
-            self.give_up(Unserved::Left);
+            self.end_unserved(Unserved::Left);
         }
         peeked
     }
 
     // Makes the connection no longer pending. Its cancel request is given up if it was evicted.
-    fn activate_cancel(&self) -> io::Result<()> {
+    fn activate_cancel(&mut self) -> io::Result<()> {
         if self.activate() {
             return Ok(());
         }
-        self.connection.give_up();
+        self.give_up();
         Err(io::Error::from(ErrorKind::ConnectionAborted))
     }
 }

@@ -11,6 +11,7 @@ use crate::connections::PendingId;
 use crate::error_kind::with_error;
 use crate::first_packet::FirstPacket;
 use crate::{Connection, Deadline, Machine, Unserved};
+use peer_forward::Requester;
 use std::alloc::Global;
 use std::io;
 use std::io::{Read, Write};
@@ -61,6 +62,8 @@ pub struct ClientStream<'a, M: Machine> {
     is_idle: bool,
     // Whether the last read filled its buffer, so that more may follow.
     is_sending: bool,
+    // Whether its cancel request got no order.
+    is_given_up: bool,
     // The error to write to the client once nothing is held for it any more.
     final_error: Option<Vec<u8>>,
 }
@@ -118,6 +121,7 @@ impl<'a, M: Machine> ClientStream<'a, M> {
             last: LastCall::Read,
             is_idle: false,
             is_sending: false,
+            is_given_up: false,
             final_error: None,
         }
     }
@@ -155,12 +159,17 @@ impl<'a, M: Machine> ClientStream<'a, M> {
         let came = self.cancel_received?;
         let now = self.machine.monotonic().ok()?;
         let millis = now.saturating_sub(came).as_millis();
-        let end = if self.connection.is_given_up() {
+        let end = if self.is_given_up {
             CancelEnd::NotServed
         } else {
             CancelEnd::of(self.connection.target(), self.last)
         };
         Some((end, u64::try_from(millis).unwrap_or(u64::MAX)))
+    }
+
+    /// Returns whether its cancel request got no order, so that the connection is reset.
+    pub fn is_given_up(&self) -> bool {
+        self.is_given_up
     }
 
     /// Returns whether the last read filled its buffer, so that more may follow.
@@ -197,6 +206,17 @@ impl<'a, M: Machine> Read for ClientStream<'a, M> {
             }
             Err(error) => with_error(self.read_after_error(error.kind(), buffer)),
         }
+    }
+}
+
+impl<'a, M: Machine> Requester for ClientStream<'a, M> {
+    ghost use Rattle.std.specs.Prelude.{◌≡◌, true};
+
+    // `end` resets it then.
+    ghost resets = { λ _ new. new.is_given_up ≡ true };
+
+    fn give_up(&mut self) {
+        self.is_given_up = true;
     }
 }
 

@@ -6,6 +6,7 @@ use crate::{
     CancelEnd, Capacity, ClientStream, Connection, ConnectionContext, ConnectionLimit, Deadline,
     Serves, Target,
 };
+use peer_forward::Requester;
 use pg_ids::DatabaseNo;
 use std::io::{Read, Write};
 use std::net::{TcpListener, TcpStream};
@@ -37,14 +38,23 @@ fn sent<R: TestHost>(
     Ok((Connection::new(socket), peer))
 }
 
-// Reads the client's packet by this many reads at node 4, and writes this answer. Returns how its
-// cancel request has ended, if it is one.
+// What a client's packet is answered with.
+#[derive(Clone, Copy)]
+enum Answer<'a> {
+    // With these bytes.
+    Bytes(&'a [u8]),
+    // With nothing: it is given up.
+    None,
+}
+
+// Reads the client's packet by this many reads at node 4, and answers it so. Returns how its cancel
+// request has ended, if it is one.
 fn serve<R: TestHost>(
     rt: &R,
     connection: &Connection,
     log: &Log,
     reads: usize,
-    answer: &[u8],
+    answer: Answer<'_>,
 ) -> Result<Option<CancelEnd>, Fail> {
     let capacity = Capacity {
         connections: 1,
@@ -67,8 +77,10 @@ fn serve<R: TestHost>(
     for _ in 0..reads {
         let _count = client.read(&mut buffer)?;
     }
-    if !answer.is_empty() {
-        client.write_all(answer)?;
+    match answer {
+        Answer::Bytes([]) => {}
+        Answer::Bytes(bytes) => client.write_all(bytes)?,
+        Answer::None => client.give_up(),
     }
     match client.cancel_end() {
         Some((end, _millis)) => Ok(Some(end)),
@@ -81,7 +93,7 @@ fn dropped_parameters_are_in_the_log(rt: HostRuntime) -> Result<(), Fail> {
     let listener = TcpListener::bind(&rt, ANY_PORT)?;
     let (connection, peer) = sent(&rt, &listener, STARTUP)?;
     let log = Log::new(rt.alloc(), Level::Notice);
-    serve(&rt, &connection, &log, 2, AUTHENTICATED)?;
+    serve(&rt, &connection, &log, 2, Answer::Bytes(AUTHENTICATED))?;
     let port = peer.local_addr()?.port();
     let line = format!(in rt.alloc();
         "node=4 notice parameters_dropped client=127.0.0.1:{port} parameters=search_path,options"
@@ -96,7 +108,7 @@ fn a_refused_client_drops_nothing(rt: HostRuntime) -> Result<(), Fail> {
     let listener = TcpListener::bind(&rt, ANY_PORT)?;
     let (connection, _peer) = sent(&rt, &listener, STARTUP)?;
     let log = Log::new(rt.alloc(), Level::Notice);
-    serve(&rt, &connection, &log, 2, REFUSED)?;
+    serve(&rt, &connection, &log, 2, Answer::Bytes(REFUSED))?;
     let line = log.next(&rt).ok_or("no line")?;
     assert!(&rt; line.as_str().contains(" client_refused "));
     expect_no_line(&rt, &log)
@@ -115,7 +127,7 @@ fn expect_cancel_end<R: TestHost>(
         connection.set_target(target);
     }
     let log = Log::new(rt.alloc(), Level::Info);
-    let end = serve(rt, &connection, &log, 3, answer)?;
+    let end = serve(rt, &connection, &log, 3, Answer::Bytes(answer))?;
     assert_eq!(rt; end, Some(expected));
     Ok(())
 }
@@ -128,7 +140,10 @@ fn cancel_requests_end(rt: HostRuntime) -> Result<(), Fail> {
     expect_cancel_end(&rt, &listener, Some(SERVER), b"E", CancelEnd::Failed)?;
     let (session, _peer) = sent(&rt, &listener, STARTUP)?;
     let log = Log::new(rt.alloc(), Level::Info);
-    assert_eq!(&rt; serve(&rt, &session, &log, 2, AUTHENTICATED)?, None);
+    assert_eq!(&rt;
+        serve(&rt, &session, &log, 2, Answer::Bytes(AUTHENTICATED))?,
+        None
+    );
     Ok(())
 }
 
@@ -137,9 +152,8 @@ fn cancel_requests_end(rt: HostRuntime) -> Result<(), Fail> {
 fn a_cancel_request_is_given_up(rt: HostRuntime) -> Result<(), Fail> {
     let listener = TcpListener::bind(&rt, ANY_PORT)?;
     let (connection, _peer) = sent(&rt, &listener, CANCEL)?;
-    connection.give_up();
     let log = Log::new(rt.alloc(), Level::Info);
-    let end = serve(&rt, &connection, &log, 3, b"")?;
+    let end = serve(&rt, &connection, &log, 3, Answer::None)?;
     assert_eq!(&rt; end, Some(CancelEnd::NotServed));
     Ok(())
 }

@@ -38,31 +38,31 @@ session_of limit wrote gave logins wrote' gave' a b secrets reports settings rea
     (place_of n settings.databases) kind kept calls left old new)) is serves
 
 pub returns-then-eq-clause-served : goal.returns-then-eq-clause-served
-returns-then-eq-clause-served g c settings is = (
-  Session c.in-Session.database c.in-Session.kind,
-  c.open.new.cutter.bytes,
-  c.open.new.client,
-  c.in-Session.ensures.opens,
-  inl (
-    search rules,
-    c.serve_console.ensures.same,
-    c.serve_console.new.cutter.bytes,
-    console_of _ _ _ _ _ _ _ settings _ _ _
-        (c.in-Session.ensures.limit ∙ ap (λ p. p.limit) c.with_limit-cutter.ensures)
-        (c.serve_console.ensures.served settings is),
-  ),
-)
+returns-then-eq-clause-served g c settings is =
+    let calls = console_of _ _ _ _ _ _ _ settings _ _ _
+    (c.in-Session.ensures.limit ∙ ap (λ p. p.limit) c.with_limit-cutter.ensures)
+    (c.serve_console.ensures.served settings is) in (
+      Session c.in-Session.database c.in-Session.kind,
+      c.open.new.cutter.bytes,
+      c.open.new.client,
+      c.in-Session.ensures.opens,
+      (
+        c.serve_console.new.cutter.bytes,
+        (calls.0, calls.1, inl (search rules, c.serve_console.ensures.same, calls.2)),
+      ),
+    )
 
 pub returns-in-Session-clause-served : goal.returns-in-Session-clause-served
-returns-in-Session-clause-served g c settings is = (
-  Session c.in-Session.database c.in-Session.kind,
-  c.open.new.cutter.bytes,
-  c.open.new.client,
-  c.in-Session.ensures.opens,
-  inr (
-    search rules,
-    c.serve_session.new.cutter.bytes,
-    session_of _ _ _ _ _ _ _ _ (arc_value c.args.calling.now.node).secrets _ settings c.as_str-name.result.now _ _ _ _ _ _
-        c.as_str-name.ensures.value (c.serve_session.ensures.served settings is),
-  ),
-)
+returns-in-Session-clause-served g c settings is =
+    let calls = session_of _ _ _ _ _ _ _ _ (arc_value c.args.calling.now.node).secrets _ settings
+    c.as_str-name.result.now _ _ _ _ _ _ c.as_str-name.ensures.value
+    (c.serve_session.ensures.served settings is) in (
+      Session c.in-Session.database c.in-Session.kind,
+      c.open.new.cutter.bytes,
+      c.open.new.client,
+      c.in-Session.ensures.opens,
+      (
+        c.serve_session.new.cutter.bytes,
+        (calls.0, calls.1, inr (search rules, calls.2)),
+      ),
+    )

@@ -21,7 +21,7 @@ returns-in-Release g c = record {
       c.args.session.now.database c.in-Release.is c.take_turn-stayed.ensures.session
       c.requires.session;
   limit = c.take_turn-stayed.ensures.limit;
-  comes = rides_on _ _ _ _ _ _ _ c.args.lease _ c.args.request c.args.cutter.now.bytes _
+  comes = rides_on _ _ _ _ _ _ _ c.args.lease c.args.request c.args.cutter.now.bytes _
       c.take_turn-stayed.result _ _ c.take_turn-stayed.ensures.stay c.take_turn-stayed.ensures.told
       c.in-Release.is;
 }
@@ -33,7 +33,7 @@ returns-in-End-clause-moves g c =
 
 pub returns-in-End-clause-comes : goal.returns-in-End-clause-comes
 returns-in-End-clause-comes g c =
-    rides _ _ _ _ _ _ _ c.args.lease _ c.args.request c.args.cutter.now.bytes _
+    rides _ _ _ _ _ _ _ c.args.lease c.args.request c.args.cutter.now.bytes _
     c.take_turn-stayed.result _
     _ _ c.take_turn-stayed.ensures.stay c.take_turn-stayed.ensures.told
     (sym (ap end_of c.in-End.is))

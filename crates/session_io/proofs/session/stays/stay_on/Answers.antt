@@ -2,7 +2,7 @@ use Rattle.std.proofs.Common.{Ok, Err, ◌∙◌, refl, ap}
 use Rattle.pg_frames.specs.Passage.{start}
 use Rattle.client_state.specs.Session.{Session}
 use Rattle.session_io.proofs.StayLemmas.{staying_start, staying_unsent, staying_replied, staying_deserted, staying_on, asks_again, leaves_from, ends_of, goes_of, asks_of, wrote_same, wrote_some_same}
-use Rattle.session_io.proofs.session.stays.stay.Goals as goal
+use Rattle.session_io.proofs.session.stays.stay_on.Goals as goal
 
 pub loop-init : goal.loop-init
 loop-init g c = (

@@ -1,5 +1,5 @@
-use Rattle.node_threads.proofs.AboveLemmas.{found_between}
-use Rattle.node_threads.proofs.session.above.next_above.Goals as goal
+use Rattle.session_io.proofs.AboveLemmas.{found_between}
+use Rattle.session_io.proofs.session.above.next_above.Goals as goal
 
 pub returns : goal.returns
 returns c =

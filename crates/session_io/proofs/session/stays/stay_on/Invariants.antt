@@ -1,6 +1,6 @@
 use Rattle.std.proofs.Common.{◌≡◌, None, []}
 use Rattle.session_io.proofs.StayLemmas.{Staying}
-use Rattle.session_io.proofs.session.stays.stay.Given as goal
+use Rattle.session_io.proofs.session.stays.stay_on.Given as goal
 
 -- so far there were rounds; the session asks again, and the link is between two frames
 abbrev pub invariant-loop : goal.invariant-loop
