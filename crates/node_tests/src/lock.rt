@@ -1,8 +1,6 @@
 //! A node behind its lock, with one thread and with several: replies, counts and sums, which no
 //! clause fixes.
 mod answers;
-mod kinds;
-mod links;
 mod nodes;
 mod steps;
 mod sums;

@@ -1,12 +1,11 @@
 //! The calls of one caller: replies, counts, and sums of numbers.
-ghost use Rattle.std.specs.Prelude.{◌≡◌, ◌<◌, length};
+ghost use Rattle.std.specs.Prelude.{◌≡◌};
 
-use crate::lock::nodes::{Caller, Journal, Shared, key, left, node, ordered, stray};
-use crate::lock::sums::{assert_long, assert_short};
+use crate::lock::nodes::{Caller, Journal, Shared, key, node, ordered, stray};
+use crate::lock::sums::assert_short;
 use locked_node::{CallAnswer, CallKind, Cancel};
-use node_core::{DatabaseNo, Exchange, JoinRefusal, LeaveReply, Pass};
-use pg_ids::{AnyKey, Kind, Secret};
-use std::alloc::Global;
+use node_core::Exchange;
+use pg_ids::AnyKey;
 use std::process::Abort;
 use std::sync::Wait;
 use std::test::Fail;
@@ -47,91 +46,6 @@ fn trims(rt: HostRuntime) -> Result<(), Fail> {
 
 fn forwarded() -> CallKind {
     CallKind::short(CallAnswer::Forwarded)
-}
-
-// The peer, the key that came, and the key that is sent, each of three numbers.
-const SENT_ON: &[(CallAnswer, &[u128])] = &[(
-    CallAnswer::Forwarded,
-    &[4, 2 * NUMBER, 516, 6, 2 * NUMBER - 2, 516, 6],
-)];
-
-// Two requests with the same long key, which are sent on with it.
-#[test]
-fn long_requests(rt: HostRuntime) -> Result<(), Fail> {
-    let mut journal = node(rt.alloc(), 1)?;
-    ordered(journal.call(Cancel(long_key())));
-    ordered(journal.call(Cancel(long_key())));
-    assert_long(&rt, journal.totals(), SENT_ON);
-    Ok(())
-}
-
-// The key of peer 2, slot 0, secret 1, and behind it the boot 258 and the serial 3.
-fn long_key() -> AnyKey {
-    AnyKey::from_long_bytes([
-        0, 8, 0, 0, 0, 0, 0, 7, 0, 0, 0, 0, 0, 0, 1, 2, 0, 0, 0, 0, 0, 0, 0, 3,
-    ])
-}
-
-// The keys of peer 1, slot 0, secret 1 and three hops, and of slot 1 and secret 9.
-const FIRST: u128 = 0x0004_0000_0000_0007;
-
-const STRANGE: u128 = 0x0004_0004_0000_0027;
-
-// A pass is a peer, an incarnation and a number; then come the database and the secret, and the
-// key.
-const ANSWERED: &[(CallAnswer, &[u128])] = &[
-    (CallAnswer::Joined, &[1, 0, 0, 0, 1, FIRST]),
-    (CallAnswer::JoinFull, &[0, 2]),
-    (CallAnswer::Left, &[1, 0, 0, FIRST]),
-    (CallAnswer::LeaveStale, &[1, 0, 1, STRANGE]),
-];
-
-// A pass of another node, the second that it gave.
-fn stranger<R: Abort + Wait>(rt: &R, alloc: Global) -> Result<Pass, Fail> {
-    let (elsewhere, mut guest) = Shared::new(alloc, node(alloc, 2)?)?;
-    assert!(rt; !is_full(elsewhere.join(rt, &mut guest, DatabaseNo(0), Secret(1), Kind::Short)));
-    Ok(
-        elsewhere
-            .join(rt, &mut guest, DatabaseNo(0), Secret(9), Kind::Short)
-            .expect(rt, "another slot"),
-    )
-}
-
-// Four calls.
-fn answer<R: Abort + Wait>(rt: &R, shared: &Shared, caller: &mut Caller, stranger: Pass)
-    requires own { caller.old.lock ≡ shared.now }
-    requires database { 0 < length caller.old.start.view.pools }
-    ensures { caller.new.lock ≡ caller.old.lock }
-{
-    let first = shared
-        .join(rt, caller, DatabaseNo(0), Secret(1), Kind::Short)
-        .expect(rt, "a slot");
-    assert!(rt; is_full(shared.join(rt, caller, DatabaseNo(0), Secret(2), Kind::Short)));
-    let stale = left(shared.leave(rt, caller, stranger));
-    let first = left(shared.leave(rt, caller, first));
-    assert_eq!(rt; (stale, first), (LeaveReply::Stale, LeaveReply::Left));
-}
-
-// One slot: the second client finds none, a pass of another node is stale, and the first client
-// leaves.
-#[test]
-fn answers(rt: HostRuntime) -> Result<(), Fail> {
-    let (shared, mut caller) = Shared::new(rt.alloc(), node(rt.alloc(), 1)?)?;
-    let stranger = stranger(&rt, rt.alloc())?;
-    answer(&rt, &shared, &mut caller, stranger);
-    assert_short(&rt, caller.tally(), ANSWERED);
-    assert_eq!(rt; caller.allowance(), (1 << 127) - 4);
-    Ok(())
-}
-
-fn is_full(reply: Result<Pass, JoinRefusal>) -> bool {
-    match reply {
-        Ok(pass) => {
-            pass.forfeit();
-            false
-        }
-        Err(refusal) => refusal == JoinRefusal::Full,
-    }
 }
 
 // A new caller has 2^64 calls, which is too few to hand any on. What is handed comes back by a

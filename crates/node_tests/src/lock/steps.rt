@@ -1,14 +1,10 @@
 //! Steps for the tests, through a lock: what each hands out, or that it was another answer.
-ghost use Rattle.std.specs.Prelude.{◌≡◌, ◌<◌, length, IfOk};
+ghost use Rattle.std.specs.Prelude.{◌≡◌, ◌<◌, length};
 
-use crate::lock::nodes::{Caller, Journal, Shared, Stream, alone, left, ordered};
-use node_core::{
-    AcquireReply, DatabaseNo, Lease, LeaveReply, Order, Pass, Permit, Ticket, UpReply,
-};
+use crate::lock::nodes::{Caller, Shared, Stream};
+use node_core::{AcquireReply, DatabaseNo, Lease, Pass, Permit, UpReply};
 use pg_ids::{Kind, Secret, ServerKey};
-use std::alloc::Global;
 use std::sync::Wait;
-use std::test::Fail;
 
 const SHOP: DatabaseNo = DatabaseNo(0);
 
@@ -16,33 +12,11 @@ const SHOP: DatabaseNo = DatabaseNo(0);
 #[derive(Clone, Copy, Debug, PartialEq, Eq)]
 pub(crate) struct Other;
 
-// Node 2 with one link for two slots, and no peer.
-pub(crate) fn one_link(alloc: Global) -> Result<Journal, Fail>
-    ensures { IfOk result (λ journal. 0 < length journal.view.pools) }
-{
-    alone(alloc, 2, 1, 2)
-}
-
-pub(crate) fn opened(reply: AcquireReply<Lease<Stream>, Permit>) -> Result<Permit, Other> {
+fn opened(reply: AcquireReply<Lease<Stream>, Permit>) -> Result<Permit, Other> {
     match reply {
         AcquireReply::Open(permit) => Ok(permit),
         AcquireReply::Got(lease) => {
             let _stream = lease.forfeit();
-            Err(Other)
-        }
-        AcquireReply::Waiting
-        | AcquireReply::Cancelled
-        | AcquireReply::Holding
-        | AcquireReply::Exhausted
-        | AcquireReply::Stale => Err(Other),
-    }
-}
-
-pub(crate) fn got(reply: AcquireReply<Lease<Stream>, Permit>) -> Result<Lease<Stream>, Other> {
-    match reply {
-        AcquireReply::Got(lease) => Ok(lease),
-        AcquireReply::Open(permit) => {
-            let _details = permit.forfeit();
             Err(Other)
         }
         AcquireReply::Waiting
@@ -72,33 +46,6 @@ pub(crate) fn waits(reply: AcquireReply<Lease<Stream>, Permit>) -> bool {
     }
 }
 
-// Whether the reply says that the client's wait was cancelled.
-pub(crate) fn is_cancelled(reply: AcquireReply<Lease<Stream>, Permit>) -> bool {
-    match reply {
-        AcquireReply::Cancelled => true,
-        AcquireReply::Got(lease) => {
-            let _stream = lease.forfeit();
-            false
-        }
-        AcquireReply::Open(permit) => {
-            let _details = permit.forfeit();
-            false
-        }
-        AcquireReply::Waiting
-        | AcquireReply::Holding
-        | AcquireReply::Exhausted
-        | AcquireReply::Stale => false,
-    }
-}
-
-// The pass of a client that stays.
-pub(crate) fn stayed(reply: LeaveReply<Pass>) -> Result<Pass, Other> {
-    match reply {
-        LeaveReply::Holding(pass) => Ok(pass),
-        LeaveReply::Left | LeaveReply::Stale | LeaveReply::Exhausted => Err(Other),
-    }
-}
-
 fn went_up(reply: UpReply<Lease<Stream>, Permit, Stream>) -> Result<Lease<Stream>, Other> {
     match reply {
         UpReply::Up(lease) => Ok(lease),
@@ -107,17 +54,6 @@ fn went_up(reply: UpReply<Lease<Stream>, Permit, Stream>) -> Result<Lease<Stream
             Err(Other)
         }
         UpReply::Stale(_stream) | UpReply::AtEnd(_stream) => Err(Other),
-    }
-}
-
-// The ticket of a request that is sent to the server with this key.
-pub(crate) fn served(order: Order<Ticket>, server: ServerKey) -> Result<Ticket, Other> {
-    match order {
-        Order::Serve(ticket, database, key) if key == server && database == SHOP => Ok(ticket),
-        other => {
-            let _order = ordered(other);
-            Err(Other)
-        }
     }
 }
 
@@ -152,20 +88,4 @@ pub(crate) fn open<R: Wait>(
 {
     let permit = opened(shared.acquire(rt, caller, pass))?;
     went_up(shared.up(rt, caller, permit, Stream(stream), key))
-}
-
-// Both clients leave.
-pub(crate) fn leave<R: Wait>(
-    rt: &R,
-    shared: &Shared,
-    caller: &mut Caller,
-    first: Pass,
-    second: Pass,
-) -> (bool, bool)
-    requires own { caller.old.lock ≡ shared.now }
-    ensures { (caller.new.lock ≡ caller.old.lock) × (caller.new.start ≡ caller.old.start) }
-{
-    let first = left(shared.leave(rt, caller, first));
-    let second = left(shared.leave(rt, caller, second));
-    (first == LeaveReply::Left, second == LeaveReply::Left)
 }

@@ -21,17 +21,3 @@ pub(crate) fn assert_short(rt: &impl Abort, tally: &Tally, wanted: &[(CallAnswer
         assert_sums(rt, tally, &CallKind::short(*answer), sums);
     }
 }
-
-// The same of those with long keys.
-pub(crate) fn assert_long(rt: &impl Abort, tally: &Tally, wanted: &[(CallAnswer, &[u128])]) {
-    for (answer, sums) in wanted {
-        assert_sums(rt, tally, &CallKind::long(*answer), sums);
-    }
-}
-
-// There was one call with each of these answers, and with a short key or none.
-pub(crate) fn assert_once(rt: &impl Abort, tally: &Tally, answers: &[CallAnswer]) {
-    for answer in answers {
-        assert_eq!(rt; tally.calls(CallKind::short(*answer)), 1, "{answer:?}");
-    }
-}

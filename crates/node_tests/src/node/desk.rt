@@ -1,6 +1,6 @@
 //! A node, and what it handed out. Each value is kept as what it says, and made again to be handed
 //! in: so a stale one can be handed in as well.
-ghost use Rattle.std.specs.Prelude.{◌≡◌, ◌<◌, ◌≤◌, IfOk, All, length};
+ghost use Rattle.std.specs.Prelude.{◌≤◌};
 
 use ini_config::Settings;
 use node_core::{
@@ -8,7 +8,7 @@ use node_core::{
     NodeCore, Order, Pass, PassRecord, Permit, PermitRecord, ReleaseReply, RestartReply,
     StepRefusal, Ticket, TicketRecord, UpFailedReply, UpReply,
 };
-use pg_ids::{AnyKey, Boot, ClientKey, Kind, LongPart, PeerNo, Secret, Serial, ServerKey, SlotNo};
+use pg_ids::{AnyKey, Boot, Kind, PeerNo, Secret, ServerKey, SlotNo};
 use startup::Packet;
 use std::alloc::{AllocError, Global};
 use std::test::Fail;
@@ -38,12 +38,8 @@ pub(crate) enum Act {
     Close(usize),
     /// With this short key.
     Cancel([u8; 8]),
-    /// With the long key that has these eight bytes, and this boot and serial behind them.
-    CancelLong([u8; 8], u64, u64),
     /// With the key of this pass.
     CancelOf(usize),
-    /// That many cancel requests with one short key, none of which ends.
-    Cancels(u32, [u8; 8]),
     Ended(usize),
     Failed(usize),
     /// With this boot.
@@ -156,11 +152,6 @@ fn key_said(key: AnyKey) -> Said {
     }
 }
 
-fn long_key(first: [u8; 8], boot: u64, serial: u64) -> AnyKey {
-    let part = LongPart::new(Boot(boot), Serial(serial));
-    AnyKey::new(ClientKey::from_bytes(first), Some(part))
-}
-
 fn forwarded(peer: PeerNo, packet: Packet) -> Said {
     match packet {
         Packet::Short(bytes) => Said::Forward(peer.get(), bytes),
@@ -211,21 +202,16 @@ pub(crate) struct Desk {
 }
 
 impl Desk {
-    /// A node with this number, one peer at most, one database, and the boot 0. Room for what it
-    /// hands out is there before the node is made.
-    pub(crate) fn new(
-        alloc: Global,
-        me: u16,
-        peer: Option<u16>,
-        pool: u16,
-        clients: u32,
-    ) -> Result<Desk, Fail>
+    /// A node with this number, no peers, one database, and the boot 0. Room for what it hands out
+    /// is there before the node is made.
+    pub(crate) fn new(alloc: Global, me: u16, pool: u16, clients: u32) -> Result<Desk, Fail>
         requires place { 1 ≤ pool }
         requires some { 1 ≤ clients }
         requires within { clients ≤ 65536 }
     {
         let me = PeerNo::new(me).ok_or("no such peer")?;
-        let settings = Settings::plain(alloc, me, listed(alloc, peer)?, pool, clients)?;
+        let peers = Vec::<PeerNo>::new(alloc);
+        let settings = Settings::plain(alloc, me, peers, pool, clients)?;
         let passes = Vec::with_capacity(alloc, KEPT)?;
         let permits = Vec::with_capacity(alloc, KEPT)?;
         let links = Vec::with_capacity(alloc, KEPT)?;
@@ -238,11 +224,6 @@ impl Desk {
             tickets,
             keys: 0,
         })
-    }
-
-    /// The values of each of two nodes come to the other.
-    pub(crate) fn swap(&mut self, other: &mut Desk) {
-        std::mem::swap(&mut self.core, &mut other.core);
     }
 
     /// What was handed out so far is forgotten.
@@ -283,11 +264,7 @@ impl Desk {
             Act::Release(link) => self.release(link),
             Act::Close(link) => self.close(link),
             Act::Cancel(key) => Ok(self.cancel(AnyKey::from_short_bytes(key))?),
-            Act::CancelLong(first, boot, serial) => {
-                Ok(self.cancel(long_key(first, boot, serial))?)
-            }
             Act::CancelOf(pass) => self.cancel_of(pass),
-            Act::Cancels(count, key) => Ok(self.cancels(count, &AnyKey::from_short_bytes(key))),
             Act::Ended(ticket) => self.ended(ticket),
             Act::Failed(ticket) => self.failed(ticket),
             Act::Restart(boot) => Ok(Said::Restart(self.core.restart(Boot(boot)))),
@@ -414,17 +391,6 @@ impl Desk {
         }
     }
 
-    fn cancels(&mut self, count: u32, key: &AnyKey) -> Said {
-        let mut served = 0u32;
-        for _ in 0..count {
-            if let Order::Serve(ticket, _database, _key) = self.core.cancel(*key) {
-                let _details = ticket.forfeit();
-                served = served.saturating_add(1);
-            }
-        }
-        Said::Served(served)
-    }
-
     fn ended(&mut self, ticket: usize) -> Result<Said, Fail> {
         let ticket = self.ticket(ticket)?;
         Ok(Said::Ended(self.core.ended(ticket)))
@@ -434,19 +400,4 @@ impl Desk {
         let ticket = self.ticket(ticket)?;
         Ok(Said::Failed(self.core.failed(ticket)))
     }
-}
-
-// One peer at most.
-fn listed(alloc: Global, peer: Option<u16>) -> Result<Vec<PeerNo>, Fail>
-    ensures few { IfOk result (λ peers. length peers.items ≤ 1) }
-    ensures numbered { IfOk result (λ peers. All (λ number. 0 < number) peers.items) }
-{
-    let Some(number) = peer else {
-        return Ok(Vec::new(alloc));
-    };
-    let peer = PeerNo::new(number).ok_or("no such peer")?;
-    if peer.get() == 0 {
-        return Err(Fail::from("no peer has the number 0"));
-    }
-    Ok(vec![in alloc; peer]?)
 }

@@ -248,7 +248,7 @@ fn next(number: u64) -> u64 {
 }
 
 fn four_clients(alloc: Global) -> Result<Desk, Fail> {
-    Desk::new(alloc, 2, None, 2, 4)
+    Desk::new(alloc, 2, 2, 4)
 }
 
 #[test]
