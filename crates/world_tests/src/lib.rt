@@ -1,6 +1,5 @@
-//! Tests of worlds and of the program's answers by public calls alone: scripts are read, whole
-//! schedules run, outcomes written, and arguments answered. They have a crate of their own, since a
-//! crate with tests is proved twice: without them and with them.
+//! Tests of worlds and of the program's answers that `command_stories` can't tell: single steps, two
+//! databases, replies that no short script has, writers that fail, and arguments too long for a story.
 #![tactic(auto)]
 
 #[cfg(test)]
@@ -8,8 +7,8 @@ mod answers;
 #[cfg(test)]
 mod databases;
 #[cfg(test)]
+mod faults;
+#[cfg(test)]
 mod outcomes;
 #[cfg(test)]
 mod schedules;
-#[cfg(test)]
-mod scripts;

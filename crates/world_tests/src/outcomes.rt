@@ -1,4 +1,4 @@
-//! Outcomes: each reply, and whole texts.
+//! Outcomes: each reply, and other bytes before it.
 use crate::schedules::write_alone;
 use std::alloc::Global;
 use std::process::Abort;
@@ -6,7 +6,6 @@ use std::test::Fail;
 use world::Took;
 
 mod replies;
-mod whole;
 
 // Asserts that this text is appended, where nothing was interrupted.
 fn expect_outcome(
@@ -17,5 +16,16 @@ fn expect_outcome(
     let mut out = Vec::new(rt.alloc());
     write_alone(rt.alloc(), took, &mut out)?;
     assert_eq!(rt; out.as_slice(), wanted.as_bytes(), "{wanted:?}");
+    Ok(())
+}
+
+#[test]
+fn behind_other_bytes(rt: HostRuntime) -> Result<(), Fail> {
+    let mut out = vec![in rt.alloc(); b'a', b'\n']?;
+    write_alone(rt.alloc(), &[Took::Skipped], &mut out)?;
+    assert_eq!(rt;
+        out.as_slice(),
+        b"a\n1 skipped\nevents 1 skipped 1 interrupts 0\n".as_slice()
+    );
     Ok(())
 }

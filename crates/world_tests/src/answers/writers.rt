@@ -1,7 +1,7 @@
 //! Writers that take little at a time, are interrupted, fail or can't be flushed.
 ghost use Rattle.std.specs.Prelude.{◌≤◌};
 
-use super::files::{Files, all_files};
+use super::EMPTY;
 use answer::answer;
 use std::alloc::Global;
 use std::io::{self, ErrorKind, Write};
@@ -174,10 +174,7 @@ fn told(
     out: &mut Outlet,
     err: &mut Outlet,
 ) -> u8 {
-    let opener = Files {
-        entries: &all_files(),
-    };
-    answer(rt, rt.alloc(), words, &opener, out, err)
+    answer(rt, rt.alloc(), words, &EMPTY, out, err)
 }
 
 // The writer took the text, or that many bytes of it, and was flushed so often.
