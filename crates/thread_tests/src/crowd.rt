@@ -1,9 +1,8 @@
 //! Requests for another node that come at once, of which one finds no seat.
 use crate::calls::calls_of;
 use crate::messages::LOWERED;
-use crate::story::{NODE, calling, serve};
+use crate::story::{NODE, SEED, calling, serve};
 use crate::talk::Turn;
-use crate::together::SEED;
 use crate::tracked::{Dialer, Talk, Tracker};
 use locked_node::CallAnswer;
 use node_threads::{Calling, Gate, Open, Point};

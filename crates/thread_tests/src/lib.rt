@@ -10,33 +10,19 @@ mod calls;
 #[cfg(test)]
 mod cancels;
 #[cfg(test)]
-mod consoles;
-#[cfg(test)]
 mod crowd;
-#[cfg(test)]
-mod failures;
 #[cfg(test)]
 mod gates;
 #[cfg(test)]
 mod held;
 #[cfg(test)]
-mod keys;
-#[cfg(test)]
-mod line;
-#[cfg(test)]
 mod linked;
 #[cfg(test)]
-mod links;
-#[cfg(test)]
 mod log;
-#[cfg(test)]
-mod logins;
 #[cfg(test)]
 mod messages;
 #[cfg(test)]
 mod node;
-#[cfg(test)]
-mod openings;
 #[cfg(test)]
 mod owner;
 #[cfg(test)]
@@ -52,19 +38,11 @@ mod scene_node;
 #[cfg(test)]
 mod seats;
 #[cfg(test)]
-mod sessions;
-#[cfg(test)]
 mod shown;
-#[cfg(test)]
-mod stays;
-#[cfg(test)]
-mod stories;
 #[cfg(test)]
 mod story;
 #[cfg(test)]
 mod talk;
-#[cfg(test)]
-mod together;
 #[cfg(test)]
 mod told;
 #[cfg(test)]
@@ -73,5 +51,7 @@ mod tracked;
 mod turns;
 #[cfg(test)]
 mod waits;
+#[cfg(test)]
+mod wire;
 #[cfg(test)]
 mod words;

@@ -29,12 +29,6 @@ pub(crate) enum Event {
     // The request of the ticket with this number was reported to a desk.
     Ended(u64),
     Failed(u64),
-    // It was asked whether a link is quiet, and a client got a link, or has it no longer.
-    Looked,
-    Attached,
-    Detached,
-    // A connection was closed.
-    Closed,
 }
 
 #[derive(Drop)]
@@ -95,7 +89,7 @@ impl<'a> Wire<'a> {
 }
 
 // What was written.
-pub(crate) fn written(bytes: &[u8]) -> Event {
+fn written(bytes: &[u8]) -> Event {
     let mut short = [0; 16];
     match bytes.len() {
         1 => Event::Byte(bytes[0]),
@@ -188,19 +182,16 @@ impl Desk<u8> for LoggedDesk<'_> {
     }
 }
 
-// What connects to streams that take whole packets and end with this reply, or to none.
+// What connects to streams that take whole packets and end with this reply.
 #[derive(Drop)]
 pub(crate) struct Dialer<'a> {
     pub(crate) log: &'a Log,
-    pub(crate) reply: Option<Reply>,
+    pub(crate) reply: Reply,
 }
 
 impl<'a> Dialer<'a> {
     fn dial(&self) -> io::Result<Wire<'a>> {
-        match self.reply {
-            Some(reply) => Ok(Wire::new(self.log, 32, reply)),
-            None => Err(io::Error::from(ErrorKind::ConnectionRefused)),
-        }
+        Ok(Wire::new(self.log, 32, self.reply))
     }
 }
 

@@ -139,11 +139,6 @@ impl Node {
         );
     }
 
-    // Who makes its calls.
-    pub(crate) fn caller(&self) -> &Caller<Stream> {
-        &self.caller
-    }
-
     // The words of the board.
     pub(crate) fn words(&mut self) -> [u64; 8] {
         self.counting.words()

@@ -6,11 +6,9 @@ use crate::messages::{
     BEGIN, BEGUN, COMMIT, COMMITTED, IDLE, LOGIN, OPEN, QUERY, ROW, STARTUP, TERMINATE, WELCOME,
 };
 use crate::shown::{CONSOLE, SHOW_CLIENTS};
-use crate::stays::{Wire, reads};
-use crate::stories::GROUP_DONE;
-use crate::story::{NODE, calling, serve};
+use crate::story::{NODE, SEED, calling, serve};
 use crate::talk::is_out_of_memory;
-use crate::together::SEED;
+use crate::wire::Wire;
 use locked_node::{CallAnswer, Caller};
 use node_threads::{Calling, Gate, Open, Opener, Point};
 use pg_ids::{Boot, DatabaseNo, PeerNo};
@@ -29,6 +27,12 @@ const CLIENTS: u32 = 3;
 const KEY: &[u8] = b"K\0\0\0\x0c";
 
 const KEY_LENGTH: usize = 8;
+
+// The answer to a group: ParseComplete, BindComplete, NoData, CommandComplete.
+const GROUP_DONE: &[u8] = b"1\0\0\0\x04\
+    2\0\0\0\x04\
+    n\0\0\0\x04\
+    C\0\0\0\x0bVACUUM\0";
 
 // A client that sends a group in two parts, has a transaction, and leaves.
 const ASKS: &[&[u8]] = &[
@@ -268,7 +272,7 @@ pub(crate) fn visit<R: Wait, G: Gate>(
     gate: &G,
     pieces: &'static [&'static [u8]],
 ) -> Option<Wire<'static>> {
-    let Ok(mut client) = Wire::new(alloc, reads(pieces)) else {
+    let Ok(mut client) = Wire::new(alloc, pieces) else {
         return None;
     };
     serve(rt, alloc, calling, servers, gate, &mut client);
@@ -384,7 +388,7 @@ fn come<R: Wait + Abort>(
 
 // A link is given back by a client that had the whole answer alone: else it is closed.
 #[track_caller]
-pub(crate) fn assert_closed<S: Drop>(rt: &impl Abort, caller: &Caller<S>, whole: u32) {
+fn assert_closed<S: Drop>(rt: &impl Abort, caller: &Caller<S>, whole: u32) {
     let idle = calls_of(caller, CallAnswer::ReleasedIdle);
     let quarantined = calls_of(caller, CallAnswer::ReleasedQuarantined);
     let released = idle.wrapping_add(quarantined);

@@ -1,8 +1,10 @@
 //! The seats at a node's board: how many requests have one at a time, and that all come back.
 use crate::calls::assert_calls;
-use crate::line::{Dials, Line, Stage};
-use crate::story::{NODE, calling, visit};
+use crate::messages::LOWERED;
+use crate::scene::all_done;
+use crate::story::{NODE, calling, serve};
 use crate::talk::Turn;
+use crate::tracked::{Dialer, Talk, Tracker};
 use locked_node::CallAnswer;
 use node_threads::{Calling, Open, Seat, Seats};
 use pg_ids::{AnyKey, Boot};
@@ -111,7 +113,7 @@ fn shares(rt: HostRuntime) -> Result<(), Fail> {
     Ok(())
 }
 
-// A request for a client that isn't there, and one for peer 3, which can't be reached.
+// A request for a client that isn't there, and one for peer 3, which gives a byte back.
 const UNKNOWN: &[Turn] = &[Turn::Gives(b"\0\0\0\x10\x04\xd2\x16\x2e\0\x08\0\0\0\0\0\x07")];
 
 const FORWARDED: &[Turn] = &[
@@ -119,30 +121,49 @@ const FORWARDED: &[Turn] = &[
     Turn::Takes(b"E"),
 ];
 
+const PEER: &[Turn] = &[Turn::Takes(LOWERED), Turn::Gives(b"N")];
+
+// A request is served.
+fn visit<R: Wait>(
+    rt: &R,
+    alloc: Global,
+    calling: &mut Calling<Talk>,
+    tracker: &Arc<Tracker, Global>,
+    turns: &'static [Turn],
+) {
+    let dialer = Dialer {
+        tracker,
+        turns: PEER,
+    };
+    if let Ok(mut client) = Talk::new(tracker, turns) {
+        serve(rt, alloc, calling, &dialer, &Open, &mut client);
+    }
+}
+
 // Twice as many requests as there are seats, of each kind, one after another.
 fn assert_served<R: Wait + Abort>(
     rt: &R,
     alloc: Global,
-    calling: &mut Calling<Line>,
-    stage: &Arc<Stage, Global>,
+    calling: &mut Calling<Talk>,
+    tracker: &Arc<Tracker, Global>,
 ) {
-    let dials = Dials::new(stage, &[]);
     for _i in 0..512u32 {
-        assert!(rt; visit(rt, alloc, calling, &dials, &Open, UNKNOWN));
-        assert!(rt; visit(rt, alloc, calling, &dials, &Open, FORWARDED));
+        visit(rt, alloc, calling, tracker, UNKNOWN);
+        visit(rt, alloc, calling, tracker, FORWARDED);
     }
     let calls = [
         (CallAnswer::CancelUnknown, 512),
         (CallAnswer::Forwarded, 512),
     ];
     assert_calls(rt, calling.caller(), &calls);
-    stage.assert_sound(rt);
+    // Two requests and a connection to the peer, each time.
+    assert_eq!(rt; tracker.ends(), all_done(1_536));
 }
 
 #[test]
 fn seats_come_back(rt: HostRuntime) -> Result<(), Fail> {
-    let stage = Stage::new(rt.alloc(), None)?;
+    let tracker = Tracker::new(rt.alloc())?;
     let mut calling = calling(rt.alloc(), NODE, [0; 32], Boot(9))?;
-    assert_served(&rt, rt.alloc(), &mut calling, &stage);
+    assert_served(&rt, rt.alloc(), &mut calling, &tracker);
     Ok(())
 }

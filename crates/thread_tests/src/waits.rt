@@ -5,11 +5,10 @@ use crate::calls::calls_of;
 use crate::gates::{Asking, Marks, sees};
 use crate::messages::{IDLE, LOGIN, QUERY, ROW, SERVES_ONE, STARTUP, TERMINATE, WELCOME, asks};
 use crate::shown::{CONSOLE, SHOW_CLIENTS};
-use crate::stays::{Wire, reads};
-use crate::story::{TWO_SLOTS, calling, serve};
+use crate::story::{SEED, TWO_SLOTS, calling, serve};
 use crate::talk::Turn;
-use crate::together::SEED;
 use crate::tracked::{Dialer, Talk, Tracker};
+use crate::wire::Wire;
 use locked_node::CallAnswer;
 use node_threads::{Calling, Open};
 use pg_ids::Boot;
@@ -137,7 +136,7 @@ fn wait<R: Wait>(rt: &R, scene: Scene<'_>, mut calling: Calling<Talk>) -> Callin
 // Whether the node's console shows a client that waits for a link.
 fn is_waiting<R: Wait>(rt: &R, scene: Scene<'_>, calling: &mut Calling<Talk>) -> bool {
     let pieces = [CONSOLE, SHOW_CLIENTS, TERMINATE];
-    let Ok(mut client) = Wire::new(scene.alloc, reads(&pieces)) else {
+    let Ok(mut client) = Wire::new(scene.alloc, &pieces) else {
         return false;
     };
     let dialer = scene.dialer(&[]);
