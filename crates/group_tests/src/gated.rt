@@ -151,6 +151,7 @@ fn start_serving<R: TestHost>(
 }
 
 // A client's socket.
+#[derive(Drop)]
 struct Client<'a>(&'a TcpStream);
 
 impl Read for Client<'_> {
