@@ -1,5 +1,5 @@
 //! Outcomes: each reply, and other bytes before it.
-use crate::schedules::write_alone;
+use crate::schedules::text_alone;
 use std::alloc::Global;
 use std::process::Abort;
 use std::test::Fail;
@@ -13,16 +13,15 @@ fn expect_outcome(
     took: &[Took],
     wanted: &str,
 ) -> Result<(), Fail> {
-    let mut out = Vec::new(rt.alloc());
-    write_alone(rt.alloc(), took, &mut out)?;
+    let out = text_alone(rt.alloc(), took, Vec::new(rt.alloc()))?;
     assert_eq!(rt; out.as_slice(), wanted.as_bytes(), "{wanted:?}");
     Ok(())
 }
 
 #[test]
 fn behind_other_bytes(rt: HostRuntime) -> Result<(), Fail> {
-    let mut out = vec![in rt.alloc(); b'a', b'\n']?;
-    write_alone(rt.alloc(), &[Took::Skipped], &mut out)?;
+    let first = vec![in rt.alloc(); b'a', b'\n']?;
+    let out = text_alone(rt.alloc(), &[Took::Skipped], first)?;
     assert_eq!(rt;
         out.as_slice(),
         b"a\n1 skipped\nevents 1 skipped 1 interrupts 0\n".as_slice()

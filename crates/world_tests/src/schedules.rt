@@ -18,32 +18,49 @@ pub struct Played {
 }
 
 // What these events bring about in this group, by single steps. Out of memory is returned as
-// `AllocError`. Only here and in the function below a world is owned, and dropped.
+// `AllocError`.
 pub(crate) fn play(alloc: Global, group: Group, events: &[Event]) -> Result<Played, Fail> {
+    play_behind(alloc, group, events, &[], Vec::new(alloc))
+}
+
+// A text, and behind it that of an outcome in which nothing was interrupted.
+pub(crate) fn text_alone(alloc: Global, took: &[Took], text: Vec<u8>) -> Result<Vec<u8>, Fail> {
+    let group = group_of(Vec::new(alloc))?;
+    let played = play_behind(alloc, group, &[], took, text)?;
+    Ok(played.text)
+}
+
+// The same, where events took this before, and this text stands before the outcome's. Only here a
+// world is owned, and dropped.
+fn play_behind(
+    alloc: Global,
+    group: Group,
+    events: &[Event],
+    first: &[Took],
+    text: Vec<u8>,
+) -> Result<Played, Fail> {
     match World::new(alloc, group) {
         Ok(world) => {
             let mut world = world;
-            take_steps(alloc, &mut world, events)
+            take_steps(alloc, &mut world, events, first, text)
         }
         Err(_) => Err(Fail::from(AllocError)),
     }
 }
 
-// Appends the text of an outcome in which nothing was interrupted.
-pub(crate) fn write_alone(alloc: Global, took: &[Took], text: &mut Vec<u8>) -> Result<(), Fail> {
-    let group = group_of(Vec::new(alloc))?;
-    match World::new(alloc, group) {
-        Ok(world) => write(took, &world, text),
-        Err(_) => Err(Fail::from(AllocError)),
-    }
-}
-
-fn take_steps(alloc: Global, world: &mut World, events: &[Event]) -> Result<Played, Fail> {
+fn take_steps(
+    alloc: Global,
+    world: &mut World,
+    events: &[Event],
+    first: &[Took],
+    text: Vec<u8>,
+) -> Result<Played, Fail> {
     let mut took = Vec::new(alloc);
+    took.extend_from_slice(first)?;
     for event in events {
         take_step(world, event, &mut took, None)?;
     }
-    collect(alloc, world, &took)
+    collect(alloc, world, &took, text)
 }
 
 // One step. The last argument does nothing: the checker finds the types that a reply may hold in
@@ -70,11 +87,11 @@ type ReplyTypes = (
     RouteRefusal,
 );
 
-// Whom the world has interrupted, and the text of the outcome.
-fn collect(alloc: Global, world: &World, took: &[Took]) -> Result<Played, Fail> {
+// Whom the world has interrupted, and the text of the outcome behind this one.
+fn collect(alloc: Global, world: &World, took: &[Took], text: Vec<u8>) -> Result<Played, Fail> {
     let mut interrupts = Vec::new(alloc);
     interrupts.extend_from_slice(world.interrupts())?;
-    let mut text = Vec::new(alloc);
+    let mut text = text;
     write(took, world, &mut text)?;
     Ok(Played { interrupts, text })
 }
