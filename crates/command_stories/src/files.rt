@@ -16,7 +16,7 @@ pub struct StoryFile {
 
 impl StoryFile {
     /// A file that holds nothing yet.
-    pub fn new(alloc: Global, name: &str, fails: bool) -> Result<StoryFile, AllocError> {
+    pub(crate) fn new(alloc: Global, name: &str, fails: bool) -> Result<StoryFile, AllocError> {
         Ok(StoryFile {
             name: String::from_str(alloc, name)?,
             text: Vec::new(alloc),
@@ -25,7 +25,7 @@ impl StoryFile {
     }
 
     /// Adds a line. One that ends with a backslash has no line's end.
-    pub fn add_line(&mut self, line: &str) -> Result<(), AllocError> {
+    pub(crate) fn add_line(&mut self, line: &str) -> Result<(), AllocError> {
         if let Some(line) = line.strip_suffix('\\') {
             return self.add_part(line);
         }

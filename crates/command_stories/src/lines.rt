@@ -22,7 +22,7 @@ pub enum Line<'a> {
 
 impl<'a> Line<'a> {
     /// What this line is.
-    pub fn read(line: &'a str) -> Line<'a> {
+    pub(crate) fn read(line: &'a str) -> Line<'a> {
         if line.is_empty() {
             return Line::End;
         }

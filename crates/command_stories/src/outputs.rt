@@ -14,7 +14,7 @@ pub struct Written {
 
 impl Written {
     /// Nothing yet.
-    pub fn new(alloc: Global) -> Written {
+    pub(crate) fn new(alloc: Global) -> Written {
         Written {
             out: Vec::new(alloc),
             err: Vec::new(alloc),
@@ -24,7 +24,7 @@ impl Written {
 
     /// Appends standard output, standard error with a mark before each line, and the status where
     /// it isn't 0.
-    pub fn append_to(&self, alloc: Global, text: &mut Vec<u8>) -> Result<(), AllocError> {
+    pub(crate) fn append_to(&self, alloc: Global, text: &mut Vec<u8>) -> Result<(), AllocError> {
         text.extend_from_slice(&self.out)?;
         end_line(&self.out, text)?;
         mark_lines(&self.err, text)?;
@@ -71,7 +71,7 @@ fn end_line(bytes: &[u8], text: &mut Vec<u8>) -> Result<(), AllocError> {
 }
 
 /// The first line with its end, and what is behind it.
-pub fn cut_first_line(text: &[u8]) -> (&[u8], &[u8]) {
+pub(crate) fn cut_first_line(text: &[u8]) -> (&[u8], &[u8]) {
     match text.iter().position(|byte| *byte == b'\n') {
         Some(place) => text.split_at(place.saturating_add(1).min(text.len())),
         None => (text, b""),
@@ -79,7 +79,7 @@ pub fn cut_first_line(text: &[u8]) -> (&[u8], &[u8]) {
 }
 
 /// How many lines there are.
-pub fn count_lines(text: &[u8]) -> usize {
+pub(crate) fn count_lines(text: &[u8]) -> usize {
     let mut count = 0_usize;
     for byte in text {
         if *byte == b'\n' {

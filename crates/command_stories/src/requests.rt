@@ -7,7 +7,7 @@ use startup::Reports;
 use std::alloc::{AllocError, Global};
 
 /// Writes what a command would do, in place of doing it.
-pub fn write_running(
+pub(crate) fn write_running(
     alloc: Global,
     files: &Files<'_>,
     running: Running<'_>,

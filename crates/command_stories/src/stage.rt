@@ -23,7 +23,7 @@ struct Stage {
 }
 
 /// Each line of the stories, and behind it what it brings about.
-pub fn played<R: Wait>(rt: &R, alloc: Global, stories: &str) -> Result<Vec<u8>, AllocError> {
+pub(crate) fn played<R: Wait>(rt: &R, alloc: Global, stories: &str) -> Result<Vec<u8>, AllocError> {
     let mut stage = Stage {
         files: Vec::new(alloc),
         is_open: false,

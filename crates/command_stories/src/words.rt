@@ -2,7 +2,7 @@
 use std::alloc::{AllocError, Global};
 
 /// The words with spaces between. What is between two single quotes is a word of its own.
-pub fn words_of<'a>(alloc: Global, line: &'a str) -> Result<Vec<&'a str>, AllocError> {
+pub(crate) fn words_of<'a>(alloc: Global, line: &'a str) -> Result<Vec<&'a str>, AllocError> {
     let mut words = Vec::new(alloc);
     let mut is_quoted = false;
     for part in line.split('\'') {
