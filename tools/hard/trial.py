@@ -286,7 +286,10 @@ class Pooler:
         return dict(collections.Counter(row[2] for row in self.show("LINKS", node)))
 
     def is_at_rest(self, node=None):
-        """Whether no server connection is held or quarantined, and no client opens or waits for one."""
+        """Whether within a second no server connection is held or quarantined, and no client opens or waits for one."""
+        return wait_until(lambda: self.rests(node), 1.0) is not None
+
+    def rests(self, node):
         states = {row[2] for row in self.show("CLIENTS", node)}
         return not ({"held", "quarantined"} & set(self.places(node)) or {"opening", "waiting", "link"} & states)
 
