@@ -1,4 +1,5 @@
 """First packets that are refused, incomplete, late or not served: each byte that comes, and how the connection ends."""
+import collections
 import os
 import resource
 import socket
@@ -6,10 +7,10 @@ import struct
 import subprocess
 import time
 
-from hard.fake import FakeServer
+from hard.fake import FakeServer, hold_for
 from hard.shortage import ALONE, fill, log_in_until_refused, open_strangers, serve_all, served
 from hard.trial import Pooler, scenario
-from hard.wire import CANCEL, CLEAN, OPEN, RESET, SSL, Reader, error_frame, outcome, startup, wait_until
+from hard.wire import CANCEL, CLEAN, OPEN, RESET, SSL, Reader, cancel_request, error_frame, outcome, startup, wait_until
 
 WHOLE = startup("shop")
 REQUEST = struct.pack("!II", 16, CANCEL) + b"12345678"
@@ -212,7 +213,12 @@ def first_packets_unaccepted(t):
     server = FakeServer(t.port())
     pooler = Pooler(t, {"shop": server.port}, pool=6)
     clients = [pooler.client() for _ in range(6)]
-    wrong = serve_all(clients)
+    for client in clients:  # at once, so that each has a server connection of its own
+        client.start("select pg_sleep(1)")
+    for client in clients:
+        client.read_reply()
+    t.check(len(server.backends) == 6, "server connections", f"{len(server.backends)}", "6")
+    wrong = []
     process = pooler.process.pid
     soft, hard = resource.prlimit(process, resource.RLIMIT_NOFILE)
     resource.prlimit(process, resource.RLIMIT_NOFILE, (3, hard))
@@ -254,4 +260,24 @@ def first_packets_no_memory(t):
     t.check(not wrong, "six clients once they left", served(6, wrong), "6")
     for client in clients:
         client.stream.close()
+    server.close()
+
+
+@scenario("first-packets-no-seat", limit=40)
+def first_packets_no_seat(t):
+    """140 requests with one key, whose server ends none: those for which no place is free get no byte and a reset"""
+    server = FakeServer(t.port(), on_cancel=hold_for(3600))
+    pooler = Pooler(t, {"shop": server.port}, pool=2)
+    client = pooler.client()
+    client.start("select pg_sleep(60)")
+    wait_until(lambda: server.is_running("select pg_sleep(60)"), 5)
+    streams = [send(pooler.port, cancel_request(client.key)) for _ in range(140)]
+    wait_until(lambda: server.busy >= 128, 5)
+    time.sleep(0.5)
+    ends = collections.Counter(read_all(stream, 0.02) for stream in streams)
+    t.check(ends == {(b"", OPEN): 128, (b"", RESET): 12}, "140 requests", f"{dict(ends)}",
+            "128 open, 12 reset, none with a byte")
+    for stream in streams:
+        stream.close()
+    client.stream.close()
     server.close()
