@@ -1,0 +1,8 @@
+//! SCRAM-SHA-256 (RFC 5802, RFC 7677), as PostgreSQL speaks it: the client's side, which proves a
+//! user's password, and the server's, which checks that proof. It does no input or output.
+#![tactic(auto)]
+
+mod bytes;
+mod mac;
+
+pub use mac::{HmacKey, hi, hmac};
