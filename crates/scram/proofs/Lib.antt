@@ -1,2 +1,3 @@
 pub mod BytesLemmas
 pub mod HiLemmas
+pub mod PartsLemmas

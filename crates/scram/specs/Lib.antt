@@ -1,2 +1,9 @@
 pub mod Hmac
 pub mod Keyed
+pub mod Base64
+pub mod Flag
+pub mod Messages
+pub mod Values
+pub mod Decoded
+pub mod Exchange
+pub mod Nonces

@@ -13,12 +13,16 @@ pub fn xor(a: &[u8; 32], b: &[u8; 32]) -> [u8; 32]
     out
 }
 
-/// Whether they are the same. Each byte of both is read, whatever the others are.
-pub fn same(a: &[u8; 32], b: &[u8; 32]) -> bool
+/// Whether they are the same. If they are of one length, each byte of both is read, whatever the
+/// others are.
+pub fn same(a: &[u8], b: &[u8]) -> bool
     ensures { IsTrue result ↔ (a.now ≡ b.now) }
 {
+    if a.len() != b.len() {
+        return false;
+    }
     let mut differences = 0;
-    for i in 0..32 {
+    for i in 0..a.len() {
         differences |= a[i] ^ b[i];
     }
     differences == 0

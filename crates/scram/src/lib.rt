@@ -3,6 +3,15 @@
 #![tactic(auto)]
 
 mod bytes;
+mod encoding;
+mod flag;
 mod mac;
+mod messages;
+mod nonce;
+mod number;
+mod parts;
+mod values;
 
+pub use flag::Gs2Flag;
 pub use mac::{HmacKey, hi, hmac};
+pub use number::MAX_ITERATIONS;

@@ -1,0 +1,11 @@
+-- What a reader of base64 answers (internal).
+use Rattle.std.specs.Prelude.{ℕ, ◌≡◌, ◌≢◌, List, Option, None, Some}
+use Rattle.std.specs.declared.vec.Vec.{Vec}
+use Rattle.std.specs.declared.alloc.Global.{Global}
+use Rattle.base64.specs.GeneralPurpose.{IsBytes}
+use Rattle.scram.specs.Base64.{base64}
+
+-- the bytes of this text, or that it is the base64 of none
+abbrev pub Decodes : List ℕ → Option (Vec ℕ Global) → Type 0
+Decodes text (Some bytes) = IsBytes bytes.items × (text ≡ base64 bytes.items)
+Decodes text None = (bytes : List ℕ) → IsBytes bytes → text ≢ base64 bytes
