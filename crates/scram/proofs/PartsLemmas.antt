@@ -1,5 +1,5 @@
 -- Where a text is cut, and its attributes.
-use Rattle.std.proofs.Common.{◌≡◌, ◌≢◌, ℕ, ◌+◌, ◌-◌, ◌==◌, ◌⊎◌, Bool, true, cond, Option, Some, None, MatchOption, IfNone, List, [], ◌∷◌, ◌++◌, length, take, drop, refl, sym, ap, ◌∙◌, subst, inl, inr, arith}
+use Rattle.std.proofs.Common.{◌≡◌, ◌≢◌, ℕ, ◌+◌, ◌-◌, ◌==◌, ◌⊎◌, Bool, true, cond, Option, Some, None, MatchOption, IfNone, List, [], ◌∷◌, ◌++◌, length, take, drop, get_or, refl, sym, ap, ◌∙◌, subst, inl, inr, arith, append_assoc}
 use Rattle.std.specs.List.{AllByRecursion, position_from}
 use Rattle.std.proofs.Math.Seq.{take-append_seam}
 use Rattle.std.proofs.lemmas.Bool.{cases_eq, eq-eqb, ne_eqb}
@@ -102,3 +102,30 @@ same_rest [] x y same = same
 same_rest (c ∷ cs) x y same =
     let rest : cs ++ x ≡ cs ++ y = cc in
     same_rest cs x y rest
+
+-- a text begins with one attribute of this name
+pub one_attribute : (name : ℕ) (text v w x y : List ℕ) → name ≢ 44 → Lacks 44 v → Lacks 44 w → text ≡ and_then (attribute (name ∷ []) v) x → text ≡ and_then (attribute (name ∷ []) w) y → (v ≡ w) × (x ≡ y)
+one_attribute name text v w x y other lv lw a b =
+    let same = one_cut 44 (attribute (name ∷ []) v) (attribute (name ∷ []) w) x y (attribute_lacks name v other lv) (attribute_lacks name w other lw) (sym a ∙ b) in
+    (same_rest (name ∷ 61 ∷ []) v w same.0, same.1)
+
+-- three texts between commas
+pub nested : (a b c : List ℕ) → and_then (and_then a b) c ≡ and_then a (and_then b c)
+nested a b c = append_assoc a (44 ∷ b) (44 ∷ c)
+
+-- texts that begin otherwise differ
+pub heads_differ : (a b : ℕ) (x y : List ℕ) → a ≢ b → a ∷ x ≡ b ∷ y → ⊥
+heads_differ a b x y other same = other (ap (λ (xs : List ℕ). get_or xs 0 0) same)
+
+-- the names of attributes are no commas
+pub c_isnt : ◌≡◌ {A = ℕ} 99 44 → ⊥
+c_isnt e = omega arith
+
+pub n_isnt : ◌≡◌ {A = ℕ} 110 44 → ⊥
+n_isnt e = omega arith
+
+pub r_isnt : ◌≡◌ {A = ℕ} 114 44 → ⊥
+r_isnt e = omega arith
+
+pub s_isnt : ◌≡◌ {A = ℕ} 115 44 → ⊥
+s_isnt e = omega arith

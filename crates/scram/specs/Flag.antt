@@ -8,3 +8,8 @@ use Rattle.scram.specs.declared.flag.Gs2Flag.TheVariants.{Unsupported, Unadverti
 abbrev pub gs2_header : Gs2Flag → List ℕ
 gs2_header Unsupported = codes "n,,"
 gs2_header Unadvertised = codes "y,,"
+
+-- the flag, and the comma after it
+abbrev pub gs2_start : Gs2Flag → List ℕ
+gs2_start Unsupported = codes "n,"
+gs2_start Unadvertised = codes "y,"

@@ -7,3 +7,8 @@ pub mod Values
 pub mod Decoded
 pub mod Exchange
 pub mod Nonces
+pub mod Client
+pub mod Server
+pub mod Headers
+pub mod Entry
+pub mod KeptText

@@ -3,15 +3,31 @@
 #![tactic(auto)]
 
 mod bytes;
+mod client;
+mod client_error;
+mod client_message;
 mod encoding;
+mod entry;
 mod flag;
 mod mac;
 mod messages;
 mod nonce;
 mod number;
 mod parts;
+mod salted;
+mod server;
+mod server_error;
+mod server_message;
 mod values;
+mod verifier;
 
+pub use client::{Challenge, ClientFirst, Expecting};
+pub use client_error::ClientError;
+pub use entry::{Entry, EntryError};
 pub use flag::Gs2Flag;
 pub use mac::{HmacKey, hi, hmac};
 pub use number::MAX_ITERATIONS;
+pub use salted::SaltedPassword;
+pub use server::{Challenged, Proved, Received};
+pub use server_error::ServerError;
+pub use verifier::Verifier;

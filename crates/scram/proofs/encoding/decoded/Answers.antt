@@ -4,7 +4,14 @@ use Rattle.scram.proofs.encoding.decoded.Goals as goal
 
 pub returns-in-Ok : goal.returns-in-Ok
 unfolding base64
-returns-in-Ok c = (c.in-Ok.ensures.bytes, c.in-Ok.ensures.exact (refl, refl))
+returns-in-Ok c = (
+  c.in-Ok.ensures.bytes,
+  c.in-Ok.ensures.exact (refl, refl),
+  λ other are is.
+      let both = c.in-Ok.ensures.strict (refl, refl) other are in
+      let same = sym (both.1 is) ∙ c.in-Ok.ensures.ok in
+      cc same,
+)
 
 pub returns-in-Err-DecodeError : goal.returns-in-Err-DecodeError
 unfolding base64
