@@ -1,12 +1,11 @@
 -- A server-first-message that may be accepted is.
-use Rattle.std.proofs.Common.{◌≡◌, ℕ, List, [], ◌∷◌, codes, Result, Ok, Err, sym, ◌∙◌, subst, arith, IsOkUnless, refl, ◌++◌}
+use Rattle.std.proofs.Common.{◌≡◌, ℕ, List, [], ◌∷◌, codes, Result, Ok, Err, sym, ◌∙◌, subst, arith, IsOkUnless, refl}
 use Rattle.std.specs.Fmt.{decimal}
-use Rattle.std.specs.List.{AllByRecursion}
 use Rattle.base64.specs.GeneralPurpose.{IsBytes}
 use Rattle.scram.specs.Base64.{base64}
 use Rattle.scram.specs.Client.{TellsAsked, HasFirst}
 use Rattle.scram.specs.Exchange.{Asked}
-use Rattle.scram.specs.Messages.{Lacks, IsPrintable, IsNonce, IsCount, attribute, and_then, server_first}
+use Rattle.scram.specs.Messages.{Lacks, IsPrintable, IsCount, attribute, and_then, server_first}
 use Rattle.scram.specs.Nonces.{Extends}
 use Rattle.scram.specs.declared.client_error.ClientError.{ClientError}
 use Rattle.scram.specs.declared.client_error.ClientError.TheVariants.{BadNonce, Malformed, Extension, OtherNonce, BadSalt, BadIterations, OtherSalt, Refused, BadSignature, Memory}

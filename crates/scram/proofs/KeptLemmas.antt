@@ -1,5 +1,5 @@
 -- An entry's text has one reading.
-use Rattle.std.proofs.Common.{◌≡◌, ◌<◌, ◌^◌, ℕ, List, ◌∷◌, ◌++◌, sym, ◌∙◌, arith}
+use Rattle.std.proofs.Common.{◌≡◌, ◌<◌, ◌^◌, ℕ, List, sym, ◌∙◌, arith}
 use Rattle.std.specs.Fmt.{decimal}
 use Rattle.scram.specs.Base64.{base64}
 use Rattle.scram.specs.Entry.{IsEntry, kept_text}

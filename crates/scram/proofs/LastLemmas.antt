@@ -1,10 +1,10 @@
 -- A client's messages that may be accepted are.
-use Rattle.std.proofs.Common.{◌≡◌, ◌≢◌, ◌<◌, ℕ, List, [], ◌∷◌, ◌++◌, codes, Result, Ok, Err, sym, ◌∙◌, ap, subst, arith, IsOkUnless, refl, append_assoc}
+use Rattle.std.proofs.Common.{◌≡◌, ◌≢◌, ℕ, List, [], ◌∷◌, ◌++◌, codes, Result, Ok, Err, sym, ◌∙◌, subst, arith, IsOkUnless, refl}
 use Rattle.scram.specs.Base64.{base64}
 use Rattle.scram.specs.Exchange.{Greeted, Asking}
 use Rattle.scram.specs.Flag.{gs2_header, gs2_start}
-use Rattle.scram.specs.Messages.{Lacks, attribute, and_then, client_first, client_first_bare, client_final}
-use Rattle.scram.specs.Server.{Begins, AsksBinding, AsksIdentity, AsksExtension, IsFirst, TellsGreeted, HasLast, HasFinal, IsDigest, Satisfies, TellsProved}
+use Rattle.scram.specs.Messages.{Lacks, attribute, and_then, client_first, client_final}
+use Rattle.scram.specs.Server.{AsksBinding, IsFirst, TellsGreeted, HasLast, HasFinal, IsDigest, Satisfies, TellsProved}
 use Rattle.scram.specs.declared.flag.Gs2Flag.{Gs2Flag}
 use Rattle.scram.specs.declared.flag.Gs2Flag.TheVariants.{Unsupported, Unadvertised}
 use Rattle.scram.specs.declared.server_error.ServerError.{ServerError}

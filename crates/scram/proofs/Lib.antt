@@ -6,3 +6,5 @@ pub mod KeptLemmas
 pub mod FirstLemmas
 pub mod LastLemmas
 pub mod OneLemmas
+pub mod ProofLemmas
+pub mod Utf8Lemmas

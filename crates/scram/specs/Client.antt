@@ -7,7 +7,7 @@ use Rattle.scram.specs.Base64.{base64}
 use Rattle.scram.specs.Exchange.{Salted, Asked, Claim}
 use Rattle.scram.specs.Messages.{Lacks, IsNonce, IsCount, attribute, and_then, client_first_bare, server_first, server_final, server_error, without_proof, client_final}
 use Rattle.scram.specs.Nonces.{Extends}
-use Rattle.scram.specs.Values.{auth_message, client_proof, server_key, server_signature}
+use Rattle.scram.specs.Values.{auth_message, client_proof, server_key, server_signature, stored_key, Proves}
 use Rattle.scram.specs.declared.flag.Gs2Flag.TheVariants.{Unsupported}
 use Rattle.scram.specs.declared.client_error.ClientError.{ClientError}
 use Rattle.scram.specs.declared.client_error.ClientError.TheVariants.{BadNonce, Malformed, Extension, OtherNonce, BadSalt, BadIterations, OtherSalt, Refused, BadSignature, Memory}
@@ -80,6 +80,7 @@ TellsClaim asked salted (Ok claim) =
     IsFor salted asked
     × (claim.message ≡ client_final Unsupported asked.nonce (client_proof salted.key (asked_message asked)))
     × (claim.signature ≡ server_signature (server_key salted.key) (asked_message asked))
+    × Proves (stored_key salted.key) (asked_message asked) (client_proof salted.key (asked_message asked))
 TellsClaim asked salted (Err OtherSalt) = ¬ (IsFor salted asked)
 TellsClaim asked salted (Err Memory) = Unit {0}
 TellsClaim asked salted (Err BadNonce) = ⊥

@@ -1,6 +1,6 @@
 -- An entry as PostgreSQL keeps it in `pg_authid.rolpassword` (manual, "pg_authid"; RFC 5803 in part):
 -- SCRAM-SHA-256$<iterations>:<salt>$<StoredKey>:<ServerKey>, the last three in base64.
-use Rattle.std.specs.Prelude.{ℕ, ◌≡◌, ◌≢◌, true, List, ◌∷◌, ◌++◌, codes, take, length, Result, Ok, Err}
+use Rattle.std.specs.Prelude.{ℕ, ◌≡◌, ◌≢◌, true, List, ◌∷◌, ◌++◌, codes, take, Result, Ok, Err}
 use Rattle.std.specs.Fmt.{decimal}
 use Rattle.base64.specs.GeneralPurpose.{IsBytes}
 use Rattle.scram.specs.Base64.{base64}

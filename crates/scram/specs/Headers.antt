@@ -1,5 +1,5 @@
 -- Why a text has no gs2-header that is accepted (internal).
-use Rattle.std.specs.Prelude.{ℕ, ◌≡◌, ◌≢◌, ◌++◌, List}
+use Rattle.std.specs.Prelude.{ℕ, ◌≢◌, ◌++◌, List}
 use Rattle.scram.specs.Flag.{gs2_header}
 use Rattle.scram.specs.Server.{AsksBinding, AsksIdentity}
 use Rattle.scram.specs.declared.flag.Gs2Flag.{Gs2Flag}

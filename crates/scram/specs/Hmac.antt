@@ -1,7 +1,7 @@
 -- HMAC (RFC 2104) and Hi, which is PBKDF2 of one block (RFC 5802, section 2.2; RFC 8018, section
 -- 5.2), over H, which is SHA-256 (FIPS 180-4, as the kit's `sha2` defines it). H has blocks of 64
 -- bytes, and digests of 32. A text is a list of bytes.
-use Rattle.std.specs.Prelude.{ℕ, zero, suc, ◌-◌, ◌<◌, List, [], ◌∷◌, ◌++◌, length, replicate, map, bit_xor, nat_lt, if◌then◌else◌}
+use Rattle.std.specs.Prelude.{ℕ, zero, suc, ◌-◌, List, [], ◌∷◌, ◌++◌, length, replicate, map, bit_xor, nat_lt, if◌then◌else◌}
 use Rattle.sha2.specs.Sha256.{sha256}
 
 -- XOR of two texts, byte by byte, as long as the shorter

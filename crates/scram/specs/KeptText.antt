@@ -1,7 +1,5 @@
 -- The text of an entry after its method's name, as it is read (internal).
 use Rattle.std.specs.Prelude.{ℕ, ◌≡◌, ◌≢◌, List, ◌∷◌, ◌++◌, Option, None, Some}
-use Rattle.std.specs.Fmt.{decimal}
-use Rattle.scram.specs.Base64.{base64}
 use Rattle.scram.specs.Entry.{IsEntry, kept_text}
 use Rattle.scram.specs.Exchange.{Kept}
 use Rattle.scram.specs.Messages.{Lacks}

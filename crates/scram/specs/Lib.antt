@@ -12,3 +12,4 @@ pub mod Server
 pub mod Headers
 pub mod Entry
 pub mod KeptText
+pub mod Prepare

@@ -1,6 +1,6 @@
 -- The four messages of an exchange (RFC 5802, section 7), as PostgreSQL has them: no channel is
 -- bound, and no message has an extension.
-use Rattle.std.specs.Prelude.{ℕ, ◌≡◌, ◌≢◌, ◌<◌, ◌≤◌, List, [], ◌∷◌, ◌++◌, codes, length}
+use Rattle.std.specs.Prelude.{ℕ, ◌≢◌, ◌≤◌, List, [], ◌∷◌, ◌++◌, codes}
 use Rattle.std.specs.List.{AllByRecursion}
 use Rattle.std.specs.Fmt.{decimal}
 use Rattle.scram.specs.Base64.{base64}

@@ -1,6 +1,6 @@
 -- What a server reads and answers (RFC 5802, sections 5 and 7; which requests are refused and how is
 -- as in PostgreSQL's auth-scram.c). `Tells..` says by cases which result a text has.
-use Rattle.std.specs.Prelude.{ℕ, ◌≡◌, ◌≢◌, ◌++◌, ◌⊎◌, false, List, codes, length, Result, Ok, Err}
+use Rattle.std.specs.Prelude.{ℕ, ◌≡◌, ◌≢◌, ◌++◌, false, List, codes, length, Result, Ok, Err}
 use Rattle.base64.specs.GeneralPurpose.{IsBytes}
 use Rattle.scram.specs.Base64.{base64}
 use Rattle.scram.specs.Exchange.{Verified, Greeted, Asking}

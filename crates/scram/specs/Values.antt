@@ -1,5 +1,5 @@
 -- The values of an exchange (RFC 5802, section 3), with SHA-256 as H (RFC 7677, section 3).
-use Rattle.std.specs.Prelude.{ℕ, ◌≡◌, List, ◌∷◌, ◌++◌, codes}
+use Rattle.std.specs.Prelude.{ℕ, ◌≡◌, List, codes}
 use Rattle.sha2.specs.Sha256.{sha256}
 use Rattle.scram.specs.Hmac.{hi, hmac, xor_bytes}
 use Rattle.scram.specs.Messages.{and_then}

@@ -14,10 +14,14 @@ mod messages;
 mod nonce;
 mod number;
 mod parts;
+mod preparation;
 mod salted;
 mod server;
 mod server_error;
 mod server_message;
+mod tables;
+#[cfg(test)]
+mod tests;
 mod values;
 mod verifier;
 
@@ -27,6 +31,7 @@ pub use entry::{Entry, EntryError};
 pub use flag::Gs2Flag;
 pub use mac::{HmacKey, hi, hmac};
 pub use number::MAX_ITERATIONS;
+pub use preparation::prepare;
 pub use salted::SaltedPassword;
 pub use server::{Challenged, Proved, Received};
 pub use server_error::ServerError;

@@ -29,7 +29,10 @@ pub fn server_key(salted: &[u8; 32]) -> [u8; 32]
 
 /// ClientProof of a salted password, for an AuthMessage.
 pub fn client_proof(salted: &[u8; 32], auth_message: &[u8]) -> [u8; 32]
-    ensures { result ≡ client_proof_of salted.now auth_message.now }
+    ensures proof { result ≡ client_proof_of salted.now auth_message.now }
+    // Whoever keeps StoredKey of the same salted password accepts it.
+    ensures right { Proves (stored_key_of salted.now) auth_message.now
+        (client_proof_of salted.now auth_message.now) }
 {
     let key = client_key(salted);
     let stored = Sha256::digest(key);

@@ -1,4 +1,4 @@
-use Rattle.std.proofs.Common.{◌≡◌, ℕ, List, length, arith, ap, eq-eqb, sym}
+use Rattle.std.proofs.Common.{length, arith, eq-eqb}
 use Rattle.std.proofs.lemmas.Bool.{eqb-true}
 use Rattle.scram.proofs.BytesLemmas.{differences_more, same_texts}
 use Rattle.scram.proofs.bytes.same.Goals as goal

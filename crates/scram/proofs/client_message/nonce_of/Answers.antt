@@ -1,4 +1,4 @@
-use Rattle.std.proofs.Common.{sym, ◌∙◌, ◌≡◌, subst, [], ◌∷◌}
+use Rattle.std.proofs.Common.{sym, ◌∙◌, subst, [], ◌∷◌}
 use Rattle.scram.specs.Messages.{IsNonce}
 use Rattle.scram.proofs.PartsLemmas.{always_none, one_attribute, same_rest, n_isnt}
 use Rattle.scram.proofs.client_message.nonce_of.Goals as goal

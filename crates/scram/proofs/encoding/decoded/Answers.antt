@@ -1,4 +1,4 @@
-use Rattle.std.proofs.Common.{◌≡◌, ◌∙◌, sym, refl}
+use Rattle.std.proofs.Common.{◌∙◌, sym, refl}
 use Rattle.scram.specs.Base64.{base64}
 use Rattle.scram.proofs.encoding.decoded.Goals as goal
 

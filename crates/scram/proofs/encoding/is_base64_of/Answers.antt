@@ -1,4 +1,4 @@
-use Rattle.std.proofs.Common.{◌≡◌, ◌≤◌, ◌++◌, ◌∙◌, List, ℕ, length, drop, replicate, sym, ap, subst, refl, lit≤}
+use Rattle.std.proofs.Common.{◌≤◌, ◌++◌, ◌∙◌, ℕ, drop, replicate, sym, ap, subst, lit≤}
 use Rattle.std.proofs.lemmas.List.{append-nil}
 use Rattle.base64.specs.Engines.{standard}
 use Rattle.base64.specs.GeneralPurpose.{encoded_size_of, encode_of}

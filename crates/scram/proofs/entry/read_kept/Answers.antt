@@ -1,4 +1,3 @@
-use Rattle.std.proofs.Common.{sym, ◌∙◌, ◌≡◌}
 use Rattle.scram.proofs.KeptLemmas.{kept_parts, one_kept}
 use Rattle.scram.proofs.entry.read_kept.Goals as goal
 

@@ -1,4 +1,4 @@
-use Rattle.std.proofs.Common.{◌≡◌, ◌++◌, ◌-◌, List, ℕ, ap, ◌∙◌, length, replicate, drop}
+use Rattle.std.proofs.Common.{◌++◌, List, ℕ, ap, ◌∙◌, length, replicate, drop}
 use Rattle.std.proofs.lemmas.List.{drop-replicate}
 use Rattle.scram.proofs.mac.filled.Goals as goal
 

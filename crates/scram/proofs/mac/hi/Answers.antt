@@ -1,5 +1,5 @@
-use Rattle.std.proofs.Common.{ℕ, List, ◌≡◌, ◌-◌, ◌+◌, refl, sym, ap, ◌∙◌, subst, arith, lit≤}
-use Rattle.scram.specs.Hmac.{hmac, u_of, xor_of_first, xor_bytes}
+use Rattle.std.proofs.Common.{ℕ, ◌≡◌, ◌-◌, ap, ◌∙◌, arith}
+use Rattle.scram.specs.Hmac.{hmac, xor_of_first}
 use Rattle.scram.proofs.HiLemmas.{one_more_u, one_more_xor, only_first}
 use Rattle.scram.proofs.mac.hi.Goals as goal
 

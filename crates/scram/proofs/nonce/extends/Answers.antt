@@ -1,4 +1,4 @@
-use Rattle.std.proofs.Common.{◌≡◌, ◌∙◌, sym, subst}
+use Rattle.std.proofs.Common.{◌∙◌, sym, subst}
 use Rattle.scram.specs.Messages.{IsNonce}
 use Rattle.scram.proofs.PartsLemmas.{same_rest}
 use Rattle.scram.proofs.nonce.extends.Goals as goal

@@ -1,4 +1,4 @@
-use Rattle.std.proofs.Common.{◌≡◌, ◌∙◌, sym, List, ℕ, [], ◌∷◌}
+use Rattle.std.proofs.Common.{◌∙◌, sym, [], ◌∷◌}
 use Rattle.scram.specs.Messages.{attribute}
 use Rattle.scram.proofs.PartsLemmas.{always_none, attribute_lacks, one_cut}
 use Rattle.scram.proofs.parts.attribute_at.Goals as goal

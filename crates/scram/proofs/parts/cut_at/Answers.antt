@@ -1,4 +1,4 @@
-use Rattle.std.proofs.Common.{◌≡◌, ◌∙◌, sym, subst, List, ℕ}
+use Rattle.std.proofs.Common.{sym, subst, List, ℕ}
 use Rattle.scram.specs.Messages.{Lacks}
 use Rattle.scram.proofs.PartsLemmas.{always_none, no_cut, cut_here, parts_of, respelled}
 use Rattle.scram.proofs.parts.cut_at.Goals as goal

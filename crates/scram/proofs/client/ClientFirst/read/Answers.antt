@@ -1,4 +1,4 @@
-use Rattle.std.proofs.Common.{◌≡◌, List, ℕ, subst}
+use Rattle.std.proofs.Common.{subst}
 use Rattle.scram.specs.Messages.{IsNonce}
 use Rattle.scram.proofs.FirstLemmas.{first_accepted, extended_lacks}
 use Rattle.scram.proofs.client.ClientFirst.read.Goals as goal

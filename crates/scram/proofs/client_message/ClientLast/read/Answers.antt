@@ -1,4 +1,3 @@
-use Rattle.std.proofs.Common.{sym, ◌∙◌}
 use Rattle.scram.proofs.LastLemmas.{spelled_out}
 use Rattle.scram.proofs.PartsLemmas.{always_none, one_attribute, c_isnt, r_isnt}
 use Rattle.scram.proofs.client_message.ClientLast.read.Goals as goal

@@ -1,5 +1,5 @@
-use Rattle.std.proofs.Common.{sym, ◌∙◌, ◌≡◌}
-use Rattle.scram.specs.Entry.{method, kept_text}
+use Rattle.std.proofs.Common.{sym, ◌∙◌}
+use Rattle.scram.specs.Entry.{method}
 use Rattle.scram.proofs.PartsLemmas.{same_rest}
 use Rattle.scram.proofs.entry.Entry.read.Goals as goal
 

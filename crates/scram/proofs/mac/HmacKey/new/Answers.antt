@@ -1,6 +1,6 @@
-use Rattle.std.proofs.Common.{◌≡◌, List, ℕ, sym, ap, ◌∙◌, subst, map, bit_xor}
+use Rattle.std.proofs.Common.{List, ℕ, ap, ◌∙◌, subst, map, bit_xor}
 use Rattle.sha2.specs.Hashers.{Holds256}
-use Rattle.scram.specs.Hmac.{key_pad, key_block}
+use Rattle.scram.specs.Hmac.{key_pad}
 use Rattle.scram.proofs.mac.HmacKey.new.Goals as goal
 
 pub returns : goal.returns

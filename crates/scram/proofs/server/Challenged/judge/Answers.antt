@@ -1,4 +1,3 @@
-use Rattle.std.proofs.Common.{sym, ◌∙◌, ◌≡◌}
 use Rattle.scram.proofs.LastLemmas.{one_last}
 use Rattle.scram.proofs.server.Challenged.judge.Goals as goal
 

@@ -1,4 +1,3 @@
-use Rattle.std.proofs.Common.{sym, ◌∙◌}
 use Rattle.scram.proofs.PartsLemmas.{always_none, one_attribute, r_isnt, s_isnt}
 use Rattle.scram.proofs.server_message.ServerFirst.read.Goals as goal
 
