@@ -127,6 +127,7 @@ pub struct Challenge {
 
 impl Model for Challenge {
     ghost use Rattle.scram.specs.Exchange.{Asked};
+    ghost use Rattle.scram.specs.Messages.{IsCount};
 
     ghost Value = { Asked };
 
@@ -137,10 +138,13 @@ impl Model for Challenge {
       salt = c.salt.items;
       iterations = c.iterations;
     } };
+
+    ghost invariant = { λ c. IsCount c.iterations };
 }
 
 impl Challenge {
     ghost use Rattle.scram.specs.Client.{TellsClaim};
+    ghost use Rattle.scram.specs.Messages.{IsCount};
 
     /// The salt that the server asks for.
     pub fn salt(&self) -> &[u8]
@@ -151,7 +155,8 @@ impl Challenge {
 
     /// The count of iterations that the server asks for, from 1 to a million.
     pub fn iterations(&self) -> u32
-        ensures { result ≡ self.now.iterations }
+        ensures is { result ≡ self.now.iterations }
+        ensures range { IsCount result }
     {
         self.iterations
     }

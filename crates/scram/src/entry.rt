@@ -49,6 +49,7 @@ pub struct Entry {
 
 impl Model for Entry {
     ghost use Rattle.scram.specs.Exchange.{Kept};
+    ghost use Rattle.scram.specs.Messages.{IsCount};
 
     ghost Value = { Kept };
 
@@ -58,10 +59,13 @@ impl Model for Entry {
       stored_key = e.stored_key;
       server_key = e.server_key;
     } };
+
+    ghost invariant = { λ e. IsCount e.iterations };
 }
 
 impl Entry {
     ghost use Rattle.scram.specs.Entry.{TellsEntry, entry_of, entry_text};
+    ghost use Rattle.scram.specs.Messages.{IsCount};
 
     /// The entry of a salted password.
     pub fn of(alloc: Global, salted: &SaltedPassword) -> Result<Entry, AllocError>
@@ -114,7 +118,8 @@ impl Entry {
 
     /// The count of iterations.
     pub fn iterations(&self) -> u32
-        ensures { result ≡ self.now.iterations }
+        ensures is { result ≡ self.now.iterations }
+        ensures range { IsCount result }
     {
         self.iterations
     }
@@ -135,6 +140,7 @@ impl Entry {
 
     /// An entry whose keys are zeros.
     pub(crate) fn nobody(alloc: Global, salt: &[u8], iterations: u32) -> Result<Entry, AllocError>
+        requires { IsCount iterations }
         ensures { IfOk result (λ entry. (entry.salt ≡ salt.now) × (entry.iterations ≡ iterations)) }
     {
         let salt = Vec::from_slice(alloc, salt)?;

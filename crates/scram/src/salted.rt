@@ -17,10 +17,13 @@ pub struct SaltedPassword {
 
 impl Model for SaltedPassword {
     ghost use Rattle.scram.specs.Exchange.{Salted};
+    ghost use Rattle.scram.specs.Messages.{IsCount};
 
     ghost Value = { Salted };
 
     ghost view = { λ s. record { salt = s.salt.items; iterations = s.iterations; key = s.key } };
+
+    ghost invariant = { λ s. IsCount s.iterations };
 }
 
 impl SaltedPassword {
@@ -59,7 +62,8 @@ impl SaltedPassword {
 
     /// The count of iterations.
     pub fn iterations(&self) -> u32
-        ensures { result ≡ self.now.iterations }
+        ensures is { result ≡ self.now.iterations }
+        ensures range { IsCount result }
     {
         self.iterations
     }
