@@ -13,3 +13,4 @@ pub mod Headers
 pub mod Entry
 pub mod KeptText
 pub mod Prepare
+pub mod SaltedOf

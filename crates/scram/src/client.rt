@@ -222,6 +222,10 @@ impl Expecting {
 }
 
 impl fmt::Debug for Expecting {
+    ghost use Rattle.std.specs.Prelude.{Some, codes};
+
+    ghost debug_output = { λ _. Some (codes "Expecting(..)") };
+
     fn fmt<W: fmt::Write>(&self, f: &mut fmt::Formatter<W>) -> fmt::Result {
         f.write_str("Expecting(..)")
     }

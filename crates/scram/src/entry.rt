@@ -209,6 +209,10 @@ impl<'a> EntryText<'a> {
 }
 
 impl fmt::Debug for Entry {
+    ghost use Rattle.std.specs.Prelude.{Some, codes};
+
+    ghost debug_output = { λ _. Some (codes "Entry(..)") };
+
     fn fmt<W: fmt::Write>(&self, f: &mut fmt::Formatter<W>) -> fmt::Result {
         f.write_str("Entry(..)")
     }

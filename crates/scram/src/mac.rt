@@ -39,6 +39,10 @@ impl HmacKey {
 }
 
 impl fmt::Debug for HmacKey {
+    ghost use Rattle.std.specs.Prelude.{Some, codes};
+
+    ghost debug_output = { λ _. Some (codes "HmacKey(..)") };
+
     fn fmt<W: fmt::Write>(&self, f: &mut fmt::Formatter<W>) -> fmt::Result {
         f.write_str("HmacKey(..)")
     }

@@ -2,6 +2,7 @@
 ghost use Rattle.std.specs.Prelude.{◌≡◌, IfOk};
 
 use crate::mac::hi;
+use crate::preparation::prepare;
 use std::alloc::{AllocError, Global};
 use std::fmt;
 use std::marker::Model;
@@ -27,6 +28,7 @@ impl Model for SaltedPassword {
 }
 
 impl SaltedPassword {
+    ghost use Rattle.scram.specs.SaltedOf.{IsSaltedOf};
     ghost use Rattle.scram.specs.Values.{salted_password};
     ghost use Rattle.scram.specs.Messages.{IsCount};
 
@@ -53,6 +55,21 @@ impl SaltedPassword {
         })
     }
 
+    /// The salted password of a password, which is prepared first. It takes `iterations` rounds of
+    /// HMAC.
+    pub fn of_password(
+        alloc: Global,
+        password: &[u8],
+        salt: &[u8],
+        iterations: u32,
+    ) -> Result<SaltedPassword, AllocError>
+        requires { IsCount iterations }
+        ensures { IfOk result (λ salted. IsSaltedOf password.now salt.now iterations salted) }
+    {
+        let prepared = prepare(alloc, password)?;
+        SaltedPassword::new(alloc, &prepared, salt, iterations)
+    }
+
     /// The salt.
     pub fn salt(&self) -> &[u8]
         ensures { result.now ≡ self.now.salt }
@@ -77,6 +94,10 @@ impl SaltedPassword {
 }
 
 impl fmt::Debug for SaltedPassword {
+    ghost use Rattle.std.specs.Prelude.{Some, codes};
+
+    ghost debug_output = { λ _. Some (codes "SaltedPassword(..)") };
+
     fn fmt<W: fmt::Write>(&self, f: &mut fmt::Formatter<W>) -> fmt::Result {
         f.write_str("SaltedPassword(..)")
     }

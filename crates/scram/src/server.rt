@@ -189,6 +189,10 @@ impl Challenged {
 }
 
 impl fmt::Debug for Challenged {
+    ghost use Rattle.std.specs.Prelude.{Some, codes};
+
+    ghost debug_output = { λ _. Some (codes "Challenged(..)") };
+
     fn fmt<W: fmt::Write>(&self, f: &mut fmt::Formatter<W>) -> fmt::Result {
         f.write_str("Challenged(..)")
     }
