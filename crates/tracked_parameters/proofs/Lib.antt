@@ -1,0 +1,6 @@
+pub mod TextLemmas
+pub mod PlaceLemmas
+pub mod NameLemmas
+pub mod ValueLemmas
+pub mod ConstantLemmas
+pub mod SettingLemmas
