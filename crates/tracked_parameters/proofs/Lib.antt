@@ -4,3 +4,5 @@ pub mod NameLemmas
 pub mod ValueLemmas
 pub mod ConstantLemmas
 pub mod SettingLemmas
+pub mod OptionLemmas
+pub mod ReportLemmas

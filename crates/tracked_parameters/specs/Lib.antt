@@ -4,3 +4,7 @@ pub mod Values
 pub mod Constant
 pub mod Settings
 pub mod Stored
+pub mod Options
+pub mod Asked
+pub mod Reported
+pub mod StoredReports

@@ -35,7 +35,8 @@ impl Model for Values {
 impl Values {
     /// A place for each name, with no value.
     pub fn new(alloc: Global, names: &TrackedNames) -> Result<Values, AllocError>
-        ensures { IfOk result (λ values. values ≡ no_values names.now) }
+        ensures values { IfOk result (λ values. values ≡ no_values names.now) }
+        ensures fit { IfOk result (λ values. Fit names.now values) }
     {
         let values = unknown(alloc, names.len())?;
         Ok(Values { values })
@@ -47,6 +48,7 @@ impl Values {
         requires text { HasNoZero setting.value.now }
         ensures ok { OnOk result (self.new ≡ noted names.now (told setting.entry) self.old) }
         ensures err { OnErr result (self.new ≡ self.old) }
+        ensures fit { Fit names.now self.new }
     {
         let Some(place) = names.place_of(setting.name) else {
             return Ok(());
