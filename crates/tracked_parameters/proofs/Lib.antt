@@ -6,3 +6,4 @@ pub mod ConstantLemmas
 pub mod SettingLemmas
 pub mod OptionLemmas
 pub mod ReportLemmas
+pub mod ReadingLemmas

@@ -12,6 +12,7 @@ use Rattle.tracked_parameters.specs.Names.{is_name, is_name_byte, AreNames}
 use Rattle.tracked_parameters.specs.Values.{Agree, IsText, AreTexts}
 use Rattle.tracked_parameters.specs.Settings.{difference, differing, IsSetting, AreSettings, IsPrintable, IsSettingsQuery, query}
 use Rattle.tracked_parameters.specs.Stored.{is_there, all_there, piece, written, next, joined, all_written}
+use Rattle.tracked_parameters.proofs.ReadingLemmas.{one_reading}
 use Rattle.tracked_parameters.proofs.ConstantLemmas.{all_append, all_printable, constant_printable, constant_closed, constant_reads}
 
 in_range : (low high byte : ℕ) → is_in_range low high byte ≡ true → 32 ≤ low → high < 127 → IsPrintable byte
@@ -64,6 +65,7 @@ written_is report is = record {
   inside = flat_map piece report.value;
   spelled = refl;
   reads = constant_reads report.value is.1;
+  only = λ value reads. one_reading value report.value (flat_map piece report.value) reads (constant_reads report.value is.1);
   closed = constant_closed report.value is.1;
 }
 

@@ -20,12 +20,13 @@ differing (name ∷ names) (value ∷ wanted) [] = []
 differing (name ∷ names) (value ∷ wanted) (there ∷ present) =
     difference name value there ++ differing names wanted present
 
--- the text sets this parameter to this value. In the constant no quote stands before the one that
--- ends it
+-- the text sets this parameter to this value, and its constant reads as no other. In it no quote
+-- stands before the one that ends it
 pub record IsSetting (setting : Report) (text : List ℕ) : Type 0 where
   pub inside : List ℕ
   pub spelled : text ≡ codes "SET " ++ (setting.name ++ (codes " = E'" ++ (inside ++ codes "'")))
   pub reads : ReadsAs setting.value inside
+  pub only : (value : List ℕ) → ReadsAs value inside → value ≡ setting.value
   pub closed : AllByRecursion (λ byte. byte ≢ 39) inside
 
 -- the text has these settings, in order, and nothing else

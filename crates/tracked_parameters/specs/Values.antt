@@ -1,6 +1,6 @@
 -- Values of the parameters that are tracked, of each in the order of the names, or none where none
 -- is known (own).
-use Rattle.std.specs.Prelude.{ℕ, ◌≡◌, ◌≢◌, ◌<◌, List, [], ◌∷◌, length, get_or, slice_set, replicate, Option, Some, None, IfSome, IsNone, option_and_then}
+use Rattle.std.specs.Prelude.{ℕ, ◌≡◌, ◌≢◌, ◌<◌, List, [], ◌∷◌, ◌++◌, take, drop, length, get_or, slice_set, replicate, Option, Some, None, IfSome, IsNone, option_and_then}
 use Rattle.std.specs.List.{AllByRecursion, position_from}
 use Rattle.startup.specs.Replies.{Report}
 use Rattle.tracked_parameters.specs.Names.{alike}
@@ -45,3 +45,19 @@ Agree [] present = Unit {0}
 Agree (value ∷ wanted) [] = IsNone value × Agree wanted []
 Agree (value ∷ wanted) (there ∷ present) =
     IfSome value (λ v. there ≡ Some v) × Agree wanted present
+
+-- a value that is wanted, as a connection has it, if it has one
+abbrev pub adopted_one : Option (List ℕ) → Option (List ℕ) → Option (List ℕ)
+adopted_one None there = None
+adopted_one (Some value) None = Some value
+adopted_one (Some value) (Some there) = Some there
+
+-- the values that are wanted, as a connection has them
+abbrev pub adopted : List (Option (List ℕ)) → List (Option (List ℕ)) → List (Option (List ℕ))
+adopted [] present = []
+adopted (value ∷ wanted) [] = value ∷ wanted
+adopted (value ∷ wanted) (there ∷ present) = adopted_one value there ∷ adopted wanted present
+
+-- the same for the first so many of them
+abbrev pub adopted_first : ℕ → List (Option (List ℕ)) → List (Option (List ℕ)) → List (Option (List ℕ))
+adopted_first count wanted present = take count (adopted wanted present) ++ drop count wanted

@@ -11,6 +11,8 @@ mod query;
 mod reported;
 mod setting;
 mod stored;
+#[cfg(test)]
+mod tests;
 mod value;
 mod values;
 

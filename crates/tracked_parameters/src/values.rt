@@ -1,8 +1,8 @@
 //! Values of the parameters that are tracked.
-ghost use Rattle.std.specs.Prelude.{◌≡◌, ◌<◌, ◌↔◌, length, get_or, replicate, slice_set, Some, None, IfOk, OnOk, OnErr, IsTrue};
+ghost use Rattle.std.specs.Prelude.{◌≡◌, ◌<◌, ◌↔◌, ℕ, length, get_or, replicate, slice_set, Some, None, IfSome, IfOk, OnOk, OnErr, IsTrue};
 ghost use Rattle.std.specs.Option.{option_map};
 ghost use Rattle.startup.specs.StartupMessage.{HasNoZero};
-ghost use Rattle.tracked_parameters.specs.Values.{Fit, Agree, AreTexts, no_values, value_of, noted};
+ghost use Rattle.tracked_parameters.specs.Values.{Fit, Agree, AreTexts, no_values, value_of, noted, adopted, adopted_one, adopted_first};
 ghost use Rattle.tracked_parameters.specs.Status.{told};
 ghost use Rattle.tracked_parameters.specs.Stored.{all_kept, kept, is_there};
 
@@ -69,9 +69,43 @@ impl Values {
     /// The value of a parameter, if it is tracked and its value is known.
     pub fn get(&self, names: &TrackedNames, name: &[u8]) -> Option<&[u8]>
         requires { Fit names.now self.now }
-        ensures { option_map (λ value. value.now) result ≡ value_of names.now self.now name.now }
+        ensures value { option_map (λ value. value.now) result
+            ≡ value_of names.now self.now name.now }
+        ensures text { IfSome result (λ value. HasNoZero value.now) }
     {
         self.at(names.place_of(name)?)
+    }
+
+    /// Takes over how a server connection spells the values that are wanted: once it has accepted
+    /// them, what it has is what is wanted. An `Err` leaves some taken over, and the rest as they were.
+    pub fn adopt(&mut self, present: &Values) -> Result<(), AllocError>
+        requires { length self.old ≡ length present.now }
+        ensures ok { OnOk result (self.new ≡ adopted self.old present.now) }
+        ensures err { OnErr result ((count : ℕ)
+            × (self.new ≡ adopted_first count self.old present.now)) }
+        ensures length { length self.new ≡ length self.old }
+    {
+        for place in 0..present.len() {
+            self.adopt_at(place, present)?;
+        }
+        Ok(())
+    }
+
+    // The same at one place. An `Err` changes nothing.
+    fn adopt_at(&mut self, place: usize, present: &Values) -> Result<(), AllocError>
+        requires within { place < length self.old }
+        requires same { length self.old ≡ length present.now }
+        ensures ok { OnOk result (self.new ≡ slice_set self.old place
+            (adopted_one (get_or self.old place None) (get_or present.now place None))) }
+        ensures err { OnErr result (self.new ≡ self.old) }
+    {
+        if self.at(place).is_none() {
+            return Ok(());
+        }
+        let Some(value) = present.at(place) else {
+            return Ok(());
+        };
+        self.set(place, value)
     }
 
     /// How many places there are. Each value is bytes of which none is zero.
@@ -85,7 +119,8 @@ impl Values {
     /// The value of the parameter at this place.
     pub(crate) fn at(&self, place: usize) -> Option<&[u8]>
         requires { place < length self.now }
-        ensures { option_map (λ value. value.now) result ≡ get_or self.now place None }
+        ensures value { option_map (λ value. value.now) result ≡ get_or self.now place None }
+        ensures text { IfSome result (λ value. HasNoZero value.now) }
     {
         self.values[place].get()
     }

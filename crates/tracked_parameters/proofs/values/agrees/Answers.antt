@@ -10,7 +10,7 @@ returns-then-not-is_there c =
     let present = c.args.present.now in
     let place = c.loop-place.place in
     let missing : is_there (get_or wanted place None) (get_or present place None) ≡ false =
-    missing_at _ _ _ _ c.at.ensures c.at-in-loop-place.ensures c.if-not-is_there.ensures in
+    missing_at _ _ _ _ c.at.ensures.value c.at-in-loop-place.ensures.value c.if-not-is_there.ensures in
     agree_iff wanted present false (sym (sym c.loop-place.invariant ∙ there_more wanted present place (omega arith) c.requires
     ∙ ap (λ (b : Bool). b && all_there (drop (place + 1) wanted) (drop (place + 1) present)) missing))
 
