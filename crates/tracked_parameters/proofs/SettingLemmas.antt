@@ -1,5 +1,5 @@
 -- The text of a settings query.
-use Rattle.std.proofs.Common.{◌≡◌, ◌∙◌, ◌≢◌, ℕ, ◌+◌, ◌<◌, ◌≤◌, ◌==◌, ◌⊎◌, ◌↔◌, Bool, true, false, ◌||◌, ◌&&◌, IsTrue, cond, nat_le, Option, Some, None, IfSome, IsNone, List, [], ◌∷◌, ◌++◌, length, get_or, drop, codes, refl, sym, ap, subst, inl, inr, arith, append_assoc}
+use Rattle.std.proofs.Common.{◌≡◌, ◌∙◌, ◌≢◌, ℕ, ◌+◌, ◌<◌, ◌≤◌, ◌==◌, ◌⊎◌, ◌↔◌, Bool, true, false, ◌||◌, ◌&&◌, IsTrue, cond, nat_le, Option, Some, None, IfSome, IsNone, List, [], ◌∷◌, ◌++◌, length, get_or, drop, codes, refl, sym, ap, subst, inl, inr, arith, append_assoc, ◌^◌}
 use Rattle.std.specs.List.{AllByRecursion, list_all, flat_map}
 use Rattle.std.specs.Str.{bytes_eq}
 use Rattle.std.specs.Char.{is_ascii_alphanumeric}
@@ -95,9 +95,9 @@ behind_printable (report ∷ reports) all =
     (behind_printable reports all.1)
 
 -- what the settings of formed names and texts are written as
-query_is : (reports : List Report) → AllByRecursion IsFormed reports → reports ≢ [] → (bytes text : List ℕ) → text ≡ all_written reports → bytes ≡ query text → IsSettingsQuery reports bytes
-query_is [] all some bytes text is message = absurd (some refl)
-query_is (report ∷ reports) all some bytes text is message =
+query_is : (reports : List Report) → AllByRecursion IsFormed reports → reports ≢ [] → (bytes text : List ℕ) → text ≡ all_written reports → bytes ≡ query text → 5 + length text < 2 ^ 32 → IsSettingsQuery reports bytes
+query_is [] all some bytes text is message fits = absurd (some refl)
+query_is (report ∷ reports) all some bytes text is message fits =
     let whole : text ≡ written report ++ behind reports = is ∙ joined_is _ _ reports in
     record {
       text = text;
@@ -105,6 +105,7 @@ query_is (report ∷ reports) all some bytes text is message =
       are = subst (AreSettings (report ∷ reports)) (sym whole) (settings_are report reports all.0 all.1);
       printable = subst (AllByRecursion IsPrintable) (sym whole) (all_append IsPrintable (written report) (behind reports) (written_printable report all.0) (behind_printable reports all.1));
       message = message;
+      fits = fits;
     }
 
 one_formed : (name : List ℕ) (value there : Option (List ℕ)) → is_name name ≡ true → IfSome value IsText → AllByRecursion IsFormed (difference name value there)
@@ -150,10 +151,10 @@ nothing_differs (name ∷ names) (value ∷ wanted) (there ∷ present) lw lp no
     (one_agrees name value there parts.0, nothing_differs names wanted present (omega arith) (omega arith) parts.1)
 
 -- the query where not all that is wanted is there
-pub settings_query_is : (names : List (List ℕ)) (wanted present : List (Option (List ℕ))) (bytes text : List ℕ) → AreNames names → AreTexts wanted → length wanted ≡ length names → length present ≡ length names → (Agree wanted present → ⊥) → text ≡ all_written (differing names wanted present) → bytes ≡ query text → IsSettingsQuery (differing names wanted present) bytes
-settings_query_is names wanted present bytes text are texts lw lp differ is message =
+pub settings_query_is : (names : List (List ℕ)) (wanted present : List (Option (List ℕ))) (bytes text : List ℕ) → AreNames names → AreTexts wanted → length wanted ≡ length names → length present ≡ length names → (Agree wanted present → ⊥) → text ≡ all_written (differing names wanted present) → bytes ≡ query text → 5 + length text < 2 ^ 32 → IsSettingsQuery (differing names wanted present) bytes
+settings_query_is names wanted present bytes text are texts lw lp differ is message fits =
     query_is (differing names wanted present) (differing_formed names wanted present are.formed texts)
-    (λ none. differ (nothing_differs names wanted present lw lp none)) bytes text is message
+    (λ none. differ (nothing_differs names wanted present lw lp none)) bytes text is message fits
 
 -- those from a place on, of which the first is the one at the place
 pub differing_more : (names : List (List ℕ)) (wanted present : List (Option (List ℕ))) (place : ℕ) → place < length names → length wanted ≡ length names → length present ≡ length names

@@ -1,6 +1,6 @@
 -- The query that gives a server connection the values that are wanted (PostgreSQL manual, SET, and
 -- "Message Formats": Query). Which parameters it sets: `differing`. What its text is: `AreSettings`.
-use Rattle.std.specs.Prelude.{ℕ, ◌≡◌, ◌≢◌, ◌<◌, ◌≤◌, List, [], ◌∷◌, ◌++◌, codes, bytes_eq, if◌then◌else◌, Option, Some, None}
+use Rattle.std.specs.Prelude.{ℕ, ◌≡◌, ◌≢◌, ◌+◌, ◌^◌, ◌<◌, ◌≤◌, List, [], ◌∷◌, ◌++◌, codes, length, bytes_eq, if◌then◌else◌, Option, Some, None}
 use Rattle.std.specs.List.{AllByRecursion}
 use Rattle.startup.specs.Replies.{Report, message, zero_ended}
 use Rattle.tracked_parameters.specs.Constant.{ReadsAs}
@@ -45,10 +45,11 @@ IsPrintable byte = (32 ≤ byte) × (byte < 127)
 abbrev pub query : List ℕ → List ℕ
 query text = message 81 (zero_ended text)
 
--- the bytes are one Query message, which has these settings and sets nothing else
+-- the bytes are one Query message, whose length fits its field, which has these settings and sets nothing else
 pub record IsSettingsQuery (settings : List Report) (bytes : List ℕ) : Type 0 where
   pub text : List ℕ
   pub some : settings ≢ []
   pub are : AreSettings settings text
   pub printable : AllByRecursion IsPrintable text
   pub message : bytes ≡ query text
+  pub fits : 5 + length text < 2 ^ 32

@@ -1,5 +1,5 @@
 //! The query that gives a server connection the values that a client wants.
-ghost use Rattle.std.specs.Prelude.{◌≡◌, ◌≢◌, ◌<◌, ◌++◌, ◌∷◌, [], length, get_or, None, IfOk, OnOk, MatchOption};
+ghost use Rattle.std.specs.Prelude.{◌≡◌, ◌≢◌, ◌+◌, ◌^◌, ◌<◌, ◌++◌, ◌∷◌, [], length, get_or, None, IfOk, OnOk, MatchOption};
 ghost use Rattle.startup.specs.Replies.{zero_ended};
 ghost use Rattle.tracked_parameters.specs.Values.{Fit, Agree, AreTexts};
 ghost use Rattle.tracked_parameters.specs.Names.{AreNames};
@@ -102,7 +102,8 @@ fn push_setting(text: &mut Vec<u8>, setting: Setting<'_>) -> Result<(), AllocErr
 
 // The Query message with this text.
 fn query(alloc: Global, text: &[u8]) -> Result<Vec<u8>, AllocError>
-    ensures { IfOk result (λ bytes. bytes.items ≡ query text.now) }
+    ensures message { IfOk result (λ bytes. bytes.items ≡ query text.now) }
+    ensures fits { OnOk result (5 + length text.now < 2 ^ 32) }
 {
     let Some(length) = text.len().checked_add(5) else {
         return Err(AllocError);

@@ -14,7 +14,7 @@ use std::process::Abort;
 use std::test::Fail;
 
 // Values of which this one is known, as the body of a ParameterStatus has it.
-fn noted(alloc: Global, names: &TrackedNames, bodies: &[&[u8]]) -> Result<Values, Fail>
+fn noted<'a>(alloc: Global, names: &TrackedNames, bodies: &'a [&'a [u8]]) -> Result<Values, Fail>
     ensures { IfOk result (λ values. Fit names.now values) }
 {
     let mut values = Values::new(alloc, names)?;
