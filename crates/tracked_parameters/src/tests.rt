@@ -1,6 +1,4 @@
 //! Tables of names, values and texts.
-mod options;
-mod values;
 
 ghost use Rattle.std.specs.Prelude.{IfOk};
 ghost use Rattle.tracked_parameters.specs.Values.{Fit};
@@ -24,6 +22,14 @@ fn noted<'a>(alloc: Global, names: &TrackedNames, bodies: &'a [&'a [u8]]) -> Res
         }
     }
     Ok(values)
+}
+
+// Whether this value was found.
+fn is_value(found: Option<&[u8]>, expected: &[u8]) -> bool {
+    match found {
+        Some(value) => value == expected,
+        None => false,
+    }
 }
 
 // A connection without values gets this one of `application_name` by a query with this constant.
@@ -127,16 +133,10 @@ fn adopted(rt: HostRuntime) -> Result<(), Fail> {
     let mut wanted = noted(alloc, &names, &asked)?;
     let present = noted(alloc, &names, &there)?;
     wanted.adopt(&present)?;
-    assert_eq!(rt;
-        wanted.get(&names, b"DateStyle"),
-        Some(b"ISO, MDY".as_slice())
-    );
-    assert_eq!(rt; wanted.get(&names, b"timezone"), Some(b"UTC".as_slice()));
-    assert_eq!(rt;
-        wanted.get(&names, b"application_name"),
-        Some(b"x".as_slice())
-    );
-    assert_eq!(rt; wanted.get(&names, b"IntervalStyle"), None);
+    assert!(rt; is_value(wanted.get(&names, b"DateStyle"), b"ISO, MDY"));
+    assert!(rt; is_value(wanted.get(&names, b"timezone"), b"UTC"));
+    assert!(rt; is_value(wanted.get(&names, b"application_name"), b"x"));
+    assert!(rt; wanted.get(&names, b"IntervalStyle").is_none());
     assert!(rt; !agrees(&wanted, &present));
     Ok(())
 }
@@ -163,6 +163,13 @@ fn assert_refused(rt: &impl Abort, names: &mut TrackedNames, name: &str, error: 
     assert_eq!(rt; names.len(), before);
 }
 
+fn assert_name(rt: &impl Abort, names: &TrackedNames, place: usize, expected: &str) {
+    let Some(name) = names.get(place) else {
+        panic!(rt; "no name at {place}");
+    };
+    assert_eq!(rt; name, expected);
+}
+
 #[test]
 fn names(rt: HostRuntime) -> Result<(), Fail> {
     let mut names = TrackedNames::new(rt.alloc())?;
@@ -172,10 +179,10 @@ fn names(rt: HostRuntime) -> Result<(), Fail> {
     names.add("search_path")?;
     names.add("_my.Value2")?;
     assert_refused(&rt, &mut names, "_MY.value2", NameError::Twice);
-    assert_eq!(rt; names.get(0), Some("client_encoding"));
-    assert_eq!(rt; names.get(5), Some("application_name"));
-    assert_eq!(rt; names.get(7), Some("_my.Value2"));
-    assert_eq!(rt; names.get(8), None);
+    assert_name(&rt, &names, 0, "client_encoding");
+    assert_name(&rt, &names, 5, "application_name");
+    assert_name(&rt, &names, 7, "_my.Value2");
+    assert!(rt; names.get(8).is_none());
     assert_eq!(rt; names.place_of(b"Standard_Conforming_Strings"), Some(4));
     Ok(())
 }
