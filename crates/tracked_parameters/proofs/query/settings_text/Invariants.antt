@@ -1,0 +1,10 @@
+use Rattle.std.proofs.Common.{◌≡◌, drop}
+use Rattle.tracked_parameters.specs.Settings.{differing}
+use Rattle.tracked_parameters.specs.Stored.{joined, all_written}
+use Rattle.tracked_parameters.proofs.query.settings_text.Given as goal
+
+-- with what is left behind it the text is the whole one
+abbrev pub invariant-loop-place : goal.invariant-loop-place
+invariant-loop-place l =
+    joined l.text.items (differing (drop l.place l.names) (drop l.place l.wanted) (drop l.place l.present))
+    ≡ all_written (differing l.names l.wanted l.present)

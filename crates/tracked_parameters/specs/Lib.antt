@@ -1,0 +1,10 @@
+pub mod Names
+pub mod Status
+pub mod Values
+pub mod Constant
+pub mod Settings
+pub mod Stored
+pub mod Options
+pub mod Asked
+pub mod Reported
+pub mod StoredReports
