@@ -118,6 +118,16 @@ def main():
         "with a bad line in its settings it fails",
     )
     require((shown("ExecMainStatus"), shown("NRestarts")) == ("2", "0"), "and isn't started again")
+
+    for name in os.listdir(os.path.dirname(SETTINGS)):
+        os.remove(os.path.join(os.path.dirname(SETTINGS), name))
+    systemctl("reset-failed", "pgpeer")
+    systemctl("start", "pgpeer")
+    require(
+        wait_until(lambda: shown("ActiveState") == "failed", 20) is not None,
+        "without a settings file it fails",
+    )
+    require((shown("ExecMainStatus"), shown("NRestarts")) == ("2", "0"), "and isn't started again")
     print("all is as it should be")
 
 
