@@ -36,6 +36,14 @@ def send(port, data, ends=False):
     return stream
 
 
+def send_or_reset(port, data):
+    """The same, or none if the connection is reset before that."""
+    try:
+        return send(port, data)
+    except ConnectionResetError:
+        return None
+
+
 def read_all(stream, timeout):
     """All bytes that come, and how the connection ends."""
     deadline, came = time.monotonic() + timeout, b""
@@ -139,7 +147,7 @@ def first_packets_drain(t):
 @scenario("first-packets-full", limit=60)
 def first_packets_full(t):
     """a node without descriptors evicts connections, and then refuses them: no byte and a reset, or an error"""
-    server = FakeServer(t.port())
+    server = FakeServer(t.port(), on_cancel=hold_for(3600))
     pooler = Pooler(t, {"shop": server.port}, pool=2, clients=200, limits={"NOFILE": 80})
     streams = {what: send(pooler.port, data) for what, data in PARTS.items()}
     time.sleep(0.3)
@@ -152,6 +160,13 @@ def first_packets_full(t):
     time.sleep(0.5)
     clients, last = fill(pooler)
     t.note(f"{len(clients)} clients are logged in; the next: {last}")
+    clients[0].start("select pg_sleep(60)")
+    wait_until(lambda: server.is_running("select pg_sleep(60)"), 5)
+    asked = [send_or_reset(pooler.port, cancel_request(clients[0].key)) for _ in range(12)]
+    ends = collections.Counter(read_all(stream, 0.2) if stream else (b"", RESET) for stream in asked)
+    good = set(ends) == {(b"", OPEN), (b"", RESET)} and server.busy == ends[b"", OPEN]
+    t.check(good, "cancels on the connections that are kept", f"{dict(ends)}, {server.busy} at the server",
+            "some held, the others reset")
     for what, data in PARTS.items():
         judge_sent(t, what + ", refused", pooler.port, data, (b"", RESET))
     judge_sent(t, "a cancel request, refused", pooler.port, REQUEST, (b"", RESET))
@@ -159,8 +174,8 @@ def first_packets_full(t):
         judge_sent(t, f"StartupMessage {number + 1}, refused", pooler.port, WHOLE, (TOO_MANY, CLEAN), (b"", RESET))
     lines = await_lines(pooler, "serve_failed", "warn", 1)
     t.check(len(lines) >= 1, "the log, serve_failed", f"{len(lines)} lines", "some")
-    for client in clients:
-        client.stream.close()
+    for stream in [*filter(None, asked), *(client.stream for client in clients)]:
+        stream.close()
     server.close()
 
 
@@ -200,10 +215,15 @@ def judge_alone(t, kept, what, port, data, wanted):
 
 
 def judge_reasons_alone(t, pooler):
-    """The log tells the error of those that got it, and of the others only the reason."""
-    lines = await_lines(pooler, "client_refused", "reason=shortage", 6)
+    """The log tells the error of those that got it, and of the others only the reason: without a thread for them, they
+    are evicted or reach their time limit, whichever comes first."""
+    def find():
+        return [line for line in pooler.log_lines("client_refused") if any(word.startswith("reason=") for word in line)]
+
+    wait_until(lambda: any("code=53300" not in line for line in find()), 3)
+    lines = find()
     told = [line for line in lines if "code=53300" in line]
-    t.check(told and len(told) < len(lines), "the log, reason=shortage", f"{len(lines)} lines, {len(told)} with 53300",
+    t.check(told and len(told) < len(lines), "the log, the reasons", f"{len(lines)} lines, {len(told)} with 53300",
             "some with 53300, some without")
 
 
@@ -265,18 +285,18 @@ def first_packets_no_memory(t):
 
 @scenario("first-packets-no-seat", limit=40)
 def first_packets_no_seat(t):
-    """140 requests with one key, whose server ends none: those for which no place is free get no byte and a reset"""
+    """40 requests with one key, whose server ends none: those for which no place is free get no byte and a reset"""
     server = FakeServer(t.port(), on_cancel=hold_for(3600))
     pooler = Pooler(t, {"shop": server.port}, pool=2)
     client = pooler.client()
     client.start("select pg_sleep(60)")
     wait_until(lambda: server.is_running("select pg_sleep(60)"), 5)
-    streams = [send(pooler.port, cancel_request(client.key)) for _ in range(140)]
-    wait_until(lambda: server.busy >= 128, 5)
+    streams = [send(pooler.port, cancel_request(client.key)) for _ in range(40)]
+    wait_until(lambda: server.busy >= 32, 5)
     time.sleep(0.5)
     ends = collections.Counter(read_all(stream, 0.02) for stream in streams)
-    t.check(ends == {(b"", OPEN): 128, (b"", RESET): 12}, "140 requests", f"{dict(ends)}",
-            "128 open, 12 reset, none with a byte")
+    t.check(ends == {(b"", OPEN): 32, (b"", RESET): 8}, "40 requests", f"{dict(ends)}",
+            "32 open, 8 reset, none with a byte")
     for stream in streams:
         stream.close()
     client.stream.close()

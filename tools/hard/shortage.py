@@ -1,5 +1,4 @@
 """No descriptors, threads or memory, and outputs that nobody reads."""
-import collections
 import multiprocessing
 import os
 import resource
@@ -11,8 +10,8 @@ import time
 from hard.fake import FakeServer
 from hard.others import Others
 from hard.trial import Pooler, Postgres, bind_to_parent, scenario
-from hard.wire import (CLEAN, RESET, Late, Lost, Reader, Refused, ask_cancel, cancel, connect, make_key, outcome,
-                       query_frame, read_end, startup, time_cancel, wait_until)
+from hard.wire import (RESET, Late, Lost, Reader, Refused, ask_cancel, connect, make_key, outcome, query_frame, read_end,
+                       startup, time_cancel, wait_until)
 
 FORK = multiprocessing.get_context("fork")
 ALONE = 61000  # numbers of users that have no other process
@@ -93,19 +92,15 @@ def fill(pooler):
 
 @scenario("full-node", limit=60)
 def full_node(t):
-    """A node has as many connections as its descriptors allow: cancels that come to it aren't taken for done"""
+    """A node has as many sessions as its descriptors allow: cancels that come to it are served"""
     server, ports = Postgres(t), {1: t.port(), 2: t.port()}
     first = Pooler(t, {"shop": server.port}, {1: ports[1]}, ports, pool=2)
     full = Pooler(t, {"shop": server.port}, {2: ports[2]}, ports, pool=2, limits={"NOFILE": 80})
     clients, last = fill(full)
     t.check("53300" in last or "reset" in last, f"client {len(clients) + 1}", last, "53300, or a reset")
-    text = "select pg_sleep(20.5)"
-    clients[0].start(text)
-    wait_until(lambda: server.is_running(text), 10)
     for port, where in ((first.port, "forwarded"), (full.port, "sent directly")):
-        ends = collections.Counter(cancel(port, clients[0].key) for _ in range(40))
-        good = ends[CLEAN] == 0 and server.is_running(text)
-        t.check(good, f"40 cancels, {where}", dict(ends), "no clean end while the query runs")
+        for number in range(3):
+            judge_cancel(t, f"cancel {number + 1}, {where}", server, clients[0], port)
 
 
 def keep_coming(port, seconds):

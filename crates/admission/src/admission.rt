@@ -27,11 +27,18 @@ const TRIES: u64 = 5;
 // client hasn't asked.
 const CANCEL_TRIES: u64 = 50;
 
-/// The semaphores before a node's databases, and the states of its clients by slot.
+/// The semaphores before a node's databases, and the states and databases of its clients by slot.
 #[derive(Drop)]
 pub struct Admission {
     semaphores: Vec<Semaphore>,
-    clients: Mutex<Vec<Option<State>>>,
+    clients: Mutex<Vec<Option<Known>>>,
+}
+
+// What is known of a client.
+#[derive(Drop)]
+struct Known {
+    state: State,
+    database: DatabaseNo,
 }
 
 /// A client's access to the semaphore before its database.
@@ -98,8 +105,15 @@ impl Admission {
     // Returns the state of the client of a slot.
     fn client<R: Wait>(&self, rt: &R, slot: SlotNo) -> Option<State> {
         let clients = self.clients.lock(rt);
-        let state = clients.get(slot.get() as usize)?.as_ref()?;
-        Arc::try_clone(state).ok()
+        let known = clients.get(slot.get() as usize)?.as_ref()?;
+        Arc::try_clone(&known.state).ok()
+    }
+
+    /// Returns the database of the client of a slot, if there is one.
+    pub fn database<R: Wait>(&self, rt: &R, slot: SlotNo) -> Option<DatabaseNo> {
+        let clients = self.clients.lock(rt);
+        let known = clients.get(slot.get() as usize)?.as_ref()?;
+        Some(known.database)
     }
 
     /// Removes the client of a slot, whose session ends.
@@ -107,11 +121,11 @@ impl Admission {
         self.set_client(rt, slot, None);
     }
 
-    // Sets the state of the client of a slot.
-    fn set_client<R: Wait>(&self, rt: &R, slot: SlotNo, state: Option<State>) {
+    // Sets what is known of the client of a slot.
+    fn set_client<R: Wait>(&self, rt: &R, slot: SlotNo, known: Option<Known>) {
         let mut clients = self.clients.lock(rt);
         if let Some(client) = clients.get_mut(slot.get() as usize) {
-            *client = state;
+            *client = known;
         }
     }
 }
@@ -129,7 +143,10 @@ impl<'a> Entrance<'a> {
             return Err(AllocError);
         };
         let state = Arc::new(alloc, AtomicU64::new(ASKED))?;
-        let known = Arc::try_clone(&state)?;
+        let known = Known {
+            state: Arc::try_clone(&state)?,
+            database,
+        };
         admission.set_client(rt, slot, Some(known));
         Ok(Entrance { semaphore, state })
     }

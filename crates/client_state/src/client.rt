@@ -1,30 +1,20 @@
 //! The machine of one client's session.
-ghost use Rattle.std.specs.Prelude.{◌≡◌, ◌⊎◌, ◌↔◌, ◌≤◌, ◌<◌, ◌+◌, true, false, [], ◌++◌, length, take, vec_len, IsTrue, IfOk, IfSome};
+ghost use Rattle.std.specs.Prelude.{◌≡◌, ◌⊎◌, ◌↔◌, ◌≤◌, ◌<◌, ◌+◌, true, false, [], ◌++◌, length, take, vec_len, IsTrue, IfSome};
 ghost use Rattle.pg_frames.specs.FrameText.{text};
 ghost use Rattle.startup.specs.declared.error_code.ErrorCode.TheVariants.{ProtocolViolation, ConnectionFailure};
-ghost use Rattle.client_state.specs.LinkMessage.{status_of};
-ghost use Rattle.client_state.specs.declared.link_message.Status.TheVariants.{Idle, InTransaction, Unknown};
+ghost use Rattle.client_state.specs.Request.{IsRequest};
 ghost use Rattle.client_state.specs.Acts.{start, over, ends, fatal, ActsOn, ActsOnClient, EndsWith, head_act, after_head, act_on_head, session_at, IsHeadAct, ready_act, after_ready, IsReadyAct};
 
-use crate::client_message::{ClientMessage, group_above};
+use crate::client_message::{ClientMessage, group_above, is_request};
 use crate::link_message::{LinkMessage, Status};
 use crate::{Act, DatabaseNo, HeadAct, Reply, Request};
 use pg_frames::{Frame, MAX_MESSAGE, MessageLimit, put_frame_within};
 use startup::{ErrorCode, Severity};
-use std::alloc::{AllocError, Global};
+use std::alloc::Global;
 use std::marker::Model;
 
 // How many bytes of memory a session keeps at most for what it gathers.
 const KEPT: usize = 1_024;
-
-// How many bytes the memory has into which a session's streams are read: until a read filled it,
-// and from then on.
-const ROOM: usize = 512;
-
-const GROWN_ROOM: usize = 2_048;
-
-// How many bytes the memory has for long replies, and for what one read didn't return whole.
-const LARGE_ROOM: usize = 16_384;
 
 /// A client's session, from its login on. In contracts it is its limit, its database, whether it holds a
 /// lease, how many requests are outstanding, and the texts that it has gathered for its next
@@ -38,11 +28,6 @@ pub struct Client {
     gathered: Vec<u8>,
     // How many bytes a group of messages had that ended it.
     refused: Option<usize>,
-    // Memory to be read into, if it is kept, and how many bytes it is to have.
-    room: Vec<u8>,
-    room_len: usize,
-    // Whether more memory is to be read into at the next reply.
-    is_reply_long: bool,
 }
 
 // A request is outstanding only on a lease, and one at most, since the next is read after its
@@ -71,8 +56,7 @@ impl Model for Client {
     } };
 
     ghost invariant = { λ c. (length c.gathered.items ≤ c.limit)
-        × IfSome c.refused (λ bytes. c.limit < bytes)
-        × (512 ≤ c.room_len) × (c.room_len ≤ 2048) };
+        × IfSome c.refused (λ bytes. c.limit < bytes) };
 }
 
 impl Client {
@@ -96,9 +80,6 @@ impl Client {
             stage: Stage::NoLease,
             gathered: Vec::new(alloc),
             refused: None,
-            room: Vec::new(alloc),
-            room_len: ROOM,
-            is_reply_long: false,
         }
     }
 
@@ -208,29 +189,6 @@ impl Client {
         }
     }
 
-    /// The same for a status that is known, with a request outstanding: the ReadyForQuery goes to
-    /// the client. It returns whether the lease is given back.
-    #[inline]
-    pub fn on_known_ready(&mut self, status: u8) -> bool
-        requires asking { self.old.outstanding ≡ 1 }
-        requires known { status_of status ≡ Unknown → ⊥ }
-        ensures idle { result ≡ true → status_of status ≡ Idle }
-        ensures in_transaction { result ≡ false → status_of status ≡ InTransaction }
-        ensures state { self.new ≡ after_ready self.old status }
-    {
-        match Status::of(status) {
-            Status::Idle => {
-                self.stage = Stage::NoLease;
-                true
-            }
-            Status::InTransaction => {
-                self.stage = Stage::Leased;
-                false
-            }
-            Status::Unknown => unreachable!(),
-        }
-    }
-
     /// What to do where the link's stream isn't cut into frames, ends or fails: the link is lost.
     pub fn on_link_fault(&mut self) -> Act
         requires { IsTrue self.old.leased }
@@ -249,69 +207,14 @@ impl Client {
         self.gathered.clear();
     }
 
-    /// Memory to read a request into: 512 bytes, and once a read filled it, 2,048. It is made where
-    /// none is kept.
-    pub fn take_room(&mut self) -> Result<Vec<u8>, AllocError>
-        ensures least { IfOk result (λ room. 512 ≤ vec_len room) }
-        ensures most { IfOk result (λ room. vec_len room ≤ 2048) }
-        ensures session { self.new ≡ self.old }
+    /// Whether these bytes are one whole request: nothing was gathered before, and they are a Query,
+    /// or messages of an extended query and their Sync.
+    #[inline]
+    pub fn is_request(&self, bytes: &[u8]) -> bool
+        ensures whole { IsTrue result → IsRequest self.now.limit bytes.now }
+        ensures first { IsTrue result → self.now.gathered ≡ [] }
     {
-        let room = std::mem::replace(&mut self.room, Vec::new(self.alloc));
-        if room.len() == self.room_len {
-            Ok(room)
-        } else {
-            zeros(self.alloc, self.room_len)
-        }
-    }
-
-    /// Takes memory into which this many bytes were read. `take_room` may hand it out next.
-    pub fn keep_room(&mut self, room: Vec<u8>, count: usize)
-        ensures { self.new ≡ self.old }
-    {
-        if count == room.len() {
-            self.room_len = GROWN_ROOM;
-        }
-        self.room = room;
-    }
-
-    /// Memory to read a reply into: as `take_room` gives it, or 16,384 bytes where the last reply
-    /// had more than 2,048.
-    pub fn take_reply_room(&mut self) -> Result<Vec<u8>, AllocError>
-        ensures least { IfOk result (λ room. 512 ≤ vec_len room) }
-        ensures most { IfOk result (λ room. vec_len room ≤ 16384) }
-        ensures session { self.new ≡ self.old }
-    {
-        if self.is_reply_long {
-            zeros(self.alloc, LARGE_ROOM)
-        } else {
-            self.take_room()
-        }
-    }
-
-    /// Takes memory into which the first this many bytes of a reply were read. It keeps 2,048 bytes
-    /// at most.
-    pub fn keep_reply_room(&mut self, room: Vec<u8>, count: usize)
-        ensures { self.new ≡ self.old }
-    {
-        if room.len() > GROWN_ROOM {
-            self.is_reply_long = count >= GROWN_ROOM;
-            return;
-        }
-        if count == GROWN_ROOM {
-            self.is_reply_long = true;
-        }
-        self.keep_room(room, count);
-    }
-
-    /// Memory of 16,384 bytes, to be read into where one read didn't return a request or a reply
-    /// whole. It is empty where memory is refused.
-    pub fn large_room(&self) -> Vec<u8>
-        ensures { (vec_len result ≡ 16384) ⊎ (vec_len result ≡ 0) }
-    {
-        match zeros(self.alloc, LARGE_ROOM) {
-            Ok(room) => room,
-            Err(_) => Vec::new(self.alloc),
-        }
+        self.gathered.is_empty() && is_request(self.limit, bytes)
     }
 
     /// Hands out the first bytes of this memory as a request, which counts as outstanding from then
@@ -326,20 +229,21 @@ impl Client {
         Request::front(memory, len)
     }
 
-    /// Takes back a request that was handed out. Its memory may be used again, by `take_room` or for
-    /// what is gathered next.
-    pub fn recycle(&mut self, request: Request)
+    /// Takes back a request that was handed out, and returns the memory that was handed to `ask` for
+    /// it. Other memory may be used again for what is gathered next.
+    pub fn recycle(&mut self, request: Request) -> Option<Vec<u8>>
         ensures { self.new ≡ self.old }
     {
+        let is_lent = request.is_lent();
         let mut text = request.into_vec();
-        if text.len() == self.room_len {
-            self.room = text;
-            return;
+        if is_lent {
+            return Some(text);
         }
         if self.gathered.is_empty() && text.capacity() <= KEPT {
             text.clear();
             self.gathered = text;
         }
+        None
     }
 
     // Keeps the frame for the request to which it belongs.
@@ -435,11 +339,4 @@ impl Client {
             Err(_) => Reply::nothing(),
         }
     }
-}
-
-// As many zero bytes.
-fn zeros(alloc: Global, count: usize) -> Result<Vec<u8>, AllocError>
-    ensures { IfOk result (λ bytes. vec_len bytes ≡ count) }
-{
-    Ok(vec![in alloc; 0; count]?)
 }

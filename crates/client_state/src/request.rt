@@ -10,6 +10,8 @@ pub struct Request {
     // Its text, and maybe bytes behind it.
     memory: Vec<u8>,
     len: usize,
+    // Whether the memory was handed in.
+    is_lent: bool,
 }
 
 impl Model for Request {
@@ -28,7 +30,11 @@ impl Request {
         ensures { result ≡ text.items }
     {
         let len = text.len();
-        Request { memory: text, len }
+        Request {
+            memory: text,
+            len,
+            is_lent: false,
+        }
     }
 
     /// The request whose text the first bytes of this memory are.
@@ -36,14 +42,23 @@ impl Request {
         requires { len ≤ vec_len memory }
         ensures { result ≡ take len memory.items }
     {
-        Request { memory, len }
+        Request {
+            memory,
+            len,
+            is_lent: true,
+        }
+    }
+
+    // Whether its memory was handed in.
+    pub(crate) fn is_lent(&self) -> bool {
+        self.is_lent
     }
 
     // The memory of its text.
     pub(crate) fn into_vec(self) -> Vec<u8>
         ensures { take (length self) result.items ≡ self }
     {
-        let Request { memory, len: _ } = self;
+        let Request { memory, .. } = self;
         memory
     }
 

@@ -5,7 +5,7 @@ use Rattle.std.specs.Str.{bytes_eq}
 use Rattle.command_line.specs.declared.command_name.CommandName.{CommandName}
 use Rattle.command_line.specs.declared.command_name.CommandName.TheVariants as command
 use Rattle.command_line.specs.declared.option_name.OptionName.{OptionName}
-use Rattle.command_line.specs.declared.option_name.OptionName.TheVariants.{Me, Peers, Live, All, Front, Seed, SeedFile, Boot, StandIn, Report, MaxMessage, Metrics, Log, UntilEof, Byte}
+use Rattle.command_line.specs.declared.option_name.OptionName.TheVariants.{Me, Peers, Live, All, Front, Seed, SeedFile, Boot, StandIn, Report, MaxMessage, ServerWait, Metrics, Log, UntilEof, Byte}
 
 -- the options of each command, by their names
 abbrev pub decide_options : List (List ℕ × OptionName)
@@ -16,6 +16,7 @@ serve_options = (codes "--front", Front)
     ∷ (codes "--seed", Seed) ∷ (codes "--seed-file", SeedFile)
     ∷ (codes "--boot", Boot) ∷ (codes "--stand-in", StandIn)
     ∷ (codes "--report", Report) ∷ (codes "--max-message", MaxMessage)
+    ∷ (codes "--server-wait", ServerWait)
     ∷ (codes "--metrics", Metrics) ∷ (codes "--log", Log)
     ∷ (codes "--until-eof", UntilEof) ∷ []
 
@@ -50,6 +51,7 @@ has_value Boot = true
 has_value StandIn = false
 has_value Report = true
 has_value MaxMessage = true
+has_value ServerWait = true
 has_value Metrics = true
 has_value Log = true
 has_value UntilEof = false
@@ -68,6 +70,7 @@ same_option Boot Boot = true
 same_option StandIn StandIn = true
 same_option Report Report = true
 same_option MaxMessage MaxMessage = true
+same_option ServerWait ServerWait = true
 same_option Metrics Metrics = true
 same_option Log Log = true
 same_option UntilEof UntilEof = true

@@ -28,6 +28,7 @@ pub record Served : Type 0 where
   pub stand_in : Bool
   pub reports : List Report
   pub max_message : ℕ
+  pub server_wait : ℕ
   pub metrics : Option ℕ
   pub log : LogLevel
   pub until_eof : Bool
@@ -60,6 +61,7 @@ served_by front_text seed_text boot_text stand_in run files = do
     stand_in = stand_in;
     reports = run.reports;
     max_message = run.max_message;
+    server_wait = run.server_wait;
     metrics = run.metrics;
     log = run.log;
     until_eof = run.until_eof;
@@ -145,6 +147,7 @@ served_in request = record {
   stand_in = request.stand_in;
   reports = request.reports;
   max_message = request.max_message;
+  server_wait = request.server_wait;
   metrics = request.metrics;
   log = request.log;
   until_eof = request.until_eof;

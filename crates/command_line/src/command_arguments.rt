@@ -189,6 +189,15 @@ length field says, and the longest group of messages of an extended
 query: 8192 to 1073741823, and 1048576 where it isn't given",
     },
     Argument {
+        name: "server-wait",
+        form: Form::Value("SECONDS"),
+        required: false,
+        help: "\
+For how many seconds a server is tried again that refuses a
+connection, starts, stops or has no connection left, before the
+client's session ends: 0 to 3600, and 0 where it isn't given",
+    },
+    Argument {
         name: "metrics",
         form: Form::Value("PORT"),
         required: false,

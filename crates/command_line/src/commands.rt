@@ -133,8 +133,8 @@ fn serve_usage<'a>(usage: Usage) -> &'a str {
             "\
 pgpeer serve --front <PORT> (--seed <HEX64> | --seed-file <FILE>)
                     [--boot <N>] [--stand-in] [--report <NAME=VALUE>]...
-                    [--max-message <BYTES>] [--metrics <PORT>] [--log <LEVEL>] [--until-eof]
-                    <FILE>..."
+                    [--max-message <BYTES>] [--server-wait <SECONDS>] [--metrics <PORT>]
+                    [--log <LEVEL>] [--until-eof] <FILE>..."
         }
         Usage::Short => {
             "\

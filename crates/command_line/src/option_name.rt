@@ -31,6 +31,8 @@ pub enum OptionName {
     Report,
     /// The longest message that is passed on, of `serve`.
     MaxMessage,
+    /// How long a server is tried again, of `serve`.
+    ServerWait,
     /// The port of the figures, of `serve`.
     Metrics,
     /// Which lines of the log are written, of `serve`.
@@ -105,6 +107,7 @@ fn serve_option(name: &str) -> Option<OptionName>
         "--stand-in" => Some(OptionName::StandIn),
         "--report" => Some(OptionName::Report),
         "--max-message" => Some(OptionName::MaxMessage),
+        "--server-wait" => Some(OptionName::ServerWait),
         "--metrics" => Some(OptionName::Metrics),
         "--log" => Some(OptionName::Log),
         "--until-eof" => Some(OptionName::UntilEof),

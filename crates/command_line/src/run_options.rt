@@ -12,6 +12,8 @@ pub struct RunOptions {
     pub reports: Reports,
     /// The length in bytes of the longest message that is passed on.
     pub max_message: u32,
+    /// How many seconds a server is tried again that takes no connections.
+    pub server_wait: u32,
     /// The port at which figures are served, if there is one.
     pub metrics: Option<u16>,
     /// Which lines of the log are written.
@@ -20,5 +22,6 @@ pub struct RunOptions {
     pub until_eof: bool,
     ghost least_message: { 8192 ≤ max_message },
     ghost most_message: { max_message ≤ 1073741823 },
+    ghost most_wait: { server_wait ≤ 3600 },
     ghost serves_figures: { ForSome metrics (λ port. 0 < port) },
 }

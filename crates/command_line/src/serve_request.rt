@@ -22,6 +22,8 @@ pub struct ServeRequest<'a> {
     /// The length in bytes, as its length field says, of the longest message that is passed on, in
     /// either direction, and of the longest group of messages of an extended query.
     pub max_message: u32,
+    /// How many seconds a server is tried again that takes no connections.
+    pub server_wait: u32,
     /// The port of 127.0.0.1 at which figures are served for Prometheus, if there is one.
     pub metrics: Option<u16>,
     /// Which lines of the log are written.
@@ -33,6 +35,7 @@ pub struct ServeRequest<'a> {
     ghost listens: { 0 < front },
     ghost least_message: { 8192 ≤ max_message },
     ghost most_message: { max_message ≤ 1073741823 },
+    ghost most_wait: { server_wait ≤ 3600 },
     ghost serves_figures: { ForSome metrics (λ port. 0 < port) },
     ghost some_node: { 0 < length files.items },
 }

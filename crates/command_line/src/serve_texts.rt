@@ -67,6 +67,7 @@ fn read_texts<'a>(
         stand_in,
         reports: run.reports,
         max_message: run.max_message,
+        server_wait: run.server_wait,
         metrics: run.metrics,
         log: run.log,
         until_eof: run.until_eof,

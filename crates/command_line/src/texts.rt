@@ -106,7 +106,7 @@ fn command_of(place: Place) -> CommandName {
         Place::Report | Place::ReportFixed | Place::ReportAgain | Place::ReportTooLong => {
             CommandName::Serve
         }
-        Place::MaxMessage | Place::Metrics | Place::Log => CommandName::Serve,
+        Place::MaxMessage | Place::ServerWait | Place::Metrics | Place::Log => CommandName::Serve,
         Place::Port => CommandName::Stub,
         _ => CommandName::Decide,
     }
@@ -152,6 +152,7 @@ fn argument(place: Place) -> &'static str {
             "--report <NAME=VALUE>"
         }
         Place::MaxMessage => "--max-message <BYTES>",
+        Place::ServerWait => "--server-wait <SECONDS>",
         Place::Metrics => "--metrics <PORT>",
         Place::Log => "--log <LEVEL>",
         Place::Port => "<PORT>",
@@ -179,6 +180,7 @@ fn expected(place: Place) -> &'static str {
         Place::ReportAgain => "the name is there twice",
         Place::ReportTooLong => "expected at most 8000 bytes in all",
         Place::MaxMessage => "expected a number from 8192 to 1073741823",
+        Place::ServerWait => "expected a number from 0 to 3600",
         Place::Log => "expected 'warn', 'notice' or 'info'",
     }
 }

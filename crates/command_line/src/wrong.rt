@@ -43,6 +43,8 @@ pub enum Place {
     ReportTooLong,
     /// The longest message of `serve`.
     MaxMessage,
+    /// How long a server is tried again, of `serve`.
+    ServerWait,
     /// The port of the figures of `serve`.
     Metrics,
     /// The level of the log of `serve`.

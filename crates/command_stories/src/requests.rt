@@ -44,9 +44,10 @@ fn write_ports(
     let front = request.front;
     let boot = request.boot;
     let most = request.max_message;
+    let wait = request.server_wait;
     let log = request.log;
     let line = format!(in alloc;
-        "would serve at port {front}, boot {boot}, messages to {most}, log {log:?}\n"
+        "would serve at port {front}, boot {boot}, messages to {most}, wait {wait}, log {log:?}\n"
     )?;
     out.extend_from_slice(line.as_bytes())
 }

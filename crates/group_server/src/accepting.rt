@@ -104,9 +104,12 @@ impl<M: Machine> Acceptor<M> {
             return;
         };
         let connection = Connection::metered(socket, node.meter());
-        if let Some(prepared) = self.prepare(host, alloc, node, &connection, serves) {
-            self.serve_prepared(host, alloc, node, &connection, pending, prepared);
-        }
+        let pending = match self.prepare(host, alloc, node, &connection, serves) {
+            Some(prepared) => {
+                self.serve_prepared(host, alloc, node, &connection, pending, prepared)
+            }
+            None => pending,
+        };
         self.limit.closing(host, pending);
         drop(connection);
         self.limit.closed(host);
@@ -172,7 +175,7 @@ impl<M: Machine> Acceptor<M> {
         }
     }
 
-    // Serves a connection to its end.
+    // Serves a connection to its end. Returns what identifies it at the limit then.
     fn serve_prepared(
         &self,
         host: &M,
@@ -181,7 +184,7 @@ impl<M: Machine> Acceptor<M> {
         connection: &Connection,
         pending: PendingId,
         prepared: Prepared<M>,
-    ) {
+    ) -> PendingId {
         let Prepared {
             calling,
             serves,
@@ -190,6 +193,7 @@ impl<M: Machine> Acceptor<M> {
         let context = ConnectionContext {
             limit: &self.limit,
             pending,
+            consoles: node.consoles(),
             serves,
             deadline,
             log: &self.log,
@@ -198,6 +202,8 @@ impl<M: Machine> Acceptor<M> {
         let mut client = ClientStream::new(host, alloc, connection, context);
         node.serve(host, alloc, calling, connection, &mut client);
         end(host, connection, &mut client);
+        client.leave();
+        client.pending()
     }
 
     // Ends a connection that isn't served, and logs why.

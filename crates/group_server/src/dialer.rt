@@ -1,17 +1,17 @@
 //! Connections to a node's servers and peers.
-use crate::limits::{CANCEL_CONNECT_MILLIS, CANCEL_END_MILLIS, LOGIN_MILLIS};
+use crate::limits::{CANCEL_CONNECT_MILLIS, CANCEL_END_MILLIS, LOGIN_MILLIS, RETRY_LOOK_MILLIS};
 use ini_config::{Database, Group, Peer, Settings};
-use node_threads::{Opener, Sender};
+use node_threads::{LoginRefusal, Opener, Sender};
 use pg_ids::{DatabaseNo, PeerNo};
 use sockets::{
     CancelEnd, Connection, Deadline, Inspector, LinkStream, Machine, Origin, Target, connect,
 };
-use startup::Reports;
+use startup::{Reports, error_field};
 use std::alloc::{AllocError, Global};
-use std::io;
 use std::io::ErrorKind;
-use std::os::fd::AsRawFd;
 use std::sync::{Arc, Wait};
+use std::time::Duration;
+use std::{io, thread};
 use telemetry::{Event, Field, Log, Meter, NodeCounters, Value, put_fields};
 
 /// Connects a node to its servers and peers over TCP.
@@ -23,6 +23,8 @@ pub struct Dialer<M: Machine> {
     place: usize,
     log: Arc<Log, Global>,
     reports: Arc<Reports, Global>,
+    // For how many seconds a server is tried again.
+    server_wait: u32,
     counters: Option<Arc<NodeCounters, Global>>,
 }
 
@@ -51,8 +53,14 @@ impl<M: Machine> Dialer<M> {
             place,
             log,
             reports,
+            server_wait: 0,
             counters: None,
         }
+    }
+
+    /// Tries a server again for this many seconds if it takes no connections.
+    pub fn wait_for_servers(&mut self, seconds: u32) {
+        self.server_wait = seconds;
     }
 
     /// Counts what passes over the node's connections in these counters.
@@ -115,7 +123,7 @@ impl<M: Machine> Dialer<M> {
             }
         };
         let origin = self.origin(settings, &fields)?;
-        let inspector = Inspector::of_link(self.alloc, origin, socket.as_raw_fd(), &self.reports)?;
+        let inspector = Inspector::of_link(self.alloc, origin, &self.reports)?;
         LinkStream::new(
             self.machine,
             self.alloc,
@@ -197,6 +205,23 @@ impl<M: Machine> Dialer<M> {
         Origin::new(self.alloc, &self.log, node, fields)
     }
 
+    // Logs that the server of this database refused the login of a link.
+    fn write_refusal(&self, database: DatabaseNo, refusal: &LoginRefusal) {
+        let Ok(settings) = self.settings() else {
+            return;
+        };
+        let Some(entry) = settings.database(database) else {
+            return;
+        };
+        let Ok(origin) = self.origin(settings, &server_fields(&entry)) else {
+            return;
+        };
+        match refusal {
+            LoginRefusal::Error(body) => origin.write_login_error(&self.machine, body.as_slice()),
+            LoginRefusal::Asks(code) => origin.write_asked(&self.machine, *code),
+        }
+    }
+
     // Logs that a message on this database, or a client's messages of an extended query together,
     // have more bytes than the limit.
     fn write_too_long(&self, database: DatabaseNo, from: Sender, bytes: usize, limit: u32) {
@@ -239,6 +264,18 @@ fn name_of(sender: Sender) -> &'static str {
     }
 }
 
+// Whether a server refuses a login because it starts or stops, or has no connection left (PostgreSQL
+// manual, "PostgreSQL Error Codes").
+fn is_for_now(refusal: &LoginRefusal) -> bool {
+    match refusal {
+        LoginRefusal::Error(body) => match error_field(body.as_slice(), b'C') {
+            Some(code) => code == b"57P03".as_slice() || code == b"53300".as_slice(),
+            None => false,
+        },
+        LoginRefusal::Asks(_) => false,
+    }
+}
+
 // Returns the fields that name the server of a database.
 fn server_fields<'a>(entry: &Database<'a>) -> [Field<'a>; 2] {
     let server = Value::Address(entry.host, entry.port);
@@ -252,6 +289,25 @@ fn peer_fields<'a>(entry: &Peer<'a>) -> [Field<'a>; 2] {
         ("peer", number),
         ("address", Value::Address(entry.host, entry.port)),
     ]
+}
+
+impl<'a, M: Machine> ClientDialer<'a, M> {
+    // Waits that long. Returns false as soon as the client has left.
+    fn pause(&self, pause: Duration) -> bool {
+        let mut left = pause;
+        for _ in 0..u64::MAX {
+            if self.connection.is_gone() {
+                return false;
+            }
+            if left.is_zero() {
+                return true;
+            }
+            let part = left.min(Duration::from_millis(RETRY_LOOK_MILLIS));
+            thread::sleep(&self.dialer.machine, part);
+            left = left.saturating_sub(part);
+        }
+        false
+    }
 }
 
 impl<'a, M: Machine> Opener for ClientDialer<'a, M> {
@@ -268,7 +324,26 @@ impl<'a, M: Machine> Opener for ClientDialer<'a, M> {
 
     fn server<R: Wait>(&self, _rt: &R, database: DatabaseNo) -> io::Result<LinkStream<M>> {
         self.connection.meter().open(&self.dialer.machine, database);
-        self.dialer.open_link(self.dialer.settings()?, database)
+        let opened = self.dialer.open_link(self.dialer.settings()?, database);
+        if let Err(error) = &opened {
+            if error.kind() == ErrorKind::ConnectionRefused {
+                self.connection.retries().note_refused();
+            }
+        }
+        opened
+    }
+
+    // A server is tried again while it takes no connections for now, unless the client leaves.
+    fn tries_again<R: Wait>(&self, _rt: &R, _database: DatabaseNo) -> bool {
+        let retries = self.connection.retries();
+        let again = match retries.next_pause(&self.dialer.machine, self.dialer.server_wait) {
+            Some(pause) => self.pause(pause),
+            None => false,
+        };
+        if !again {
+            retries.forget();
+        }
+        again
     }
 
     fn cancel<R: Wait>(&self, _rt: &R, database: DatabaseNo) -> io::Result<LinkStream<M>> {
@@ -305,6 +380,7 @@ impl<'a, M: Machine> Opener for ClientDialer<'a, M> {
     }
 
     fn attach(&self, stream: &LinkStream<M>) {
+        self.connection.retries().forget();
         stream.attach(self.connection.descriptor());
         self.connection.set_link(Some(stream.descriptor()));
         if let Some(database) = stream.database() {
@@ -327,6 +403,17 @@ impl<'a, M: Machine> Opener for ClientDialer<'a, M> {
     fn is_gone(&self) -> bool {
         self.connection.meter().wait();
         self.connection.is_gone()
+    }
+
+    fn begin_refusal(&self, stream: &LinkStream<M>) {
+        stream.begin_refusal();
+    }
+
+    fn refuse_login(&self, database: DatabaseNo, refusal: &LoginRefusal) {
+        if is_for_now(refusal) {
+            self.connection.retries().note_refused();
+        }
+        self.dialer.write_refusal(database, refusal);
     }
 
     fn refuse_message(&self, database: DatabaseNo, from: Sender, bytes: usize, limit: u32) {

@@ -9,7 +9,7 @@ use crate::accepting::{Acceptor, keep_accepting};
 use crate::draining::{drain, wait_for_end, write_end};
 use crate::limits::{BACKLOG, METRICS_READERS};
 use crate::metrics::{Exporter, Sources, keep_exporting};
-use crate::options::{ServeOptions, copy_of, write_start};
+use crate::options::{ServeOptions, copy_of, own_descriptors, write_start};
 use crate::{Dialer, ServeError, Serving, Unbound};
 use ini_config::Group;
 use libc::net as c;
@@ -63,10 +63,7 @@ impl<H: Host> Listening<H> {
             nodes: listen_at_each(host, alloc, &group)?,
             metrics: listen_for_metrics(host, alloc, options)?,
         };
-        let own = match &listeners.metrics {
-            Some(_) => METRICS_READERS + 1,
-            None => 0,
-        };
+        let own = own_descriptors(options);
         let capacity = Needs::of(&group).capacity(descriptor_limit().saturating_sub(own));
         let limit = connection_limit_of(host, alloc, capacity, options)?;
         Ok(Listening::new(host, alloc, group, options, listeners, limit)?)
@@ -97,6 +94,7 @@ impl<H: Host> Listening<H> {
                 Arc::try_clone(&log)?,
                 Arc::try_clone(&reports)?,
             );
+            dialer.wait_for_servers(options.server_wait);
             count_at(&mut dialer, &counters, at.index())?;
             let serving = serving_at(alloc, at, options, dialer)?;
             nodes.push(ListeningNode { listener, serving })?;
@@ -305,7 +303,7 @@ fn exporter_of<H: Host>(
         all.push(Arc::try_clone(&node.serving)?)?;
     }
     let version = String::from_str(alloc, options.version)?;
-    Ok(Arc::new(alloc, Exporter::new(listener, version, all, sources))?)
+    Ok(Arc::new(alloc, Exporter::new(alloc, listener, version, all, sources))?)
 }
 
 // Makes the node at this place of its group, without clients and links.

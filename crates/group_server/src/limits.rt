@@ -3,6 +3,9 @@
 /// How long connecting to a server and logging in there may take together.
 pub const LOGIN_MILLIS: u64 = 15_000;
 
+/// While a server is tried again: after how long it is looked whether the client has left.
+pub const RETRY_LOOK_MILLIS: u64 = 250;
+
 /// How long connecting for a cancel request may take.
 pub const CANCEL_CONNECT_MILLIS: u64 = 5_000;
 
@@ -31,7 +34,7 @@ pub const METRICS_MILLIS: u64 = 5_000;
 /// How much of that its request may take.
 pub const METRICS_REQUEST_MILLIS: u64 = 1_000;
 
-/// How many connections at the metrics port are served at a time.
+/// How many threads serve connections at the metrics port.
 pub const METRICS_READERS: usize = 4;
 
 /// How long metrics are cached.

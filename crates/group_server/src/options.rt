@@ -1,6 +1,8 @@
 //! What a group is served with.
+use crate::limits::METRICS_READERS;
 use ini_config::{Group, Settings};
 use pg_frames::MessageLimit;
+use sockets::{Needs, descriptor_limit};
 use startup::Reports;
 use std::alloc::{AllocError, Global};
 use std::sync::Wait;
@@ -31,10 +33,15 @@ pub struct ServeOptions<'a> {
     pub metrics: Option<u16>,
     /// The maximum length of a message of a client or server.
     pub max_message: MessageLimit,
+    /// How many seconds a server is tried again that takes no connections.
+    pub server_wait: u32,
 }
 
 // What the log says if no boot number was given.
 const GIVE_BOOT: &str = "give another --boot at each start";
+
+// What the log says if there are too few descriptors.
+const RAISE_LIMIT: &str = "raise the limit of open files (ulimit -n)";
 
 // What the log says if logins don't report `STRINGS`.
 const GIVE_REPORT: &str = "give --report standard_conforming_strings=on";
@@ -64,10 +71,35 @@ pub fn write_start<R: Wait + Clock>(
         let advice = ("advice", Value::Text(GIVE_REPORT));
         log.write(rt, None, Event::ReportMissing, &[missing, advice]);
     }
+    write_limit(rt, log, group, options);
     for settings in group.nodes() {
         write_node(rt, log, settings);
     }
     Ok(())
+}
+
+/// Returns how many descriptors the metrics port needs.
+pub fn own_descriptors(options: &ServeOptions<'_>) -> usize {
+    match options.metrics {
+        Some(_) => METRICS_READERS + 1,
+        None => 0,
+    }
+}
+
+// Logs the limit of the process's descriptors, if its settings need more.
+fn write_limit<R: Wait + Clock>(rt: &R, log: &Log, group: &Group, options: &ServeOptions<'_>) {
+    let limit = descriptor_limit();
+    let needed = Needs::of(group)
+        .descriptors()
+        .saturating_add(own_descriptors(options));
+    if limit < needed {
+        let fields = [
+            ("limit", Value::Number(limit as u64)),
+            ("needed", Value::Number(needed as u64)),
+            ("advice", Value::Text(RAISE_LIMIT)),
+        ];
+        log.write(rt, None, Event::LimitLow, &fields);
+    }
 }
 
 // Logs the address of a node.

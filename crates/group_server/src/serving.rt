@@ -3,7 +3,7 @@ use crate::Dialer;
 use crate::metrics::Census;
 use node_threads::{Calling, Context, Open, serve_connection};
 use pg_frames::MessageLimit;
-use sockets::{ClientStream, Connection, LinkStream, Machine};
+use sockets::{ClientStream, Connection, Consoles, LinkStream, Machine};
 use std::alloc::{AllocError, AllocFailed, Global};
 use std::sync::{Mutex, Wait};
 use telemetry::Meter;
@@ -17,6 +17,8 @@ pub struct Serving<M: Machine> {
     // Callers for cancel requests, if no other can be made.
     reserve: Mutex<Vec<Box<Calling<LinkStream<M>>>>>,
     dialer: Dialer<M>,
+    // The sessions on its console.
+    consoles: Consoles,
     // The maximum length of a message.
     limit: MessageLimit,
 }
@@ -34,8 +36,14 @@ impl<M: Machine> Serving<M> {
             free: Mutex::new(Vec::new(alloc)),
             reserve: Mutex::new(Vec::new(alloc)),
             dialer,
+            consoles: Consoles::new(),
             limit,
         }
+    }
+
+    /// Returns the count of the sessions on its console.
+    pub fn consoles(&self) -> &Consoles {
+        &self.consoles
     }
 
     /// Returns the node's number.

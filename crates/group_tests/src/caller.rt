@@ -5,8 +5,10 @@ use crate::log_lines::{expect_line, expect_no_line};
 use crate::reported::reports_of;
 use crate::settings::group;
 use group_server::Dialer;
-use node_threads::Opener;
+use node_threads::{Listening, Opener};
+use pg_frames::MessageLimit;
 use pg_ids::DatabaseNo;
+use session_io::{LinkError, log_in};
 use sockets::{CancelEnd, Connection, LinkStream, Target};
 use std::alloc::Global;
 use std::io::{Read, Write};
@@ -52,6 +54,20 @@ impl<R: TestHost> Caller<R> {
         let mut link = opener.server(rt, DatabaseNo(0))?;
         link.write_all(b"\0\0\0\x08\0\x03\0\0")?;
         Ok(link)
+    }
+
+    // The server refuses a login, and the dialer hears why, as it does of a session.
+    pub(crate) fn refused(&self, rt: &R) -> Result<(), Fail> {
+        let opener = self.dialer.on_behalf(&self.connection);
+        let link = opener.server(rt, DatabaseNo(0))?;
+        let listener = Listening { opener: &opener };
+        let limit = MessageLimit::DEFAULT;
+        let logged = log_in(rt, rt.alloc(), &listener, limit, link, "plain", "plain");
+        match &logged {
+            Err(LinkError::Refused(refusal)) => opener.refuse_login(DatabaseNo(0), refusal),
+            _ => return Err(Fail::from("a login that is refused")),
+        }
+        Ok(())
     }
 
     // The same, for a cancel request.

@@ -5,10 +5,10 @@ use crate::settings::group;
 use group_server::{Dialer, MessageLimit};
 use ini_config::Group;
 use node_threads::{Calling, Context, Gate, NodePlace, Point, serve_connection};
-use peer_forward::Requester;
+use peer_forward::{Arrival, Asks, Requester};
 use pg_ids::Boot;
 use sockets::{Connection, LinkStream, Machine};
-use startup::Reports;
+use startup::{Reports, StartupError};
 use std::alloc::{AllocError, Global};
 use std::io::{Read, Write};
 use std::net::{TcpListener, TcpStream};
@@ -173,9 +173,38 @@ impl Write for Client<'_> {
 impl Requester for Client<'_> {
     ghost use Rattle.std.specs.Prelude.{⊤};
 
+    ghost saw = { λ _ _ _ _. ⊤ };
+
+    ghost takes = { λ _ _. ⊤ };
+
     ghost resets = { λ _ _. ⊤ };
 
+    fn peek_once(&mut self, buffer: &mut [u8]) -> io::Result<usize> {
+        self.0.peek(buffer)
+    }
+
+    fn take_seen(&mut self) {
+        let mut socket = self.0;
+        let _ = socket.read(&mut [0]);
+    }
+
     fn give_up(&mut self) {}
+}
+
+impl Arrival for Client<'_> {
+    ghost use Rattle.std.specs.Prelude.{⊤};
+
+    ghost admitted = { λ _ _ _ _. ⊤ };
+
+    ghost refused = { λ _ _ _ _. ⊤ };
+
+    fn admits(&mut self, _asks: Asks) -> bool {
+        true
+    }
+
+    fn refuse(&mut self, _error: StartupError) -> bool {
+        true
+    }
 }
 
 fn serve<R: TestHost>(

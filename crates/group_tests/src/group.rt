@@ -185,6 +185,7 @@ pub(crate) const fn options(
         },
         metrics,
         max_message: MessageLimit::DEFAULT,
+        server_wait: 0,
     }
 }
 

@@ -30,7 +30,7 @@ fn another_value_is_in_the_log(rt: HostRuntime) -> Result<(), Fail> {
     caller.expect_line(&rt, LOGIN_FAILED, fields)
 }
 
-// A read of a login returns what came, and the log has these fields.
+// A login is refused, and the log has these fields.
 fn expect_refused<R: TestHost>(
     rt: &R,
     listener: TcpListener,
@@ -39,9 +39,7 @@ fn expect_refused<R: TestHost>(
 ) -> Result<(), Fail> {
     let server = start(rt, listener, scripts)?;
     let caller = Caller::new(rt, server, &[])?;
-    let mut link = caller.open(rt)?;
-    let mut buffer = [0; 1_024];
-    let _count = link.read(&mut buffer)?;
+    caller.refused(rt)?;
     caller.expect_line(rt, LOGIN_FAILED, fields)
 }
 
@@ -65,6 +63,17 @@ fn refused_logins_are_in_the_log(rt: HostRuntime) -> Result<(), Fail> {
     let fields = "error=\"the server asks for authentication\" method=5";
     let listener = TcpListener::bind(&rt, ANY_PORT)?;
     expect_refused(&rt, listener, ASKED, fields)
+}
+
+// Of an error whose rest doesn't come the log has what came, and nothing else.
+#[test]
+fn a_cut_refusal_is_in_the_log(rt: HostRuntime) -> Result<(), Fail> {
+    const CUT: &[Script] = &[Script {
+        login: b"E\0\0\0\x2cSFATAL\0VFATAL\0C53300\0Mtoo",
+        answers: &[],
+    }];
+    let listener = TcpListener::bind(&rt, ANY_PORT)?;
+    expect_refused(&rt, listener, CUT, "code=53300 message=\"\"")
 }
 
 // A server that ends the connection in place of an answer.

@@ -4,3 +4,4 @@ pub mod StageLemmas
 pub mod ValueLemmas
 pub mod MessageLemmas
 pub mod WatchLemmas
+pub mod FirstErrorLemmas

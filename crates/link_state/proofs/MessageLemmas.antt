@@ -1,5 +1,5 @@
 -- Messages at the front of bytes, and the rest behind them.
-use Rattle.std.proofs.Common.{◌≡◌, ℕ, ◌+◌, ◌-◌, ◌/◌, ◌%◌, ◌^◌, ◌<◌, ◌≤◌, Bool, true, false, List, [], ◌∷◌, ◌++◌, length, take, drop, get_or, inl, inr, refl, sym, ap, ◌∙◌, subst, arith, append_assoc, append-nil, length-append, length-drop, length-take}
+use Rattle.std.proofs.Common.{◌≡◌, ℕ, ◌+◌, ◌-◌, ◌/◌, ◌%◌, ◌^◌, ◌<◌, ◌≤◌, ◌⊎◌, Bool, true, false, List, [], ◌∷◌, ◌++◌, length, take, drop, get_or, inl, inr, refl, sym, ap, ◌∙◌, subst, arith, append_assoc, append-nil, length-append, length-drop, length-take}
 use Rattle.std.specs.List.{AllByRecursion}
 use Rattle.std.proofs.lemmas.Bool.{cases_lt}
 use Rattle.std.proofs.lemmas.List.{take_at, drop_at, take_all, take-append-le, length-take-le, get_or-take, drop_all, get_or_append_left, get_or-append_right, get_or_past, drop-take}
@@ -16,7 +16,7 @@ number_of : (f : Frame) (more : List ℕ) → IsMessage f → length_in (text f 
 unfolding text
 number_of f more is = omega (arith, is)
 
-none_short : (bytes : List ℕ) → length bytes < 5 → BeginsNoMessage bytes
+pub none_short : (bytes : List ℕ) → length bytes < 5 → BeginsNoMessage bytes
 none_short bytes short f more is e =
     omega (arith, short, ap length e, length-append (text f) more, length-text f)
 
@@ -30,6 +30,12 @@ none_low bytes low f more is e =
     let number : length_in bytes ≡ 4 + length f.body = ap length_in e ∙ number_of f more is in
     omega (arith, low, number)
 
+-- no message begins where the length field is below 4, or says that more is to come
+pub none_wrong : (bytes : List ℕ) (number : ℕ) → number ≡ length_in bytes
+    → (number < 4) ⊎ ((4 ≤ number) × (length bytes ≤ number)) → BeginsNoMessage bytes
+none_wrong bytes number is (inl low) = none_low bytes (omega (arith, is, low))
+none_wrong bytes number is (inr (_, part)) = none_part bytes (omega (arith, is, part))
+
 pub none_empty : BeginsNoMessage []
 none_empty = none_short [] (omega arith)
 
@@ -42,7 +48,7 @@ pub none_broken : (rest : List ℕ) → IsBroken rest → BeginsNoMessage rest
 none_broken rest broken = none_low rest broken.low
 
 -- one message at most begins some bytes
-same_front : (f g : Frame) (x y : List ℕ) → IsMessage f → IsMessage g → text f ++ x ≡ text g ++ y → (f ≡ g) × (x ≡ y)
+pub same_front : (f g : Frame) (x y : List ℕ) → IsMessage f → IsMessage g → text f ++ x ≡ text g ++ y → (f ≡ g) × (x ≡ y)
 unfolding text
 same_front f g x y is is' e =
     let n = 4 + length f.body in

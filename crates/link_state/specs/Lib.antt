@@ -6,3 +6,4 @@ pub mod HeadLength
 pub mod Watch
 pub mod Watched
 pub mod WatchInside
+pub mod FirstError

@@ -5,10 +5,11 @@ ghost use Rattle.link_state.specs.HeadLength.{length_in, AreBytes};
 use byteorder::{BigEndian, ByteOrder};
 use std::alloc::{AllocError, Global};
 
-// How many bytes a message's head has, and its length field, which counts itself.
-const HEAD: usize = 5;
+/// How many bytes a message's head has.
+pub const HEAD: usize = 5;
 
-const FIELD: usize = 4;
+/// How many its length field has, which counts itself.
+pub const FIELD: usize = 4;
 
 /// The first bytes of the message that is coming, in memory that is taken once, and how many are to
 /// come.
@@ -177,8 +178,8 @@ fn append_up_to(front: &mut Vec<u8>, limit: usize, bytes: &[u8])
     front.extend_from_slice(&bytes[..count]).unwrap();
 }
 
-// What stands in the length field of a head.
-fn length_in(head: &[u8]) -> usize
+/// What stands in the length field of a head.
+pub fn length_in(head: &[u8]) -> usize
     requires { 5 ≤ length head.now }
     ensures { result ≡ length_in head.now }
 {

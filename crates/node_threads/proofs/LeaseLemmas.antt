@@ -1,6 +1,5 @@
 -- What is known of the lease that a client got.
 use Rattle.std.proofs.Common.{ℕ, ◌≡◌, ◌⊎◌, inl, inr, List, Option, Some, None, IfSome, refl, ap, sym, ◌∙◌, subst}
-use Rattle.ini_config.specs.Node.{DatabaseSettings}
 use Rattle.lease.specs.LinkValue.{LinkValue}
 use Rattle.lease.specs.declared.link_place.LinkPlace.{LinkPlace}
 use Rattle.lease.specs.declared.pass.PassRecord.{PassRecord}
@@ -15,11 +14,10 @@ use Rattle.node_core.specs.declared.exchange.Exchange.TheVariants as step
 use Rattle.locked_node.specs.Lock.{CallerView, Counted}
 use Rattle.startup.specs.declared.error_code.ErrorCode.{ErrorCode}
 use Rattle.startup.specs.declared.error_code.ErrorCode.TheVariants.{TooManyConnections}
-use Rattle.peer_forward.specs.Calls.{Effect}
 use Rattle.session_io.specs.LinkView.{LinkView}
 use Rattle.node_threads.specs.Balance.{Balanced, nothing}
-use Rattle.node_threads.specs.Cancelling.{Opens}
-use Rattle.node_threads.specs.Leasing.{OfLease, IsLoggedIn, Logins, IsLogin, IsThisLogin, WasAnswered, WentUp, IsGiven, IsUnopened, IsDenied, IsAnswer, IsOpened, IsKept}
+use Rattle.node_threads.specs.Meaning.{Meaning, IsLoggedIn, Logins, logins as logins_of, IsThisLogin}
+use Rattle.node_threads.specs.Leasing.{OfLease, WasAnswered, WentUp, IsGiven, IsUnopened, IsDenied, IsAnswer, IsOpened, IsKept}
 use Rattle.node_threads.specs.declared.session.leases.Acquired.{Acquired}
 use Rattle.node_threads.specs.declared.session.leases.Acquired.TheVariants.{Lease, Cancelled, Refused, Ended}
 use Rattle.node_threads.proofs.Balancing.{moves_on, moves_nothing}
@@ -35,17 +33,12 @@ of_lease A B C D all (Refused code) a b c = tt
 of_lease A B C D all Ended a b c = tt
 
 -- a link at the same place, over the same stream
-pub same_link : {T : Type 0} (limit : ℕ) (wrote gave : Effect T) (opens : Opens T)
-    (entries : List DatabaseSettings) (key : List ℕ) (at is : LinkPlace) (link opened : LinkView T)
-    → at ≡ is → link ≡ opened
-    → IsLoggedIn limit wrote gave opens entries is.database key opened.stream
-    → IsLoggedIn limit wrote gave opens entries at.database key link.stream
-same_link limit wrote gave opens entries key at is link opened place stream logged =
-    subst (λ (l : LinkView _). IsLoggedIn limit wrote gave opens entries at.database key l.stream)
-    (sym stream)
-    (subst
-    (λ (p : LinkPlace). IsLoggedIn limit wrote gave opens entries p.database key opened.stream)
-    (sym place) logged)
+pub same_link : {T : Type 0} (m : Meaning T) (key : List ℕ) (at is : LinkPlace)
+    (link opened : LinkView T) → at ≡ is → link ≡ opened
+    → IsLoggedIn m is.database key opened.stream → IsLoggedIn m at.database key link.stream
+same_link m key at is link opened place stream logged =
+    subst (λ (l : LinkView _). IsLoggedIn m at.database key l.stream) (sym stream)
+    (subst (λ (p : LinkPlace). IsLoggedIn m p.database key opened.stream) (sym place) logged)
 
 -- the node was asked for a link, or told that one is up
 pub was_answered : {S : Type 0} (pass : PassRecord)
@@ -87,15 +80,13 @@ is_denied {S} logins pass reply old new is counted =
     ])
 
 -- the login that gave this key at this database is one of these
-pub is_login : {T : Type 0} (limit : ℕ) (wrote gave : Effect T) (opens : Opens T)
-    (entries : List DatabaseSettings) (database at : ℕ) (key : List ℕ) (stream : T)
-    → database ≡ at → IsLoggedIn limit wrote gave opens entries database key stream
-    → (number : ℕ) (given : List ℕ) → IsThisLogin at key number given
-    → IsLogin limit wrote gave opens entries number given
-is_login limit wrote gave opens entries database at key stream is logged number given this = (
+pub is_login : {T : Type 0} (m : Meaning T) (database at : ℕ) (key : List ℕ) (stream : T)
+    → database ≡ at → IsLoggedIn m database key stream
+    → (number : ℕ) (given : List ℕ) → IsThisLogin at key number given → logins_of m number given
+is_login m database at key stream is logged number given this = (
   stream,
-  subst (λ (k : List ℕ). IsLoggedIn limit wrote gave opens entries number k stream) (sym this.1)
-      (subst (λ n. IsLoggedIn limit wrote gave opens entries n key stream) (is ∙ sym this.0) logged),
+  subst (λ (k : List ℕ). IsLoggedIn m number k stream) (sym this.1)
+      (subst (λ n. IsLoggedIn m n key stream) (is ∙ sym this.0) logged),
 )
 
 went_up_by : (P Q : Logins) (permit : PermitRecord)

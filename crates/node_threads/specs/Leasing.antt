@@ -1,7 +1,5 @@
--- What a client that has asked for a link has in hand, by which answer of the node, and what its
--- link is connected to (own).
-use Rattle.std.specs.Prelude.{ℕ, ◌≡◌, ◌⊎◌, List, Option, Some, None, Ok, slice_get}
-use Rattle.ini_config.specs.Node.{DatabaseSettings}
+-- What a client that has asked for a link has in hand, and by which answer of the node (own).
+use Rattle.std.specs.Prelude.{ℕ, ◌≡◌, ◌⊎◌, List, Option, Some, None}
 use Rattle.lease.specs.LinkValue.{LinkValue}
 use Rattle.lease.specs.declared.link_record.LinkRecord.{LinkRecord}
 use Rattle.lease.specs.declared.pass.PassRecord.{PassRecord}
@@ -14,13 +12,10 @@ use Rattle.link_pool.specs.declared.replies.UpFailedReply.{UpFailedReply}
 use Rattle.link_pool.specs.declared.replies.UpFailedReply.TheVariants as failing
 use Rattle.node_core.specs.declared.exchange.Exchange.TheVariants as step
 use Rattle.locked_node.specs.Lock.{CallerView, Counted}
-use Rattle.peer_forward.specs.Calls.{Effect}
 use Rattle.startup.specs.declared.error_code.ErrorCode.{ErrorCode}
 use Rattle.startup.specs.declared.error_code.ErrorCode.TheVariants.{TooManyConnections, ConnectionFailure, AdminShutdown}
-use Rattle.session_io.specs.LoggingIn.{LogsIn}
-use Rattle.session_io.specs.StreamCalls.{SomeCalls}
 use Rattle.node_threads.specs.Balance.{Hand, Balanced, nothing, a_lease}
-use Rattle.node_threads.specs.Cancelling.{Opens}
+use Rattle.node_threads.specs.Meaning.{Logins}
 use Rattle.node_threads.specs.declared.session.leases.Acquired.{Acquired}
 use Rattle.node_threads.specs.declared.session.leases.Acquired.TheVariants.{Lease, Cancelled, Refused, Ended}
 
@@ -46,30 +41,6 @@ OfLease P Ended = Unit {0}
 abbrev pub OfAnswer : {L : Type 0} → (L → Type 0) → Option (Acquired L) → Type 0
 OfAnswer P None = Unit {0}
 OfAnswer P (Some acquired) = OfLease P acquired
-
--- A stream was opened at the server of this database, and the login there named the user and the
--- database of its entry. The server gave this key.
-pub record IsLoggedIn {T : Type 0} (limit : ℕ) (wrote gave : Effect T) (opens : Opens T)
-    (entries : List DatabaseSettings) (database : ℕ) (key : List ℕ) (stream : T) : Type 0 where
-  pub entry : DatabaseSettings
-  pub entry_is : slice_get entries database ≡ Some entry
-  pub before : T
-  pub opened : opens database (Ok before)
-  pub logs_in : SomeCalls wrote gave before stream (LogsIn limit entry.user entry.dbname key)
-
--- which logins at the server of the database with a number may have given a key
-abbrev pub Logins : Type 1
-Logins = ℕ → List ℕ → Type 0
-
--- those over a stream that was opened for it, as the user and to the database of its entry
-abbrev pub IsLogin : {T : Type 0} → ℕ → Effect T → Effect T → Opens T → List DatabaseSettings
-    → Logins
-IsLogin {T} limit wrote gave opens entries database key =
-    (stream : T) × IsLoggedIn limit wrote gave opens entries database key stream
-
--- the one that gave this key at this database
-abbrev pub IsThisLogin : ℕ → List ℕ → Logins
-IsThisLogin database key number given = (number ≡ database) × (given ≡ key)
 
 -- The caller's last step, which it made since then, asked for a link for the client of this pass,
 -- and got this answer.

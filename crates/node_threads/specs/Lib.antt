@@ -6,6 +6,7 @@ pub mod Cancelling
 pub mod Words
 pub mod Balance
 pub mod Turn
+pub mod Meaning
 pub mod Leasing
 pub mod Serving
 pub mod Restarting

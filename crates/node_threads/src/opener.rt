@@ -4,6 +4,7 @@ ghost use Rattle.std.specs.declared.io.Error.{Error};
 
 use peer_forward::{ReadCalls, WriteCalls};
 use pg_ids::{DatabaseNo, PeerNo};
+use session_io::{LoginListener, LoginRefusal};
 use std::io;
 use std::sync::Wait;
 
@@ -44,6 +45,12 @@ pub trait Opener {
     fn peer<R: Wait>(&self, rt: &R, peer: PeerNo) -> io::Result<Self::Stream>
         ensures opened { reaches self.now peer result };
 
+    /// Whether a link of this database is to be tried once more, after a try that failed. It may wait
+    /// a while before it returns.
+    fn tries_again<R: Wait>(&self, _rt: &R, _database: DatabaseNo) -> bool {
+        false
+    }
+
     /// Whether the stream of a link that nobody used is as it was left: it is open, and nothing
     /// came on it. It doesn't wait.
     fn is_quiet(&self, _stream: &Self::Stream) -> bool {
@@ -64,7 +71,27 @@ pub trait Opener {
         false
     }
 
+    /// The server of a database refuses a login on this stream by an error. What follows is read of
+    /// it, as far as it comes, and then `refuse_login` is called.
+    fn begin_refusal(&self, _stream: &Self::Stream) {}
+
+    /// The server of this database refused the login of a link with these words.
+    fn refuse_login(&self, _database: DatabaseNo, _refusal: &LoginRefusal) {}
+
     /// On this database a message has this length field, or a client's messages of an extended
     /// query have this many bytes together, more than the limit.
     fn refuse_message(&self, _database: DatabaseNo, _from: Sender, _bytes: usize, _limit: u32) {}
+}
+
+/// Hears of logins for an opener.
+#[derive(Drop)]
+pub struct Listening<'a, O> {
+    /// The opener.
+    pub opener: &'a O,
+}
+
+impl<O: Opener> LoginListener<O::Stream> for Listening<'_, O> {
+    fn error_begins(&self, stream: &O::Stream) {
+        self.opener.begin_refusal(stream);
+    }
 }

@@ -1,5 +1,8 @@
 //! What connections are served with.
-use crate::Admission;
+ghost use Rattle.std.specs.Prelude.{◌≡◌, slice_get, Some};
+ghost use Rattle.std.specs.Arc.{arc_value};
+
+use crate::{Admission, Link, Node};
 use ini_config::Settings;
 use locked_node::Shared;
 use pg_frames::MessageLimit;
@@ -58,6 +61,37 @@ impl<'a, R, S, O, G> Service<'a, R, S, O, G> {
         Context {
             rt: self.rt,
             gate: self.gate,
+        }
+    }
+}
+
+impl<'a, R, L: Drop, O, G> Service<'a, R, Link<L>, O, G> {
+    /// The service of a node.
+    pub(crate) fn of_node(
+        node: &'a Node<L>,
+        context: Context<'a, R, G>,
+        alloc: Global,
+        opener: &'a O,
+        reports: &'a Reports,
+        limit: &'a MessageLimit,
+    ) -> Service<'a, R, Link<L>, O, G>
+        ensures shared { result.shared.now ≡ node.now.shared }
+        ensures opener { result.opener.now ≡ opener.now }
+        ensures reports { result.reports.now ≡ reports.now }
+        ensures limit { result.limit.now ≡ limit.now }
+        ensures settings { slice_get (arc_value node.now.group) node.now.place
+            ≡ Some result.settings.now }
+    {
+        Service {
+            rt: context.rt,
+            alloc,
+            shared: &node.shared,
+            settings: node.settings(),
+            reports,
+            limit,
+            admission: &node.admission,
+            opener,
+            gate: context.gate,
         }
     }
 }

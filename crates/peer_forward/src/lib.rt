@@ -2,6 +2,7 @@
 //! whoever asked for it learns by one byte that it may not have been acted on.
 #![tactic(auto)]
 
+mod arrival;
 mod calls;
 mod carrying;
 mod outcome;
@@ -9,6 +10,7 @@ mod requester;
 mod verdict;
 mod writing;
 
+pub use arrival::{Arrival, Asks};
 pub use calls::{ReadCalls, WriteCalls};
 pub use carrying::carry;
 pub use outcome::Outcome;

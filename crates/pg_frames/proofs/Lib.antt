@@ -1,3 +1,4 @@
 pub mod CutLemmas
 pub mod FlowLemmas
+pub mod StoreLemmas
 pub mod TextLemmas

@@ -1,11 +1,11 @@
 -- The bytes in the buffer of a `Flow` (internal).
-use Rattle.std.specs.Prelude.{ℕ, List, ◌-◌, drop, take}
+use Rattle.std.specs.Prelude.{ℕ, List, drop, take}
 use Rattle.pg_frames.specs.declared.buffer.Buffer.{Buffer}
 
 -- those that weren't taken
 abbrev pub unread : Buffer → List ℕ
-unread buffer = drop buffer.start buffer.bytes.items
+unread buffer = drop buffer.taken buffer.store.items
 
 -- those that were taken and aren't forgotten
 abbrev pub kept : Buffer → List ℕ
-kept buffer = take (buffer.start - buffer.kept_from) (drop buffer.kept_from buffer.bytes.items)
+kept buffer = take buffer.taken buffer.store.items

@@ -3,6 +3,8 @@ pub mod FrameText
 pub mod Header
 pub mod Pending
 pub mod Ready
+pub mod Reading
+pub mod Stored
 pub mod Buffer
 pub mod Passage
 pub mod Parts

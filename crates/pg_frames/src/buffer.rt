@@ -1,7 +1,10 @@
-//! The bytes that a flow was fed and hasn't handed out, and behind them those that it handed out
+//! The bytes that a flow was fed and hasn't handed out, and in front of them those that it handed out
 //! last, in memory that is taken once.
-ghost use Rattle.std.specs.Prelude.{◌≡◌, ◌+◌, ◌-◌, ◌≤◌, ◌++◌, [], length, drop, take, slice_range, vec_len, vec_capacity, IfOk};
+ghost use Rattle.std.specs.Prelude.{◌≡◌, ◌+◌, ◌-◌, ◌<◌, ◌≤◌, ◌++◌, [], length, drop, take, IfOk};
+ghost use Rattle.pg_frames.specs.Reading.{ReadsOnce};
 
+use crate::store::Store;
+use peer_forward::ReadCalls;
 use std::alloc::{AllocError, Global};
 
 /// How many bytes a buffer holds at most.
@@ -11,15 +14,11 @@ pub const CAPACITY: usize = 16_384;
 /// front of the others until they are forgotten.
 #[derive(Drop)]
 pub struct Buffer {
-    bytes: Vec<u8>,
-    // What stands before it was forgotten.
-    kept_from: usize,
-    // What stands before it was taken.
-    start: usize,
-    ghost in_order: { kept_from ≤ start },
-    ghost in_bounds: { start ≤ vec_len bytes },
-    ghost fits: { vec_len bytes ≤ kept_from + 16384 },
-    ghost capacity: { 16384 ≤ vec_capacity bytes },
+    store: Store,
+    // How many bytes at the front were taken.
+    taken: usize,
+    ghost within: { taken ≤ length store.items },
+    ghost size: { store.size ≡ 16384 },
 }
 
 impl Buffer {
@@ -30,12 +29,8 @@ impl Buffer {
         ensures unread { IfOk result (λ buffer. unread buffer ≡ []) }
         ensures kept { IfOk result (λ buffer. kept buffer ≡ []) }
     {
-        let bytes = Vec::with_capacity(alloc, CAPACITY)?;
-        Ok(Buffer {
-            bytes,
-            kept_from: 0,
-            start: 0,
-        })
+        let store = Store::with_size(alloc, CAPACITY)?;
+        Ok(Buffer { store, taken: 0 })
     }
 
     /// The bytes that weren't taken.
@@ -43,14 +38,14 @@ impl Buffer {
         ensures value { result.now ≡ unread self.now }
         ensures fits { length (kept self.now) + length (unread self.now) ≤ 16384 }
     {
-        self.bytes.as_slice().split_at(self.start).1
+        self.store.as_slice().split_at(self.taken).1
     }
 
     /// The bytes that were taken and aren't forgotten.
     pub fn kept(&self) -> &[u8]
         ensures { result.now ≡ kept self.now }
     {
-        &self.bytes.as_slice()[self.kept_from..self.start]
+        self.store.as_slice().split_at(self.taken).0
     }
 
     /// Appends some bytes.
@@ -59,10 +54,18 @@ impl Buffer {
         ensures unread { unread self.new ≡ unread self.old ++ piece.now }
         ensures kept { kept self.new ≡ kept self.old }
     {
-        remove_front(&mut self.bytes, self.kept_from);
-        self.start -= self.kept_from;
-        self.kept_from = 0;
-        self.bytes.extend_from_slice(piece).unwrap();
+        self.store.append(piece);
+    }
+
+    /// Reads a stream once, as much as there is room for, and appends what came. It returns how many
+    /// bytes that were: none at the end of the input, and where the read failed.
+    pub fn read_from<T: ReadCalls>(&mut self, stream: &mut T) -> usize
+        requires { length (kept self.old) + length (unread self.old) < 16384 }
+        ensures read { ReadsOnce T.gave stream.old stream.new result
+            (λ bytes. unread self.new ≡ unread self.old ++ bytes) }
+        ensures kept { kept self.new ≡ kept self.old }
+    {
+        self.store.read_from(stream)
     }
 
     /// Takes some bytes from the front.
@@ -70,21 +73,22 @@ impl Buffer {
         requires { count ≤ length (unread self.old) }
         ensures left { unread self.new ≡ drop count (unread self.old) }
         ensures kept { kept self.new ≡ kept self.old ++ take count (unread self.old) }
-        ensures taken { slice_range self.new.bytes.items (self.new.start - count) self.new.start
+        ensures taken { drop (length (kept self.new) - count) (kept self.new)
             ≡ take count (unread self.old) }
-        ensures within { count ≤ self.new.start }
+        ensures within { count ≤ length (kept self.new) }
     {
-        self.start += count;
+        let len = self.store.len();
+        prove!(count <= len - self.taken);
+        self.taken += count;
     }
 
     /// The bytes that were taken last.
     pub fn taken(&self, count: usize) -> &[u8]
-        requires { count ≤ self.now.start }
-        ensures { result.now
-            ≡ slice_range self.now.bytes.items (self.now.start - count) self.now.start }
+        requires { count ≤ length (kept self.now) }
+        ensures { result.now ≡ drop (length (kept self.now) - count) (kept self.now) }
     {
-        let end = self.start;
-        &self.bytes.as_slice()[end - count..end]
+        let kept = self.kept();
+        kept.split_at(kept.len() - count).1
     }
 
     /// Forgets some of the bytes that were taken, the oldest first.
@@ -93,18 +97,7 @@ impl Buffer {
         ensures unread { unread self.new ≡ unread self.old }
         ensures kept { kept self.new ≡ drop count (kept self.old) }
     {
-        self.kept_from += count;
+        self.store.advance(count);
+        self.taken -= count;
     }
-}
-
-// Moves what follows to the front.
-fn remove_front(bytes: &mut Vec<u8>, count: usize)
-    requires { count ≤ vec_len bytes.old }
-    ensures items { bytes.new.items ≡ drop count bytes.old.items }
-    ensures len { vec_len bytes.new ≡ vec_len bytes.old - count }
-    ensures capacity { vec_capacity bytes.new ≡ vec_capacity bytes.old }
-{
-    let len = bytes.len();
-    bytes.as_mut_slice().copy_within(count..len, 0);
-    bytes.truncate(len - count);
 }

@@ -1,19 +1,28 @@
 //! A stream of frames that comes in any pieces.
-ghost use Rattle.std.specs.Prelude.{◌≡◌, ◌≢◌, ◌+◌, ◌-◌, ◌<◌, ◌≤◌, ℕ, ◌++◌, [], length, take, drop, slice_index, Ok, Err, Some, None, IfOk, IfSome, OnOk, OnErr, IsOkUnless};
+ghost use Rattle.std.specs.Prelude.{◌≡◌, ◌≢◌, ◌+◌, ◌-◌, ◌<◌, ◌≤◌, ℕ, List, ◌++◌, [], length, take, drop, slice_index, vec_len, Ok, Err, Some, None, IfOk, IfSome, OnOk, OnErr, IsOkUnless};
 ghost use Rattle.byteorder.specs.Endian.{big_number};
 ghost use Rattle.pg_frames.specs.FrameText.{text, IsFrame, BeginsNoFrame, IsJudged, HasFault};
 ghost use Rattle.pg_frames.specs.Pending.{nothing, with_piece};
+ghost use Rattle.pg_frames.specs.Reading.{ReadsOnce};
+ghost use Rattle.pg_frames.specs.Ready.{IsReady};
 
 use crate::header::HEADER_LEN;
 use crate::scan::{fault_after, whole_len};
+use crate::store::Store;
 use crate::{Body, Frame, FrameError, MAX_MESSAGE, MessageLimit};
 use byteorder::{BigEndian, ByteOrder};
-use bytes::BytesMut;
+use peer_forward::ReadCalls;
 use std::alloc::{AllocError, Global};
 use std::marker::Model;
 
-// How many bytes of memory a cutter keeps at most once all was handed out.
-const KEPT: usize = 16_384;
+// How many bytes the memory has into which a stream is read: until a read filled it, and from then
+// on. More isn't kept once all was handed out.
+const ROOM: usize = 512;
+
+const GROWN_ROOM: usize = 2_048;
+
+// How many bytes it has at least for what one read didn't return whole.
+const LARGE_ROOM: usize = 16_384;
 
 // How many bytes of memory it keeps at most for the next frame's body.
 const KEPT_BODY: usize = 1_024;
@@ -24,9 +33,11 @@ const KEPT_BODY: usize = 1_024;
 pub struct Cutter {
     alloc: Global,
     limit: MessageLimit,
-    bytes: BytesMut,
+    store: Store,
     // How many of the bytes are whole frames, so that no byte is judged twice.
     ready: usize,
+    // Whether a read has filled its memory.
+    is_grown: bool,
     // Memory for the next frame's body.
     spare: Vec<u8>,
 }
@@ -37,9 +48,9 @@ impl Model for Cutter {
 
     ghost Value = { Pending };
 
-    ghost view = { λ c. record { limit = c.limit; bytes = c.bytes.items } };
+    ghost view = { λ c. record { limit = c.limit; bytes = c.store.items } };
 
-    ghost invariant = { λ c. IsReady c.limit c.bytes.items c.ready };
+    ghost invariant = { λ c. IsReady c.limit c.store.items c.ready };
 }
 
 impl Cutter {
@@ -57,8 +68,9 @@ impl Cutter {
         Cutter {
             alloc,
             limit,
-            bytes: BytesMut::new(alloc),
+            store: Store::new(alloc),
             ready: 0,
+            is_grown: false,
             spare: Vec::new(alloc),
         }
     }
@@ -95,7 +107,7 @@ impl Cutter {
         ensures stands { HasFault self.now.limit self.now.bytes result }
         ensures bytes { (i : ℕ) → slice_index self.now.bytes i < 256 }
     {
-        fault_after(self.limit, self.bytes.as_slice(), self.ready)
+        fault_after(self.limit, self.store.as_slice(), self.ready)
     }
 
     /// Takes the next piece of a stream without a fault so far. It isn't judged yet.
@@ -104,14 +116,32 @@ impl Cutter {
         ensures ok { OnOk result (self.new ≡ with_piece self.old piece.now) }
         ensures memory { OnErr result (self.new ≡ self.old) }
     {
-        self.bytes.extend_from_slice(piece)?;
-        let (_, rest) = self.bytes.as_slice().split_at(self.ready);
-        self.ready += whole_len(self.limit, rest);
+        extend(&mut self.store, self.alloc, piece)?;
+        self.ready = ready_after(self.limit, &self.store, self.ready);
         Ok(())
     }
 
+    /// Reads a stream without a fault so far once, into memory behind what is there, and takes what
+    /// came as its next piece. It isn't judged yet. It returns how many bytes came: none at the end of
+    /// the input, and where the read failed. Nothing is read where memory is refused.
+    pub fn read_from<T: ReadCalls>(&mut self, stream: &mut T) -> Result<usize, AllocError>
+        requires sound { HasFault self.old.limit self.old.bytes None }
+        ensures ok { IfOk result (λ count. ReadsOnce T.gave stream.old stream.new count
+            (λ piece. self.new ≡ with_piece self.old piece)) }
+        ensures memory { OnErr result (self.new ≡ self.old) }
+        ensures unread { OnErr result (stream.new ≡ stream.old) }
+    {
+        let room = self.room();
+        make_room(&mut self.store, self.alloc, room)?;
+        let count = self.store.read_from(stream);
+        let ready = ready_after(self.limit, &self.store, self.ready);
+        self.ready = ready;
+        self.is_grown = self.is_grown || self.store.len() == self.store.size();
+        Ok(count)
+    }
+
     /// Hands out the next frame, if it is whole. The only error is `Memory`. Once all was handed
-    /// out, at most 16,384 bytes of memory are kept.
+    /// out, at most 2,048 bytes of memory are kept.
     pub fn next(&mut self) -> Result<Option<Frame>, FrameError>
         ensures frame { IfOk result (λ found. IfSome found
             (λ frame. IsFrame self.old.limit frame
@@ -126,11 +156,11 @@ impl Cutter {
             return Ok(None);
         }
         let spare = std::mem::replace(&mut self.spare, Vec::new(self.alloc));
-        let frame = first_frame(spare, self.bytes.as_slice())?;
+        let frame = first_frame(spare, self.store.as_slice())?;
         let len = HEADER_LEN + frame.body.len();
-        self.bytes.advance(len);
+        self.store.advance(len);
         self.ready -= len;
-        give_back(&mut self.bytes, self.alloc);
+        give_back(&mut self.store, self.alloc);
         Ok(Some(frame))
     }
 
@@ -148,28 +178,102 @@ impl Cutter {
     pub fn pending(&self) -> &[u8]
         ensures { result.now ≡ self.now.bytes }
     {
-        self.bytes.as_slice()
+        self.store.as_slice()
+    }
+
+    /// Hands out the memory in which the bytes stand that were fed and aren't handed out, with these
+    /// bytes at its front.
+    pub fn take_memory(&mut self) -> Vec<u8>
+        ensures bytes { take (length self.old.bytes) result.items ≡ self.old.bytes }
+        ensures within { length self.old.bytes ≤ vec_len result }
+        ensures left { self.new ≡ nothing self.old.limit }
+    {
+        let store = std::mem::replace(&mut self.store, Store::new(self.alloc));
+        self.ready = 0;
+        store.into_memory()
+    }
+
+    /// Takes memory that was handed out back, to be read into, where it has none.
+    pub fn keep_memory(&mut self, memory: Vec<u8>)
+        ensures { self.new ≡ self.old }
+    {
+        if self.store.size() == 0 && memory.len() == self.room() {
+            self.store = Store::of(memory);
+        }
+    }
+
+    // How many bytes the memory is to have into which a stream is read.
+    fn room(&self) -> usize
+        ensures { 0 < result }
+    {
+        if self.is_grown { GROWN_ROOM } else { ROOM }
     }
 
     /// How many bytes it has memory for, those that aren't handed out among them.
     pub fn capacity(&self) -> usize
         ensures { length self.now.bytes ≤ result }
     {
-        self.bytes.capacity()
+        self.store.size()
     }
 }
 
-// An empty buffer is filled from its start again, and frees its memory if that is large.
-fn give_back(bytes: &mut BytesMut, alloc: Global)
-    ensures items { bytes.new.items ≡ bytes.old.items }
-    ensures small { bytes.old.items ≡ [] → bytes.new.spare ≤ 16384 }
+// How many bytes at the front are whole frames, where so many are.
+fn ready_after(limit: MessageLimit, store: &Store, ready: usize) -> usize
+    requires { ready ≤ length store.now.items }
+    ensures { (old more : List ℕ) → store.now.items ≡ old ++ more → IsReady limit old ready
+        → IsReady limit store.now.items result }
 {
-    if !bytes.is_empty() {
-        return;
+    let (_, rest) = store.as_slice().split_at(ready);
+    ready + whole_len(limit, rest)
+}
+
+// Appends bytes, and makes memory for them.
+fn extend(store: &mut Store, alloc: Global, piece: &[u8]) -> Result<(), AllocError>
+    ensures ok { OnOk result (store.new.items ≡ store.old.items ++ piece.now) }
+    ensures err { OnErr result (store.new ≡ store.old) }
+{
+    let size = store.size();
+    if size - store.len() < piece.len() {
+        store.grow(alloc, piece.len().checked_add(size).ok_or(AllocError)?)?;
     }
-    bytes.clear();
-    if bytes.capacity() > KEPT {
-        *bytes = BytesMut::new(alloc);
+    store.append(piece);
+    Ok(())
+}
+
+// Makes memory to be read into: of this size where nothing is there, and else for more than is there.
+fn make_room(store: &mut Store, alloc: Global, room: usize) -> Result<(), AllocError>
+    requires { 0 < room }
+    ensures ok { OnOk result (length store.new.items < store.new.size) }
+    ensures items { store.new.items ≡ store.old.items }
+    ensures err { OnErr result (store.new ≡ store.old) }
+{
+    let len = store.len();
+    let size = store.size();
+    if len == 0 {
+        if size < room {
+            *store = Store::with_size(alloc, room)?;
+        }
+        return Ok(());
+    }
+    if size < LARGE_ROOM {
+        return store.grow(alloc, LARGE_ROOM);
+    }
+    if size - len < GROWN_ROOM {
+        let Some(more) = size.checked_add(size) else {
+            return Err(AllocError);
+        };
+        return store.grow(alloc, more);
+    }
+    Ok(())
+}
+
+// What has memory for much gives it back once it is empty.
+fn give_back(store: &mut Store, alloc: Global)
+    ensures items { store.new.items ≡ store.old.items }
+    ensures small { store.old.items ≡ [] → store.new.size ≤ 2048 }
+{
+    if store.len() == 0 && store.size() > GROWN_ROOM {
+        *store = Store::new(alloc);
     }
 }
 

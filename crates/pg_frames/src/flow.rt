@@ -6,11 +6,13 @@ ghost use Rattle.pg_frames.specs.contracts.flow.Flow.{the_row};
 ghost use Rattle.pg_frames.specs.declared.error.FrameError.{FrameError};
 ghost use Rattle.pg_frames.specs.FrameText.{is_type, BeginsNoFrame, HasFault};
 ghost use Rattle.pg_frames.specs.Passage.{start, fed, forgotten, after, answer_of, BeginsNoHead, BeginsWith, HasNoNext, Hands};
+ghost use Rattle.pg_frames.specs.Reading.{ReadsOnce};
 
 use crate::buffer::{Buffer, CAPACITY};
 use crate::header::{FIELD_LEN, HEADER_LEN, Header, header_at, header_of};
 use crate::scan::fault_in;
 use crate::{FrameError, MAX_MESSAGE, MessageLimit, Piece};
+use peer_forward::ReadCalls;
 use std::alloc::Global;
 use std::marker::Model;
 
@@ -120,6 +122,18 @@ impl Flow {
         self.inside.buffer.append(piece);
     }
 
+    /// Reads a stream without a fault so far once, as much as there is room for, and takes what came
+    /// as its next piece. It isn't judged yet. It returns how many bytes came: none at the end of the
+    /// input, and where the read failed.
+    pub fn read_from<T: ReadCalls>(&mut self, stream: &mut T) -> usize
+        requires room { length self.old.passed + length self.old.bytes < 16384 }
+        requires sound { HasFault self.old.limit (after self.old) None }
+        ensures { ReadsOnce T.gave stream.old stream.new result
+            (λ piece. self.new ≡ fed self.old piece) }
+    {
+        self.inside.buffer.read_from(stream)
+    }
+
     /// The fault at the front of the rest of what was fed.
     pub fn fault(&self) -> Option<FrameError>
         ensures { HasFault self.now.limit (after self.now) result }
@@ -156,29 +170,23 @@ impl Flow {
         Some(Piece::Part(self.inside.buffer.taken(count)))
     }
 
-    /// The head of the next frame, if no part of it was handed out and all of it is there.
-    pub fn whole_frame(&self) -> Option<Header>
-        ensures none { result ≡ None → self.now.left ≡ None → BeginsNoFrame self.now.limit self.now.bytes }
-        ensures some { IfSome result (λ head. (self.now.left ≡ None)
-            × BeginsWith self.now.limit self.now.bytes head × (1 + head.length ≤ length self.now.bytes)) }
-    {
-        if self.inside.left.is_some() {
-            return None;
-        }
-        whole_head(self.inside.limit, self.inside.buffer.as_slice())
-    }
-
-    /// Hands out the whole frame with this head at once.
-    pub fn pass_frame(&mut self, head: Header)
+    /// Hands out this many bytes at once, which are whole frames.
+    pub fn pass_frames(&mut self, len: usize)
         requires between { self.old.left ≡ None }
-        requires whole { 1 + head.length ≤ length self.old.bytes }
-        ensures passed { self.new.passed
-            ≡ self.old.passed ++ take (1 + head.length) self.old.bytes }
+        requires within { len ≤ length self.old.bytes }
+        ensures passed { self.new.passed ≡ self.old.passed ++ take len self.old.bytes }
         ensures left { self.new.left ≡ None }
-        ensures bytes { self.new.bytes ≡ drop (1 + head.length) self.old.bytes }
+        ensures bytes { self.new.bytes ≡ drop len self.old.bytes }
         ensures limit { self.new.limit ≡ self.old.limit }
     {
-        self.inside.buffer.advance(1 + head.length);
+        self.inside.buffer.advance(len);
+    }
+
+    /// Whether it is between two frames.
+    pub fn is_between(&self) -> bool
+        ensures { IsTrue result ↔ (self.now.left ≡ None) }
+    {
+        self.inside.left.is_none()
     }
 
     /// The limit of a message.

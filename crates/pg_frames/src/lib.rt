@@ -14,6 +14,7 @@ mod parts;
 mod piece;
 mod put;
 mod scan;
+mod store;
 mod stream;
 
 pub use body::Body;

@@ -1,6 +1,7 @@
 //! Runs the command that the arguments name.
 ghost use Rattle.std.specs.Prelude.{◌≡◌, OnOk, OnErr};
 
+use crate::loops::refuse_loops;
 use crate::serving::serve;
 use crate::standing_in::stand_in;
 use answer::{Fault, Opener, answer, group_of, seed_of, usage_fault, write_fault};
@@ -69,7 +70,8 @@ fn status_of(ended: &Result<(), ServeError>) -> u8
     }
 }
 
-// Serves the group of these settings files. Fails if a file can't be used.
+// Serves the group of these settings files. Fails if a file can't be used, or if an entry leads
+// back to this process.
 fn serve_files<H: Host, O: Opener, I: Read, W: Write>(
     host: &H,
     alloc: Global,
@@ -79,6 +81,7 @@ fn serve_files<H: Host, O: Opener, I: Read, W: Write>(
     out: &mut W,
 ) -> Result<Result<(), ServeError>, Fault> {
     let group = group_of(alloc, opener, &request.files)?;
+    refuse_loops(host, alloc, opener, &group, request)?;
     let seed = seed_of(alloc, opener, request.seed)?;
     Ok(serve(host, alloc, group, request, seed, input, out))
 }

@@ -2,6 +2,7 @@
 #![tactic(auto)]
 
 mod command;
+mod loops;
 mod serving;
 mod standing_in;
 

@@ -49,6 +49,7 @@ fn options_of<'a>(
         log: level_of(request.log),
         metrics: request.metrics,
         max_message: limit_of(request.max_message),
+        server_wait: request.server_wait,
     }
 }
 

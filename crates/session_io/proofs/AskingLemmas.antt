@@ -1,5 +1,5 @@
 -- The next request of a client, or how it leaves.
-use Rattle.std.proofs.Common.{◌≡◌, inl, inr, ℕ, Bool, List, [], ◌++◌, length, Some, Ok, Err, refl, sym, ap, ◌∙◌, subst, append_assoc, append-nil}
+use Rattle.std.proofs.Common.{◌≡◌, inl, inr, ℕ, Bool, List, [], ◌∷◌, ◌++◌, length, None, Some, Ok, Err, refl, sym, ap, ◌∙◌, subst, append_assoc, append-nil}
 use Rattle.pg_frames.proofs.CutLemmas.{texts-append}
 use Rattle.peer_forward.specs.Calls.{Call, Effect, Makes}
 use Rattle.pg_frames.specs.declared.frame.Frame.{Frame}
@@ -12,7 +12,7 @@ use Rattle.client_state.specs.declared.client_message.ClientMessage.{ClientMessa
 use Rattle.client_state.specs.declared.client_message.ClientMessage.TheVariants as message
 use Rattle.session_io.specs.declared.session.requests.Found.{Found}
 use Rattle.session_io.specs.declared.session.requests.Found.TheVariants.{More, Request, End}
-use Rattle.session_io.specs.StreamCalls.{SomeCalls, Read, ReadToEnd}
+use Rattle.session_io.specs.StreamCalls.{SomeCalls, Read, ReadToEnd, IsFailedRead}
 use Rattle.client_state.specs.Request.{AreGathered, Asks, request_of}
 use Rattle.client_state.proofs.RequestLemmas.{gathered-append}
 use Rattle.session_io.specs.Asking.{Says, Faulty, Silent, NoMemory}
@@ -20,7 +20,7 @@ use Rattle.session_io.specs.Progress.{asking}
 use Rattle.session_io.specs.Finding.{gathering, Comes, Finds, Quits, IsRefusal, AsksNext}
 use Rattle.pg_frames.specs.Pending.{Pending, with_piece}
 use Rattle.peer_forward.proofs.CallLemmas.{Makes-append}
-use Rattle.session_io.proofs.CallLists.{Read-append, Read-nothing, ReadToEnd-append}
+use Rattle.session_io.proofs.CallLists.{Read-append, Read-nothing, ReadToEnd-append, ReadToEnd-failed}
 use Rattle.session_io.proofs.FaultLemmas.{fault_here}
 
 -- a fault that stands ends the session
@@ -34,6 +34,13 @@ quits_faulty limit kept TooLong reply none has wrong =
 quits_faulty limit kept BadType reply none has wrong =
     inl (BadType, refl, fault_here limit kept (Some BadType) none has, refl, wrong)
 quits_faulty limit kept Memory reply none has wrong = inr (inr ([], Read-nothing, wrong))
+
+-- nothing more comes of the client
+pub quits_at_end : (limit : ℕ) (kept : List ℕ) (call : Call) (reply left : List ℕ)
+    → IsFailedRead call → fault_at limit kept ≡ None → left ≡ kept → reply ≡ []
+    → Quits limit kept (call ∷ []) reply left
+quits_at_end limit kept call reply left failed none same wrong =
+    inr (inl (ReadToEnd-failed call failed, none, same, wrong))
 
 -- so far this was read of the client, and these messages gathered
 pub record Awaiting {T : Type 0} (limit : ℕ) (wrote gave : Effect T) (old : T) (leased : Bool)

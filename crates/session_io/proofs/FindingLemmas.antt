@@ -5,6 +5,7 @@ use Rattle.pg_frames.specs.FrameText.{text, texts, IsFrame, BeginsNoFrame}
 use Rattle.client_state.specs.Acts.{ActsOn, ActsOnClient, asks, ends, fatal}
 use Rattle.client_state.specs.Session.{Session}
 use Rattle.client_state.specs.ClientMessage.{client_message}
+use Rattle.client_state.specs.Request.{AreGathered, IsRequest}
 use Rattle.client_state.specs.declared.act.Act.{Act}
 use Rattle.client_state.specs.declared.act.Act.TheVariants.{ToLink, ToClient, Need, Release, Close, End as Ends}
 use Rattle.client_state.specs.declared.client_message.ClientMessage.{ClientMessage}
@@ -401,3 +402,28 @@ frame_at limit at found frame kept left same is has =
     let came : IsFrame at frame × (kept ≡ text frame ++ left) =
     subst (λ (o : Option Frame). IfSome o (λ f. IsFrame at f × (kept ≡ text f ++ left))) is has in
     (subst (λ (n : ℕ). IsFrame n frame) same came.0, came.1)
+
+-- all that was read is one request
+pub finds_whole : (limit : ℕ) (old new : Session) (kept request left : List ℕ)
+    → old ≡ gathering limit old.leased old.database old.gathered → old.gathered ≡ []
+    → IsRequest limit kept → request ≡ kept → left ≡ []
+    → new ≡ record old { leased = true; outstanding = 1 }
+    → Finds limit old kept (Request request) new left
+finds_whole limit old new kept request left is none asked same nothing new_is =
+    let parts = asked.0 in
+    let last = asked.1 in (
+      parts,
+      last,
+      record {
+        whole = asked.3 ∙ ap (λ xs. texts parts ++ xs)
+            (sym (ap (λ xs. text last ++ xs) nothing ∙ append-nil (text last)));
+        gathered = subst (λ (xs : List ℕ). AreGathered limit xs parts) (sym none)
+            asked.2.gathered;
+        is_frame = asked.2.is_frame;
+        means = ap (λ xs. client_message limit (length (xs ++ texts parts)) last) none
+            ∙ asked.2.means;
+      },
+      same ∙ asked.3 ∙ ap (λ xs. (xs ++ texts parts) ++ text last) (sym none),
+      new_is ∙ ap (λ (s : Session). record s { leased = true; outstanding = 1 }) is
+          ∙ ap (λ xs. record (asking limit old.database) { gathered = xs }) none,
+    )

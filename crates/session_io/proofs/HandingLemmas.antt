@@ -62,7 +62,7 @@ texts-push frames frame = flat_map-append text frames (frame ∷ [])
     ∙ ap (λ xs. texts frames ++ xs) (append-nil (text frame))
 
 -- at a place where no body's bytes are to come, no frame is begun
-none_open : (limit : ℕ) (place : Place) (shown : List ℕ) → IsShown limit place None shown
+pub none_open : (limit : ℕ) (place : Place) (shown : List ℕ) → IsShown limit place None shown
     → (place ≡ Between) × (shown ≡ [])
 none_open limit Between shown is = (refl, is.1)
 none_open limit Inside shown is = absurd (none_some is.3 is.7)

@@ -12,6 +12,6 @@ pub mod StoppingLemmas
 pub mod StayLemmas
 pub mod LoginLemmas
 pub mod OpeningLemmas
-pub mod WholeLemmas
-pub mod FirstReadLemmas
+pub mod RunLemmas
 pub mod AboveLemmas
+pub mod RefusedLemmas

@@ -1,5 +1,5 @@
 -- A login at a server, piece by piece of what the server sent.
-use Rattle.std.proofs.Common.{◌≡◌, IfSome, ℕ, ◌+◌, ◌-◌, ◌<◌, ◌≤◌, ◌↔◌, List, [], ◌∷◌, ◌++◌, length, take, drop, Option, Some, None, Result, Ok, refl, sym, ap, ◌∙◌, subst, arith, append_assoc, append-nil, length-append, length-take, take-append-drop}
+use Rattle.std.proofs.Common.{◌≡◌, ◌⊎◌, IfOk, IfErr, ℕ, ◌+◌, ◌-◌, ◌<◌, ◌≤◌, ◌↔◌, List, [], ◌∷◌, ◌++◌, length, take, drop, Option, Some, None, Result, Ok, Err, inl, inr, refl, sym, ap, ◌∙◌, subst, arith, append_assoc, append-nil, length-append, length-take, take-append-drop}
 use Rattle.std.specs.List.{AllByRecursion}
 use Rattle.peer_forward.specs.Calls.{Call, Effect, Makes}
 use Rattle.pg_frames.specs.declared.frame.Frame.{Frame}
@@ -15,14 +15,20 @@ use Rattle.link_state.specs.declared.head.Head.{Head as Meaning}
 use Rattle.link_state.specs.declared.head.Head.TheVariants as meaning
 use Rattle.link_state.specs.declared.part.Part.TheVariants.{Number, Key, Status}
 use Rattle.link_state.specs.Message.{head_of, part_of}
-use Rattle.link_state.specs.Login.{Login, GoOn, IsUpAt, HasRead, HasReadHead, Reaches, ReadsOn, body_part}
+use Rattle.link_state.specs.Login.{Login, GoOn, IsUpAt, HasRead, HasHead, HasReadHead, LeadInto, Reaches, ReadsOn, body_part}
+use Rattle.link_state.specs.declared.stage.Stage.{Stage}
+use Rattle.link_state.specs.declared.stage.Stage.TheVariants as stage
 use Rattle.session_io.specs.declared.login.place.LoginPlace.{LoginPlace}
 use Rattle.session_io.specs.declared.login.place.LoginPlace.TheVariants.{Between, Passing, Reading, Up}
 use Rattle.session_io.specs.declared.login.place.Taken.{Taken}
-use Rattle.session_io.specs.declared.login.place.Taken.TheVariants.{More, Done, Failed}
+use Rattle.session_io.specs.declared.login.place.Taken.TheVariants.{More, Done, Stopped}
+use Rattle.session_io.specs.declared.login.place.Stop.{Stop}
+use Rattle.session_io.specs.declared.login.place.Stop.TheVariants as why
+use Rattle.session_io.specs.LoginRefused.{StopsWith, SaysAsks, StopsOn, StopsAt, IsStop}
 use Rattle.session_io.specs.declared.login.place.Mark.TheVariants.{Part}
 use Rattle.session_io.specs.StreamCalls.{SomeCalls, Wrote, Read}
-use Rattle.session_io.specs.LoggingIn.{ReadsLogin, LogsIn, IsOpen, OfEach, IsAt, HasCome, IsDone, Takes, TakesBody, Handed, frame_of, mark_of, after_tail}
+use Rattle.session_io.specs.LoggingIn.{ReadsLogin, LogsIn, IsOpen, OfEach, IsAt, HasCome, IsDone, GoesOn, Takes, TakesBody, Handed, frame_of, mark_of, after_tail}
+use Rattle.std.proofs.lemmas.Bool.Decides.{nat_tests}
 use Rattle.peer_forward.proofs.CallLemmas.{Makes-append, each-append}
 use Rattle.session_io.proofs.CallLists.{Read-append, Read-nothing}
 use Rattle.session_io.proofs.HandingLemmas.{text_is, texts-push}
@@ -48,7 +54,7 @@ handed_piece before now piece.Tail hands = hands
 between_only : (limit : ℕ) (place : LoginPlace) (login : Login) (frames : List Frame)
     (shown : List ℕ)
     (left : Option ℕ) (kept : List ℕ) → left ≡ None → IsAt limit place login frames shown left kept
-    → HasRead login frames × (shown ≡ [])
+    → GoesOn login frames × (shown ≡ [])
 between_only limit Between login frames shown left kept none is = (is.0, is.1)
 between_only limit Passing login frames shown left kept none is =
     absurd (none_some is.3.more (sym none ∙ is.3.left_is))
@@ -63,7 +69,7 @@ record IsBegun (limit : ℕ) (stream : List ℕ) (login : Login) (kind size : �
   pub limit_is : now.limit ≡ limit
   pub frames : List Frame
   pub each : AllByRecursion (IsFrame limit) frames
-  pub read : HasRead login frames
+  pub read : GoesOn login frames
   pub stream_is : stream ≡ texts frames ++ (head_text kind size ++ now.bytes)
   pub opened : IsOpen limit kind size [] (head_text kind size) now.left
 
@@ -95,13 +101,16 @@ pub head_skipped : (limit : ℕ) (stream : List ℕ) (place : LoginPlace) (old n
     (before now after : Passage) (kind size : ℕ) (answer : Result LoginHead LinkError)
     → answer ≡ Ok Skip → after ≡ emptied now
     → ((frames : List Frame) → HasRead old frames → ReadsOn answer new frames kind size)
+    → ((frames : List Frame) (frame : Frame) → HasRead old frames → HasHead frame kind size
+    → (answer ≡ Ok Skip) ↔ (GoOn (frames ++ frame ∷ []) × (body_part kind size ≡ None)))
     → HasCome limit stream place old before → Hands before (Some (piece.Head kind size)) now
     → HasCome limit stream Passing new after
-head_skipped limit stream place old new before now after kind size answer is after_is reads come
+head_skipped limit stream place old new before now after kind size answer is after_is reads goes
+    come
     hands =
     let begun = head_begins limit stream place old before now kind size come hands in
     let whole = subst (λ (a : Result LoginHead LinkError). ReadsOn a new begun.frames kind size) is
-    (reads begun.frames begun.read) in
+    (reads begun.frames begun.read.0) in
     let here : HasCome limit stream Passing new (emptied now) = record {
       limit_is = begun.limit_is;
       frames = begun.frames;
@@ -114,7 +123,12 @@ head_skipped limit stream place old new before now after kind size answer is aft
         [],
         begun.opened,
         refl,
-        λ rest sizes. whole (frame_of kind rest) (record { kind_is = refl; len_is = sizes }),
+        λ rest sizes.
+            let at : HasHead (frame_of kind rest) kind size =
+            record { kind_is = refl; len_is = sizes } in (
+              whole (frame_of kind rest) at,
+              ((goes begun.frames (frame_of kind rest) begun.read.0 at).0 is).0,
+            ),
       );
     } in
     subst (λ (p : Passage). HasCome limit stream Passing new p) (sym after_is) here
@@ -145,8 +159,8 @@ head_read limit stream place old new before now after kind size wanted answer is
     hands =
     let begun = head_begins limit stream place old before now kind size come hands in
     let head = subst (λ (a : Result LoginHead LinkError). ReadsOn a new begun.frames kind size) is
-    (reads begun.frames begun.read) in
-    let part_is = ((wants begun.frames begun.read wanted).0 is).1 in
+    (reads begun.frames begun.read.0) in
+    let part_is = ((wants begun.frames begun.read.0 wanted).0 is).1 in
     let here : HasCome limit stream (Reading wanted) new (emptied now) = record {
       limit_is = begun.limit_is;
       frames = begun.frames;
@@ -230,7 +244,7 @@ part_here limit stream Passing login before now not come hands =
           come.stream_is
           hands.1.3;
       is_at = over_more limit come.shown before.left now.left before.passed part hands.1.0
-          (λ frame. HasRead login (come.frames ++ frame ∷ [])) come.is_at hands.1.2 hands.1.4;
+          (λ frame. GoesOn login (come.frames ++ frame ∷ [])) come.is_at hands.1.2 hands.1.4;
     }
 part_here limit stream (Reading wanted) login before now not come hands = absurd (not wanted refl)
 part_here limit stream (Up key) login before now not come hands =
@@ -325,6 +339,85 @@ reaches login frames kind size wanted passed rest begun part_is whole is =
           ∙ append_assoc (take wanted passed) (drop wanted passed) rest;
     }
 
+-- a login that waits for a message's body went on after the messages before
+waits_on : (frames : List Frame) (kind size : ℕ) (stage : Stage) → LeadInto frames kind size stage
+    → GoOn frames
+waits_on frames kind size (stage.Waiting key) leads = absurd leads
+waits_on frames kind size (stage.Reading part key) leads = leads.0.go_on
+waits_on frames kind size (stage.Done key) leads = absurd leads
+waits_on frames kind size (stage.Refused error) leads = absurd leads
+
+-- of an authentication request alone four bytes are read
+number_read : (means : Meaning) → part_of means ≡ Some 4 → means ≡ meaning.Body Number
+number_read meaning.Skipped is = absurd (none_some 4 is)
+number_read (meaning.Fault error) is = absurd (none_some 4 is)
+number_read meaning.OtherReady is = absurd (none_some 4 is)
+number_read (meaning.Body Number) is = refl
+number_read (meaning.Body Key) is = let e = some_some 8 4 is in absurd (omega (arith, e))
+number_read (meaning.Body Status) is = let e = some_some 1 4 is in absurd (omega (arith, e))
+
+number_kind : (kind size : ℕ) → head_of kind size ≡ meaning.Body Number → kind ≡ 82
+unfolding head_of
+number_kind kind size is = grind (arith, nat_tests)
+
+-- the login fails by the code of an authentication request
+body_stopped : (limit : ℕ) (stream : List ℕ) (login : Login) (wanted : ℕ) (now : Passage)
+    (stop : Stop)
+    → wanted ≤ length now.passed → IsKept limit stream login wanted now
+    → IsStop (take wanted now.passed) stop → StopsOn limit stream stop (emptied now)
+body_stopped limit stream login wanted now why.Failed whole is stops = tt
+body_stopped limit stream login wanted now (why.Asks code) whole is stops =
+    let four : wanted ≡ 4 = omega (arith, whole, stops.0, length-take wanted now.passed) in
+    let kind_is = number_kind is.kind is.size (number_read (head_of is.kind is.size)
+    (subst (λ n. body_part is.kind is.size ≡ Some n) four is.part_is)) in
+    let part = take wanted now.passed in
+    let rest = drop wanted now.passed in
+    let whole_is : now.passed ++ now.bytes ≡ part ++ (rest ++ now.bytes) =
+    ap (λ xs. xs ++ now.bytes) (sym (take-append-drop wanted now.passed))
+    ∙ append_assoc part rest now.bytes in
+    let shown_is : is.shown ++ now.bytes ≡ head_text 82 is.size ++ (part ++ (rest ++ now.bytes)) =
+    ap (λ xs. xs ++ now.bytes) is.opened.shown_is
+    ∙ append_assoc (head_text is.kind is.size) now.passed now.bytes
+    ∙ ap (λ k. head_text k is.size ++ (now.passed ++ now.bytes)) kind_is
+    ∙ ap (λ xs. head_text 82 is.size ++ xs) whole_is in
+    record {
+      size = is.size;
+      part = part;
+      rest = rest ++ now.bytes;
+      stops = record {
+        frames = is.frames;
+        each = is.each;
+        go_on = waits_on is.frames is.kind is.size login.stage is.begun;
+        head = subst (λ k. IsHead limit k is.size) kind_is is.opened.head;
+        bytes_are = is.stream_is ∙ ap (λ xs. texts is.frames ++ xs) shown_is;
+      };
+      part_len = stops.0;
+      code_is = stops.1;
+      other = stops.2;
+    }
+body_stopped limit stream login wanted now (why.Error size) whole is stops = absurd stops
+
+-- the login fails by a message's head, which begins an error or tells nothing
+pub head_stopped : (limit : ℕ) (stream : List ℕ) (place : LoginPlace) (old : Login)
+    (before now after : Passage) (kind size : ℕ) (stop : Stop)
+    → (stop ≡ why.Failed) ⊎ ((kind ≡ 69) × (stop ≡ why.Error size)) → after ≡ emptied now
+    → HasCome limit stream place old before → Hands before (Some (piece.Head kind size)) now
+    → StopsOn limit stream stop after
+head_stopped limit stream place old before now after kind size stop (inl is) after_is come hands =
+    subst (λ (s : Stop). StopsOn limit stream s after) (sym is) tt
+head_stopped limit stream place old before now after kind size stop (inr is) after_is come hands =
+    let begun = head_begins limit stream place old before now kind size come hands in
+    let here : StopsWith limit 69 size now.bytes stream =
+    subst (λ k. StopsWith limit k size now.bytes stream) is.0 (record {
+      frames = begun.frames;
+      each = begun.each;
+      go_on = begun.read.1;
+      head = begun.opened.head;
+      bytes_are = begun.stream_is;
+    }) in
+    subst (λ (s : Stop). StopsOn limit stream s after) (sym is.1)
+    (subst (λ xs. StopsWith limit 69 size xs stream) (ap (λ p. p.bytes) (sym after_is)) here)
+
 -- all that is read of it is there
 body_taken : (limit : ℕ) (stream : List ℕ) (old new : Login) (wanted : ℕ) (now : Passage)
     (taken : Taken)
@@ -367,7 +460,8 @@ body_taken limit stream old new wanted now (More (Up key)) whole is takes = reco
   );
 }
 body_taken limit stream old new wanted now (Done key) whole is takes = absurd takes
-body_taken limit stream old new wanted now Failed whole is takes = tt
+body_taken limit stream old new wanted now (Stopped stop) whole is stops =
+    body_stopped limit stream old wanted now stop whole is stops
 
 pub part_whole : (limit : ℕ) (stream : List ℕ) (old new : Login) (wanted : ℕ)
     (before now after : Passage)
@@ -421,7 +515,7 @@ tail_here : (limit : ℕ) (stream : List ℕ) (place : LoginPlace) (login : Logi
 tail_here limit stream Between login before now come hands = tt
 tail_here limit stream Passing login before now come hands =
     let whole = over_whole limit come.shown before.left before.passed
-    (λ frame. HasRead login (come.frames ++ frame ∷ [])) come.is_at hands.0 in
+    (λ frame. GoesOn login (come.frames ++ frame ∷ [])) come.is_at hands.0 in
     let frame = whole.0 in
     record {
       limit_is = hands.4 ∙ come.limit_is;
@@ -492,7 +586,7 @@ coming_start limit wrote gave old login passage none is =
       each = tt;
       shown = [];
       stream_is = refl;
-      is_at = (none, refl, refl, refl);
+      is_at = ((none, tt), refl, refl, refl);
     } in
     record {
       calls = [];
@@ -559,15 +653,41 @@ coming_done limit wrote gave old new place login passage taken key so_far done i
     )
 
 pub key_found : {T : Type 0} (limit : ℕ) (wrote gave : Effect T) (old new : T) (place : LoginPlace)
-    (login : Login) (passage taken : Passage) (key : List ℕ) (result : Option (List ℕ))
+    (login : Login) (passage taken : Passage) (key : List ℕ) (result : Result (List ℕ) Stop)
     (so_far : Coming limit wrote gave old place login passage new)
     → IsDone limit so_far.stream key taken
-    → IfSome result (λ found. (found ≡ key) × (taken ≡ start taken.limit))
-    → IfSome result (λ found. SomeCalls wrote gave old new (ReadsLogin limit found))
-key_found limit wrote gave old new place login passage taken key None so_far done is = tt
-key_found limit wrote gave old new place login passage taken key (Some found) so_far done is =
+    → IfOk result (λ found. (found ≡ key) × (taken ≡ start taken.limit))
+    → IfOk result (λ found. SomeCalls wrote gave old new (ReadsLogin limit found))
+key_found limit wrote gave old new place login passage taken key (Err stop) so_far done is = tt
+key_found limit wrote gave old new place login passage taken key (Ok found) so_far done is =
     subst (λ (k : List ℕ). SomeCalls wrote gave old new (ReadsLogin limit k)) (sym is.0)
     (coming_done limit wrote gave old new place login passage taken key so_far done is.1)
+
+-- the calls read what stopped the login
+pub coming_stopped : {T : Type 0} (limit : ℕ) (wrote gave : Effect T) (old new : T)
+    (place : LoginPlace) (login : Login) (passage taken : Passage) (stop : Stop)
+    (so_far : Coming limit wrote gave old place login passage new)
+    → StopsOn limit so_far.stream stop taken → StopsAt wrote gave old limit stop new taken
+coming_stopped limit wrote gave old new place login passage taken why.Failed so_far stops = tt
+coming_stopped limit wrote gave old new place login passage taken (why.Asks code) so_far stops = (
+  so_far.calls,
+  so_far.made,
+  subst (λ xs. SaysAsks limit code xs) (sym so_far.read.whole) stops,
+)
+coming_stopped limit wrote gave old new place login passage taken (why.Error size) so_far stops = (
+  so_far.calls,
+  so_far.made,
+  subst (λ xs. StopsWith limit 69 size taken.bytes xs) (sym so_far.read.whole) stops,
+)
+
+-- a result that says nothing of the server
+pub failed_quietly : {T : Type 0} (limit : ℕ) (wrote gave : Effect T) (old new : T)
+    (passage : Passage) (result : Result (List ℕ) Stop)
+    → IfErr result (λ stop. stop ≡ why.Failed)
+    → IfErr result (λ stop. StopsAt wrote gave old limit stop new passage)
+failed_quietly limit wrote gave old new passage (Ok found) is = tt
+failed_quietly limit wrote gave old new passage (Err stop) is =
+    subst (λ (s : Stop). StopsAt wrote gave old limit s new passage) (sym is) tt
 
 -- the StartupMessage was written whole before
 pub logged_in : {T : Type 0} (limit at : ℕ) (wrote gave : Effect T) (old new new' : T)

@@ -341,3 +341,11 @@ staying_on limit wrote gave wrote' gave' link link' sent_link link'' client clie
       ap (λ p. p.passed) drained,
       ap (λ p. p.limit) drained,
     )
+
+-- a request follows what is kept of the client
+pub asks_kept : {C : Type 0} (limit : ℕ) (wrote gave : Effect C) (c c' : C) (kept kept' : List ℕ)
+    (result : Result (List ℕ) (List ℕ)) (left : List ℕ) → kept' ≡ kept
+    → SomeCalls wrote gave c c' (λ calls. AsksNext limit kept' calls result left)
+    → SomeCalls wrote gave c c' (λ calls. AsksNext limit kept calls result left)
+asks_kept limit wrote gave c c' kept kept' result left same asks =
+    (asks.0, asks.1, subst (λ (xs : List ℕ). AsksNext limit xs asks.0 result left) same asks.2)

@@ -33,7 +33,7 @@ given-failed_write (WriteCall bytes result) failed = refl
 given-failed_write (ReadCall buffer result) failed = absurd failed
 
 -- a failed call moves nothing
-given-failed_read : (call : Call) → IsFailedRead call → given (call ∷ []) ≡ []
+pub given-failed_read : (call : Call) → IsFailedRead call → given (call ∷ []) ≡ []
 given-failed_read (ReadCall buffer (Ok count)) failed =
     ap (λ n. take n buffer ++ []) failed.0
 given-failed_read (ReadCall buffer (Err error)) failed = refl

@@ -4,7 +4,7 @@ pub mod Asking
 pub mod Replying
 pub mod Stay
 pub mod Progress
-pub mod Whole
 pub mod Finding
+pub mod LoginRefused
 pub mod LoggingIn
 pub mod Opening

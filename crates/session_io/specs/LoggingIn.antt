@@ -11,14 +11,16 @@ use Rattle.pg_frames.specs.declared.piece.Piece.TheVariants as piece
 use Rattle.pg_frames.specs.FrameText.{texts, IsFrame}
 use Rattle.pg_frames.specs.Passage.{Passage, IsHead, head_text, Hands, HasNoNext}
 use Rattle.startup.specs.StartupMessage.{startup_request}
-use Rattle.link_state.specs.Login.{Login, IsUpAt, HasRead, HasReadHead, Reaches, body_part}
+use Rattle.link_state.specs.Login.{Login, GoOn, IsUpAt, HasRead, HasReadHead, Reaches, body_part}
 use Rattle.session_io.specs.declared.login.place.LoginPlace.{LoginPlace}
 use Rattle.session_io.specs.declared.login.place.LoginPlace.TheVariants.{Between, Passing, Reading, Up}
 use Rattle.session_io.specs.declared.login.place.Taken.{Taken}
-use Rattle.session_io.specs.declared.login.place.Taken.TheVariants.{More, Done, Failed}
+use Rattle.session_io.specs.declared.login.place.Taken.TheVariants.{More, Done, Stopped}
+use Rattle.session_io.specs.declared.login.place.Stop.TheVariants as why
 use Rattle.session_io.specs.declared.login.place.Mark.{Mark}
 use Rattle.session_io.specs.declared.login.place.Mark.TheVariants.{Head, Part, Tail}
 use Rattle.session_io.specs.StreamCalls.{Wrote, Read}
+use Rattle.session_io.specs.LoginRefused.{StopsOn, IsStop}
 
 -- The calls read the server's messages up to the one with which the link is up with this key, and
 -- not a byte more.
@@ -56,14 +58,18 @@ abbrev pub OfEach : ℕ → ℕ → List ℕ → (Frame → Type 0) → Type 0
 OfEach kind size body P =
     (rest : List ℕ) → 4 + length (body ++ rest) ≡ size → P (frame_of kind (body ++ rest))
 
+-- a login has read these messages, and goes on after each
+abbrev pub GoesOn : Login → List Frame → Type 0
+GoesOn login frames = HasRead login frames × GoOn frames
+
 -- How far a login is at this place, which has read these messages, and this text of the next one.
 -- This many bytes of its body are to come, and this part of what was handed out is kept.
 abbrev pub IsAt : ℕ → LoginPlace → Login → List Frame → List ℕ → Option ℕ → List ℕ → Type 0
 IsAt limit Between login frames shown left kept =
-    HasRead login frames × (shown ≡ []) × (left ≡ None) × (kept ≡ [])
+    GoesOn login frames × (shown ≡ []) × (left ≡ None) × (kept ≡ [])
 IsAt limit Passing login frames shown left kept = (kind : ℕ) × (size : ℕ) × (body : List ℕ)
     × IsOpen limit kind size body shown left × (kept ≡ [])
-    × OfEach kind size body (λ frame. HasRead login (frames ++ frame ∷ []))
+    × OfEach kind size body (λ frame. GoesOn login (frames ++ frame ∷ []))
 IsAt limit (Reading wanted) login frames shown left kept = (kind : ℕ) × (size : ℕ) × (body : List ℕ)
     × IsOpen limit kind size body shown left × (kept ≡ body) × (length body < wanted)
     × HasReadHead login frames kind size × (body_part kind size ≡ Some wanted)
@@ -96,7 +102,7 @@ pub record IsDone (limit : ℕ) (stream : List ℕ) (key : List ℕ) (passage : 
 abbrev pub Takes : ℕ → List ℕ → Taken → Login → Passage → Type 0
 Takes limit stream (More place) login passage = HasCome limit stream place login passage
 Takes limit stream (Done key) login passage = IsDone limit stream key passage
-Takes limit stream Failed login passage = Unit {0}
+Takes limit stream (Stopped stop) login passage = StopsOn limit stream stop passage
 
 -- which piece this is
 abbrev pub mark_of : Piece → Mark
@@ -106,9 +112,9 @@ mark_of piece.Tail = Tail
 
 -- what the end of a message means
 abbrev pub after_tail : LoginPlace → Taken
-after_tail Between = Failed
+after_tail Between = Stopped why.Failed
 after_tail Passing = More Between
-after_tail (Reading wanted) = Failed
+after_tail (Reading wanted) = Stopped why.Failed
 after_tail (Up key) = Done key
 
 -- this piece was just handed out
@@ -127,15 +133,15 @@ TakesPiece place old mark now taken new passage = (limit : ℕ) (stream : List �
 abbrev pub TakesBody : Login → List ℕ → Taken → Login → Type 0
 TakesBody old bytes (More Between) new = ⊥
 TakesBody old bytes (More Passing) new = (frames : List Frame) (frame : Frame)
-    → Reaches old frames frame bytes → HasRead new (frames ++ frame ∷ [])
+    → Reaches old frames frame bytes → GoesOn new (frames ++ frame ∷ [])
 TakesBody old bytes (More (Reading wanted)) new = ⊥
 TakesBody old bytes (More (Up key)) new = (frames : List Frame) (frame : Frame)
     → Reaches old frames frame bytes → IsUpAt frames frame key
 TakesBody old bytes (Done key) new = ⊥
-TakesBody old bytes Failed new = Unit {0}
+TakesBody old bytes (Stopped stop) new = IsStop bytes stop
 
 -- nothing more is there, where more is to come
 abbrev pub IsDry : Taken → Passage → Type 0
 IsDry (More place) passage = HasNoNext passage.limit passage.left passage.bytes
 IsDry (Done key) passage = Unit {0}
-IsDry Failed passage = Unit {0}
+IsDry (Stopped stop) passage = Unit {0}

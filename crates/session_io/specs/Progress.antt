@@ -14,7 +14,7 @@ use Rattle.client_state.specs.declared.act.HeadAct.{HeadAct}
 use Rattle.client_state.specs.declared.act.HeadAct.TheVariants.{PassOn as Passes, Ready as Reads, Close as Closes}
 use Rattle.client_state.specs.Session.{Session}
 use Rattle.client_state.specs.LinkMessage.{link_message, status_of}
-use Rattle.client_state.specs.declared.link_message.Status.TheVariants.{Idle, InTransaction, Unknown}
+use Rattle.client_state.specs.declared.link_message.Status.TheVariants.{Idle, InTransaction}
 use Rattle.client_state.specs.declared.link_message.LinkMessage.TheVariants.{PassOn, Refused as RefusedHead}
 use Rattle.session_io.specs.declared.session.place.Place.{Place}
 use Rattle.session_io.specs.declared.session.place.Place.TheVariants.{Between, Inside, AtReady, Status}
@@ -213,15 +213,7 @@ PieceMeans place old (Part part) handed new =
     (handed ≡ More (after_part place part.now)) × (new ≡ old)
 PieceMeans place old Tail handed new = (handed ≡ after_tail place) × (new ≡ old)
 
--- a passage whose bytes were handed out, and nothing else
-abbrev pub handed_whole : ℕ → List ℕ → Passage
-handed_whole limit bytes = record { limit = limit; passed = bytes; left = None; bytes = [] }
-
--- these bytes are frames that are passed on, and the ReadyForQuery with this status
-abbrev pub IsWhole : ℕ → List ℕ → ℕ → Type 0
-IsWhole limit bytes status =
-    HandedLast limit bytes [] (ready_text status) (handed_whole limit bytes)
-
--- a status that a ReadyForQuery may have
-abbrev pub IsKnown : ℕ → Type 0
-IsKnown status = status_of status ≡ Unknown → ⊥
+-- these bytes are whole frames that are passed on
+abbrev pub ArePassedOn : ℕ → List ℕ → Type 0
+ArePassedOn limit bytes =
+    (frames : List Frame) × AllByRecursion (IsPassedOn limit) frames × (bytes ≡ texts frames)

@@ -6,6 +6,8 @@ mod login;
 mod session;
 mod stream;
 
-pub use login::{LinkError, LoggedIn, Opened, log_in, open, refuse};
+pub use login::{
+    LinkError, LoggedIn, LoginListener, LoginRefusal, NoListener, Opened, log_in, open, refuse,
+};
 pub use session::{Link, Stayed, length_above, lost, next_request, stay};
 pub use stream::read_some;

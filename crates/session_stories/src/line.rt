@@ -3,7 +3,8 @@ use crate::name::{Name, Who};
 use crate::stage::Stage;
 use crate::story::Trait;
 use crate::sum::Sum;
-use peer_forward::Requester;
+use peer_forward::{Arrival, Asks, Requester};
+use startup::StartupError;
 use std::alloc::{AllocError, Global};
 use std::io;
 use std::io::{ErrorKind, Read, Write};
@@ -161,10 +162,50 @@ impl Drop for Line {
 impl Requester for Line {
     ghost use Rattle.std.specs.Prelude.{⊤};
 
+    ghost saw = { λ _ _ _ _. ⊤ };
+
+    ghost takes = { λ _ _. ⊤ };
+
     ghost resets = { λ _ _. ⊤ };
+
+    fn peek_once(&mut self, buffer: &mut [u8]) -> io::Result<usize> {
+        self.show();
+        let seen = match self.stage.call(self.owner) {
+            Some(fault) => fault.outcome(),
+            None => match self.copy(buffer) {
+                Ok((count, _is_last)) => Ok(count),
+                Err(error) => self.go_on(Err(error)),
+            },
+        };
+        match seen {
+            Ok(count) => Ok(count.min(buffer.len())),
+            Err(error) => Err(error),
+        }
+    }
+
+    fn take_seen(&mut self) {
+        let copied = self.copy(&mut [0]);
+        let _ = self.go_on(copied);
+    }
 
     fn give_up(&mut self) {
         self.stage.say_of(self.name, "is given up");
+    }
+}
+
+impl Arrival for Line {
+    ghost use Rattle.std.specs.Prelude.{⊤};
+
+    ghost admitted = { λ _ _ _ _. ⊤ };
+
+    ghost refused = { λ _ _ _ _. ⊤ };
+
+    fn admits(&mut self, _asks: Asks) -> bool {
+        true
+    }
+
+    fn refuse(&mut self, _error: StartupError) -> bool {
+        true
     }
 }
 

@@ -1,6 +1,6 @@
 //! What the stream of a client's connection and its dialer share.
-use crate::Target;
 use crate::poll::is_ended;
+use crate::{Retries, Target};
 use std::cell::Cell;
 use std::net::TcpStream;
 use std::os::fd::{AsRawFd, RawFd};
@@ -14,6 +14,7 @@ pub struct Connection {
     link: Cell<Option<RawFd>>,
     // Where its cancel request is sent.
     target: Cell<Option<Target>>,
+    retries: Retries,
     meter: Meter,
 }
 
@@ -29,6 +30,7 @@ impl Connection {
             socket,
             link: Cell::new(None),
             target: Cell::new(None),
+            retries: Retries::new(),
             meter,
         }
     }
@@ -36,6 +38,11 @@ impl Connection {
     /// Returns its meter.
     pub fn meter(&self) -> &Meter {
         &self.meter
+    }
+
+    /// Returns how far it has tried to reach a server.
+    pub fn retries(&self) -> &Retries {
+        &self.retries
     }
 
     /// Returns its socket.

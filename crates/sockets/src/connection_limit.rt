@@ -1,15 +1,15 @@
 //! The limit of a process's connections, which its threads share.
 use crate::DrainSignal;
-use crate::connections::{Capacity, Connections, PendingId};
+use crate::connections::{Begun, Capacity, Connections, PendingId};
 use libc::net as c;
 use std::alloc::Global;
 use std::os::fd::RawFd;
 use std::sync::{Condvar, CondvarTimeouts, Mutex, Wait};
 use std::time::{Clock, Duration};
 
-/// Limits the connections of a process: at capacity, the oldest pending connection is evicted for a
-/// new one. So clients that send nothing don't block others, and descriptors are left for links and
-/// cancel requests.
+/// Limits the connections of a process: at capacity, a pending connection is evicted for a new one,
+/// and sessions never have all. So clients that send nothing, refused ones that stay and sessions
+/// don't block cancel requests, and descriptors are left for links and for cancel requests.
 #[derive(Drop)]
 pub struct ConnectionLimit {
     connections: Mutex<Connections>,
@@ -61,7 +61,8 @@ impl ConnectionLimit {
         admission.pending
     }
 
-    /// Evicts the oldest pending connection if it was admitted more than `age` milliseconds ago.
+    /// Evicts a pending connection, if there is one that became so more than `age` milliseconds
+    /// ago.
     pub fn evict<R: Wait + Clock>(&self, rt: &R, age: u64) {
         let Ok(now) = rt.monotonic() else {
             return;
@@ -74,6 +75,27 @@ impl ConnectionLimit {
     /// was evicted.
     pub fn activate<R: Wait>(&self, rt: &R, id: PendingId) -> bool {
         self.connections.lock(rt).activate(id)
+    }
+
+    /// Begins the session of a pending connection, which is no longer pending, unless sessions have
+    /// all connections that aren't kept, or it was evicted.
+    pub fn begin_session<R: Wait>(&self, rt: &R, id: PendingId) -> Begun {
+        self.connections.lock(rt).begin_session(id)
+    }
+
+    /// Records that a session has ended. Its connection is still open.
+    pub fn end_session<R: Wait>(&self, rt: &R) {
+        self.connections.lock(rt).end_session();
+    }
+
+    /// Makes a connection pending again, since its client was told its last error: it may be
+    /// evicted while it stays open. Returns its new id, if it can be evicted.
+    pub fn linger<R: Wait + Clock>(&self, rt: &R, socket: RawFd) -> Option<PendingId> {
+        let now = rt.monotonic().ok()?;
+        let mut connections = self.connections.lock(rt);
+        let lingering = connections.linger(socket, now);
+        shut_down(lingering.evicted);
+        lingering.pending
     }
 
     /// Makes a connection no longer pending, since its socket is about to be closed: it can't be
@@ -95,11 +117,11 @@ impl ConnectionLimit {
         self.connections.lock(rt).open_count()
     }
 
-    /// Evicts all pending connections.
+    /// Evicts all connections whose first packets weren't read.
     pub fn evict_pending<R: Wait>(&self, rt: &R) {
         let mut connections = self.connections.lock(rt);
         for _ in 0..connections.pending_count() {
-            shut_down(connections.evict(Duration::MAX));
+            shut_down(connections.evict_unread());
         }
     }
 

@@ -1,6 +1,7 @@
 //! The open connections of a process, and which of them is evicted for a new one.
-ghost use Rattle.std.specs.Prelude.{◌≡◌, ◌<◌, ◌+◌, ◌-◌, None, true, false};
-ghost use Rattle.sockets.specs.OpenConnections.{IsFull, HasRoom, IsWithin, how_many};
+ghost use Rattle.std.specs.Prelude.{◌≡◌, ◌≢◌, ◌≤◌, ◌<◌, ◌+◌, ◌-◌, None, true, false};
+ghost use Rattle.sockets.specs.OpenConnections.{IsFull, HasRoom, IsWithin, how_many, session_room};
+ghost use Rattle.sockets.specs.declared.connections.Begun.TheVariants as begun;
 
 use crate::limits::SPARE_CONNECTIONS;
 use slab::Slab;
@@ -16,15 +17,21 @@ pub struct Capacity {
     pub connections: usize,
     /// Of these, pending ones.
     pub pending: usize,
+    /// Of these, how many no session has: they are kept for what isn't known yet, and for cancel
+    /// requests.
+    pub kept: usize,
 }
 
-/// The open connections of a process. One is pending until its first packets were read.
+/// The open connections of a process. One is pending, and may be evicted, until its first packets
+/// were read, and again once its client was told its last error.
 #[derive(Drop)]
 pub struct Connections {
     capacity: Capacity,
     // How many connections are open.
     open_count: usize,
     pending: Slab<PendingConnection>,
+    // How many connections sessions have.
+    sessions: usize,
     next_number: u64,
 }
 
@@ -38,18 +45,39 @@ impl Model for Connections {
       capacity = c.capacity;
       all = c.open_count;
       pending = slab_len c.pending;
+      sessions = c.sessions;
     } };
 
     ghost invariant = { λ c.
-        IsWithin (record { capacity = c.capacity; all = c.open_count; pending = slab_len c.pending }) };
+        IsWithin (record {
+          capacity = c.capacity;
+          all = c.open_count;
+          pending = slab_len c.pending;
+          sessions = c.sessions;
+        }) };
 }
 
-// A connection whose first packets weren't read yet. An older one has a lower number.
+// A connection that may be evicted. An older one has a lower number.
 #[derive(Clone, Copy)]
 struct PendingConnection {
     number: u64,
     socket: RawFd,
-    accepted_at: Duration,
+    // When it was accepted, or told its last error.
+    since: Duration,
+    // Whether it was told its last error. Otherwise its first packets weren't read yet.
+    is_told: bool,
+}
+
+impl PendingConnection {
+    // Returns whether it is evicted before the other: those that were told their last error are,
+    // and else older ones.
+    fn goes_before(&self, other: &PendingConnection) -> bool {
+        if self.is_told == other.is_told {
+            self.number < other.number
+        } else {
+            self.is_told
+        }
+    }
 }
 
 /// Identifies a pending connection: its slot, and its number, since slots are used again.
@@ -68,22 +96,34 @@ pub struct Admission {
     pub evicted: Option<RawFd>,
 }
 
+/// The result of `Connections::begin_session`.
+#[derive(Clone, Copy, Debug, PartialEq, Eq)]
+pub enum Begun {
+    /// The session has begun.
+    Begun,
+    /// Sessions have all connections that aren't kept.
+    Full,
+    /// The connection isn't pending.
+    Gone,
+}
+
 impl Connections {
     /// Returns an empty set of connections.
     pub fn new(alloc: Global, capacity: Capacity) -> Connections
-        ensures { result ≡ record { capacity = capacity; all = 0; pending = 0 } }
+        ensures { result ≡ record { capacity = capacity; all = 0; pending = 0; sessions = 0 } }
     {
         Connections {
             capacity,
             open_count: 0,
             pending: Slab::new(alloc),
+            sessions: 0,
             next_number: 0,
         }
     }
 
-    /// Admits a connection that was accepted at the time `now`. At capacity, evicts the oldest
-    /// pending connection for it. The connection isn't admitted if none is pending then, if too many
-    /// evicted ones are still open, or if memory runs out.
+    /// Admits a connection that was accepted at the time `now`, of which isn't known yet what it
+    /// asks for. At capacity, evicts a pending connection for it. The connection isn't admitted if
+    /// none is pending then, if too many evicted ones are still open, or if memory runs out.
     pub fn admit(&mut self, socket: RawFd, now: Duration) -> Admission
         // It counts as open from then on, unless it isn't admitted.
         ensures all { self.new.all ≡ self.old.all + how_many result.pending }
@@ -92,6 +132,7 @@ impl Connections {
         // At capacity one is admitted only in the place of another that is evicted.
         ensures full { IsFull self.old → result.evicted ≡ None → result.pending ≡ None }
         ensures within { IsWithin self.new }
+        ensures sessions { self.new.sessions ≡ self.old.sessions }
         ensures capacity { self.new.capacity ≡ self.old.capacity }
     {
         if !self.is_full() {
@@ -119,54 +160,160 @@ impl Connections {
     }
 
     // Adds a pending connection, unless too many evicted ones are still open.
-    fn insert(&mut self, socket: RawFd, accepted_at: Duration) -> Option<PendingId>
+    fn insert(&mut self, socket: RawFd, since: Duration) -> Option<PendingId>
         requires { self.old.pending < self.old.capacity.pending }
         ensures all { self.new.all ≡ self.old.all + how_many result }
         ensures pending { self.new.pending ≡ self.old.pending + how_many result }
+        ensures sessions { self.new.sessions ≡ self.old.sessions }
         ensures capacity { self.new.capacity ≡ self.old.capacity }
         ensures within { IsWithin self.new }
     {
         if self.open_count >= self.capacity.connections.saturating_add(SPARE_CONNECTIONS) {
             return None;
         }
+        let id = self.put(socket, since, false)?;
+        self.open_count = self.open_count.saturating_add(1);
+        Some(id)
+    }
+
+    // Makes an open connection pending. Returns `None` if memory runs out.
+    fn put(&mut self, socket: RawFd, since: Duration, is_told: bool) -> Option<PendingId>
+        requires { self.old.pending < self.old.capacity.pending }
+        ensures all { self.new.all ≡ self.old.all }
+        ensures pending { self.new.pending ≡ self.old.pending + how_many result }
+        ensures sessions { self.new.sessions ≡ self.old.sessions }
+        ensures capacity { self.new.capacity ≡ self.old.capacity }
+        ensures within { IsWithin self.old × IsWithin self.new }
+    {
         let number = self.next_number;
         let connection = PendingConnection {
             number,
             socket,
-            accepted_at,
+            since,
+            is_told,
         };
         let Ok(slot) = self.pending.insert(connection) else {
             return None;
         };
         self.next_number = number.wrapping_add(1);
-        self.open_count = self.open_count.saturating_add(1);
         Some(PendingId { slot, number })
     }
 
-    /// Evicts the oldest pending connection if it was accepted before this time, and returns its
-    /// socket, which the caller shuts down. It counts as open until `closed` is called.
+    /// Makes a connection pending again, since its client was told its last error at the time
+    /// `now`. Evicts another one for it if there are as many pending ones as there may be. Returns
+    /// its new id, or `None` if there is no room or no memory for it: it can't be evicted then.
+    pub fn linger(&mut self, socket: RawFd, now: Duration) -> Admission
+        ensures all { self.new.all ≡ self.old.all }
+        ensures pending { self.new.pending + how_many result.evicted
+            ≡ self.old.pending + how_many result.pending }
+        ensures within { IsWithin self.old × IsWithin self.new }
+        ensures sessions { self.new.sessions ≡ self.old.sessions }
+        ensures capacity { self.new.capacity ≡ self.old.capacity }
+    {
+        let evicted = if self.pending.len() < self.capacity.pending {
+            None
+        } else {
+            self.evict(Duration::MAX)
+        };
+        let pending = if self.pending.len() < self.capacity.pending {
+            self.put(socket, now, true)
+        } else {
+            None
+        };
+        Admission { pending, evicted }
+    }
+
+    /// Evicts a pending connection that became so before this time, and returns its socket, which
+    /// the caller shuts down: the oldest of those that were told their last error, or else the
+    /// oldest one. It counts as open until `closed` is called.
     pub fn evict(&mut self, before: Duration) -> Option<RawFd>
         ensures all { self.new.all ≡ self.old.all }
         ensures pending { self.old.pending ≡ self.new.pending + how_many result }
+        ensures sessions { self.new.sessions ≡ self.old.sessions }
         ensures capacity { self.new.capacity ≡ self.old.capacity }
         ensures within { IsWithin self.old × IsWithin self.new }
     {
-        let mut oldest: Option<(usize, PendingConnection)> = None;
+        self.evict_first(before, true)
+    }
+
+    /// Evicts the oldest connection whose first packets weren't read, and returns its socket, which the
+    /// caller shuts down. It counts as open until `closed` is called.
+    pub fn evict_unread(&mut self) -> Option<RawFd>
+        ensures all { self.new.all ≡ self.old.all }
+        ensures pending { self.old.pending ≡ self.new.pending + how_many result }
+        ensures sessions { self.new.sessions ≡ self.old.sessions }
+        ensures capacity { self.new.capacity ≡ self.old.capacity }
+        ensures within { IsWithin self.old × IsWithin self.new }
+    {
+        self.evict_first(Duration::MAX, false)
+    }
+
+    // Returns the slot and the socket of the pending connection that is evicted first of those that
+    // became so before this time. Only with `may_be_told` it may have been told its last error.
+    fn first(&self, before: Duration, may_be_told: bool) -> Option<(usize, RawFd)>
+        ensures within { IsWithin self.now }
+    {
+        let mut first: Option<(usize, PendingConnection)> = None;
         for (slot, connection) in self.pending.iter() {
-            let is_older = match oldest {
-                Some((_, found)) => connection.number < found.number,
+            let goes = match first {
+                Some((_, found)) => connection.goes_before(&found),
                 None => true,
             };
-            if is_older {
-                oldest = Some((slot, *connection));
+            let may_go = connection.since < before && (may_be_told || !connection.is_told);
+            if goes && may_go {
+                first = Some((slot, *connection));
             }
         }
-        let (slot, connection) = oldest?;
-        if connection.accepted_at >= before {
-            return None;
-        }
+        let (slot, connection) = first?;
+        Some((slot, connection.socket))
+    }
+
+    // Makes that connection no longer pending, and returns its socket.
+    fn evict_first(&mut self, before: Duration, may_be_told: bool) -> Option<RawFd>
+        ensures all { self.new.all ≡ self.old.all }
+        ensures pending { self.old.pending ≡ self.new.pending + how_many result }
+        ensures sessions { self.new.sessions ≡ self.old.sessions }
+        ensures capacity { self.new.capacity ≡ self.old.capacity }
+        ensures within { IsWithin self.old × IsWithin self.new }
+    {
+        let (slot, socket) = self.first(before, may_be_told)?;
         self.pending.try_remove(slot)?;
-        Some(connection.socket)
+        Some(socket)
+    }
+
+    /// Begins the session of a pending connection, which is no longer pending. Doesn't if sessions
+    /// have all connections that aren't kept, or if it isn't pending, for example because it was
+    /// evicted.
+    pub fn begin_session(&mut self, id: PendingId) -> Begun
+        ensures all { self.new.all ≡ self.old.all }
+        ensures begun { result ≡ begun.Begun → (self.old.pending ≡ self.new.pending + 1)
+            × (self.new.sessions ≡ self.old.sessions + 1) }
+        // Sessions have no connection that is kept.
+        ensures bounded { IsWithin self.old × IsWithin self.new }
+        ensures refused { result ≢ begun.Begun → self.new ≡ self.old }
+        // One is refused only where sessions have all the others, or where it isn't pending.
+        ensures full { result ≡ begun.Full
+            → session_room self.old.capacity ≤ self.old.sessions }
+        ensures capacity { self.new.capacity ≡ self.old.capacity }
+    {
+        if self.sessions >= self.capacity.connections.saturating_sub(self.capacity.kept) {
+            return Begun::Full;
+        }
+        if !self.activate(id) {
+            return Begun::Gone;
+        }
+        self.sessions = self.sessions.saturating_add(1);
+        Begun::Begun
+    }
+
+    /// Records that a session has ended. Its connection is still open.
+    pub fn end_session(&mut self)
+        ensures all { self.new.all ≡ self.old.all }
+        ensures pending { self.new.pending ≡ self.old.pending }
+        ensures sessions { self.new.sessions ≡ self.old.sessions - 1 }
+        ensures capacity { self.new.capacity ≡ self.old.capacity }
+    {
+        self.sessions = self.sessions.saturating_sub(1);
     }
 
     /// Makes a connection no longer pending. Returns false if it isn't pending, for example because
@@ -175,6 +322,7 @@ impl Connections {
         ensures all { self.new.all ≡ self.old.all }
         ensures activated { result ≡ true → self.old.pending ≡ self.new.pending + 1 }
         ensures gone { result ≡ false → self.new ≡ self.old }
+        ensures sessions { self.new.sessions ≡ self.old.sessions }
         ensures capacity { self.new.capacity ≡ self.old.capacity }
     {
         match self.pending.get(id.slot) {
@@ -204,6 +352,7 @@ impl Connections {
     pub fn closed(&mut self)
         ensures all { self.new.all ≡ self.old.all - 1 }
         ensures pending { self.new.pending ≡ self.old.pending }
+        ensures sessions { self.new.sessions ≡ self.old.sessions }
         ensures capacity { self.new.capacity ≡ self.old.capacity }
     {
         self.open_count = self.open_count.saturating_sub(1);

@@ -15,6 +15,11 @@ impl Deadline {
         Ok(Deadline(now.saturating_add(Duration::from_millis(millis))))
     }
 
+    /// Returns the earlier of this deadline and another.
+    pub fn or_earlier(self, other: Deadline) -> Deadline {
+        Deadline(self.0.min(other.0))
+    }
+
     /// Returns the time that is left. Fails with `TimedOut` if there is none.
     pub fn left<R: Clock>(self, rt: &R) -> io::Result<Duration> {
         let left = self.0.saturating_sub(rt.monotonic()?);

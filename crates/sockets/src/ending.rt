@@ -25,21 +25,15 @@ pub fn end<M: Machine>(machine: &M, connection: &Connection, client: &mut Client
         client.dismiss(why);
         return;
     }
-    match client.last_call() {
-        // The last byte of a cancel request stays unread if it got no order, or if the byte for its
-        // sender couldn't be written: so the connection is reset.
-        LastCall::Failed => {}
-        LastCall::Read if client.is_given_up() => {}
-        LastCall::Read => settle(connection, client),
-        LastCall::Wrote => {
-            settle(connection, client);
-            let _ = finish_reading(machine, connection, client.is_sending());
-        }
+    // A byte of a cancel request that wasn't taken stays unread: so the connection is reset.
+    if client.last_call() == LastCall::Wrote {
+        client.linger();
+        let _ = finish_reading(machine, connection, client.is_sending());
     }
 }
 
-// Gives a client time to read what was written to it. A client that is sending may not read it if
-// the write side is shut down at once.
+// Gives a client time to read what was written to it, unless its connection is evicted. A client
+// that is sending may not read it if the write side is shut down at once.
 fn finish_reading<M: Machine>(
     machine: &M,
     connection: &Connection,
@@ -51,14 +45,6 @@ fn finish_reading<M: Machine>(
     }
     connection.socket().shutdown(Shutdown::Write)?;
     drain(machine, connection, deadline, ENDING_PAUSE_MILLIS)
-}
-
-// Reads the last byte of a cancel request that is settled, or whose sender got the byte E.
-fn settle<M: Machine>(connection: &Connection, client: &ClientStream<'_, M>) {
-    if client.holds_cancel() {
-        let mut socket = connection.socket();
-        let _ = socket.read(&mut [0]);
-    }
 }
 
 // Reads what a client sends, until nothing was received for `pause` milliseconds. Fails if the

@@ -1,4 +1,5 @@
 //! The final error of a session that a server or the group ends, and of a connection that isn't served.
+use link_state::first_error;
 use startup::{ErrorCode, Severity, write_error};
 use std::alloc::{AllocError, Global};
 use std::os::fd::RawFd;
@@ -9,15 +10,12 @@ const SHUTDOWN: &str = "terminating connection due to administrator command";
 // How many bytes of a server's last messages are read.
 const MAX_BYTES: usize = 4_096;
 
-// The length of a message's type byte and length field (PostgreSQL manual, "Message Formats").
-const HEAD: usize = 5;
-
 /// Returns the error with which the server ended the link on this socket, or `ConnectionFailure` if
 /// it sent none. Doesn't wait if the server has closed its side of the connection.
 pub fn final_error(alloc: Global, link: RawFd) -> Result<Vec<u8>, AllocError> {
     let mut buffer = [0; MAX_BYTES];
     let count = read_rest(link, &mut buffer);
-    let Some(error) = find_error(buffer.get(..count).unwrap_or(&[])) else {
+    let Some(error) = first_error(buffer.get(..count).unwrap_or(&[])) else {
         return fatal_error(alloc, ErrorCode::ConnectionFailure);
     };
     let mut message = Vec::new(alloc);
@@ -57,29 +55,4 @@ fn read_rest(link: RawFd, buffer: &mut [u8]) -> usize {
         }
     }
     count
-}
-
-/// Returns the first complete ErrorResponse among these messages.
-pub fn find_error(messages: &[u8]) -> Option<&[u8]> {
-    let mut rest = messages;
-    for _ in 0..messages.len() {
-        let length = message_len(rest)?;
-        let (message, others) = rest.split_at_checked(length)?;
-        if message.first() == Some(&b'E') {
-            return Some(message);
-        }
-        rest = others;
-    }
-    None
-}
-
-// Returns the length of the message at the start of these bytes. Its length field doesn't count the
-// type byte.
-fn message_len(bytes: &[u8]) -> Option<usize> {
-    let [_kind, a, b, c, d, ..] = bytes else {
-        return None;
-    };
-    let length = u32::from_be_bytes([*a, *b, *c, *d]) as usize;
-    let length = length.checked_add(1)?;
-    if length < HEAD { None } else { Some(length) }
 }

@@ -1,16 +1,11 @@
 //! Inspects what a server or a peer sends.
-use crate::Deadline;
-use crate::limits::REFUSAL_MILLIS;
-use crate::login_answer::LoginAnswer;
 use crate::origin::Origin;
-use crate::poll::wait_readable;
 use link_state::Watch;
 use startup::Reports;
 use std::alloc::{AllocError, Global};
 use std::cell::Cell;
 use std::io;
 use std::io::ErrorKind;
-use std::os::fd::RawFd;
 use std::sync::Wait;
 use std::time::Clock;
 use telemetry::Event;
@@ -25,35 +20,26 @@ pub struct Inspector {
     is_used: Cell<bool>,
     // Compares what the server of a link reports with what clients get.
     watch: Option<Watch>,
-    // Whether its failure was logged.
-    is_logged: bool,
+    // Whether its failure was logged, or is logged by whoever hears why the login failed.
+    is_logged: Cell<bool>,
 }
 
 // What a connection is for.
 #[derive(Drop)]
 enum Stage {
     // A link that no client has had yet.
-    Login(Box<Login>),
+    Login,
     // A link that a client has or had.
     Link,
     // A cancel request.
     Cancel,
 }
 
-// The login of a link: the server's answer, and the socket of which it is read.
-#[derive(Drop)]
-struct Login {
-    answer: LoginAnswer,
-    socket: RawFd,
-}
-
 impl Inspector {
-    /// Returns the inspector of a link on this socket, whose server has to report no other values than
-    /// these.
+    /// Returns the inspector of a link, whose server has to report no other values than these.
     pub fn of_link(
         alloc: Global,
         origin: Origin,
-        socket: RawFd,
         reports: &Reports,
     ) -> Result<Inspector, AllocError> {
         let watch = if reports.is_empty() {
@@ -61,16 +47,12 @@ impl Inspector {
         } else {
             Some(Watch::new(alloc, reports)?)
         };
-        let login = Login {
-            answer: LoginAnswer::new(),
-            socket,
-        };
         Ok(Inspector {
             origin,
-            stage: Stage::Login(Box::new(alloc, login)?),
+            stage: Stage::Login,
             is_used: Cell::new(false),
             watch,
-            is_logged: false,
+            is_logged: Cell::new(false),
         })
     }
 
@@ -81,7 +63,7 @@ impl Inspector {
             stage: Stage::Cancel,
             is_used: Cell::new(false),
             watch: None,
-            is_logged: false,
+            is_logged: Cell::new(false),
         }
     }
 
@@ -90,9 +72,15 @@ impl Inspector {
         self.is_used.set(true);
     }
 
-    // Leaves the stage of the login, and frees what it needs, once a client has the link.
+    /// The server refuses the login, and why is logged once more of that came. From now on nothing is
+    /// logged here.
+    pub fn silence(&self) {
+        self.is_logged.set(true);
+    }
+
+    // Leaves the stage of the login once a client has the link.
     fn end_login(&mut self) {
-        if self.is_used.get() && matches!(self.stage, Stage::Login(_)) {
+        if self.is_used.get() && matches!(self.stage, Stage::Login) {
             self.stage = Stage::Link;
         }
     }
@@ -130,11 +118,8 @@ impl Inspector {
     pub fn inspect<R: Wait + Clock>(&mut self, rt: &R, bytes: &[u8]) -> io::Result<()> {
         self.end_login();
         self.watch(bytes);
-        match &mut self.stage {
-            Stage::Login(login) => {
-                login.answer.read(bytes);
-                self.check_login(rt)
-            }
+        match self.stage {
+            Stage::Login => self.check_login(rt),
             Stage::Link => Ok(()),
             Stage::Cancel => {
                 self.log_reason(rt, "a byte came before the end");
@@ -143,22 +128,14 @@ impl Inspector {
         }
     }
 
-    // Logs a refused login. Fails if the server reports another value than clients get.
-    fn check_login<R: Wait + Clock>(&mut self, rt: &R) -> io::Result<()> {
-        if self.is_logged {
+    // Fails if the server reports another value than clients get.
+    fn check_login<R: Wait + Clock>(&self, rt: &R) -> io::Result<()> {
+        if self.is_logged.get() {
             return Ok(());
-        }
-        if let Stage::Login(login) = &mut self.stage {
-            if let Some(refusal) = login.answer.refusal() {
-                login.read_rest(rt);
-                self.is_logged = true;
-                self.origin.write_refusal(rt, &login.answer, refusal);
-                return Ok(());
-            }
         }
         if let Some(watch) = &self.watch {
             if let Some(difference) = watch.differs() {
-                self.is_logged = true;
+                self.is_logged.set(true);
                 self.origin
                     .write_difference(rt, Event::LinkLoginFailed, &difference);
                 return Err(io::Error::from(ErrorKind::InvalidData));
@@ -180,10 +157,10 @@ impl Inspector {
     pub fn fail<R: Wait + Clock>(&mut self, rt: &R, error: &io::Error) {
         self.end_login();
         // The client has closed its connection.
-        if error.kind() == ErrorKind::ConnectionAborted || self.is_logged {
+        if error.kind() == ErrorKind::ConnectionAborted || self.is_logged.get() {
             return;
         }
-        self.is_logged = true;
+        self.is_logged.set(true);
         self.origin.write_error(rt, self.event(), error);
     }
 
@@ -202,8 +179,8 @@ impl Inspector {
 
     // Logs why the connection failed, once.
     fn log_reason<R: Wait + Clock>(&mut self, rt: &R, reason: &str) {
-        if !self.is_logged {
-            self.is_logged = true;
+        if !self.is_logged.get() {
+            self.is_logged.set(true);
             self.origin.write_reason(rt, self.event(), reason);
         }
     }
@@ -211,42 +188,9 @@ impl Inspector {
     // Returns the event of its failure.
     fn event(&self) -> Event {
         match self.stage {
-            Stage::Login(_) => Event::LinkLoginFailed,
+            Stage::Login => Event::LinkLoginFailed,
             Stage::Link => Event::LinkLost,
             Stage::Cancel => Event::CancelFailed,
-        }
-    }
-}
-
-impl Login {
-    // Reads the rest of an error for the log, at most for `REFUSAL_MILLIS`: nobody else reads it, since
-    // the login has failed.
-    fn read_rest<R: Clock>(&mut self, rt: &R) {
-        let Ok(deadline) = Deadline::after(rt, REFUSAL_MILLIS) else {
-            return;
-        };
-        for _ in 0..u64::MAX {
-            if !self.answer.lacks_rest() || !self.read_more(rt, deadline) {
-                return;
-            }
-        }
-    }
-
-    // Reads more of the answer by this deadline. Returns whether there was more.
-    fn read_more<R: Clock>(&mut self, rt: &R, deadline: Deadline) -> bool {
-        let Ok(left) = deadline.left(rt) else {
-            return false;
-        };
-        let mut buffer = [0; 256];
-        if !wait_readable(self.socket, left) {
-            return false;
-        }
-        match usize::try_from(libc::read(self.socket, &mut buffer)) {
-            Ok(count) if count > 0 => {
-                self.answer.read(buffer.get(..count).unwrap_or(&[]));
-                true
-            }
-            _ => false,
         }
     }
 }

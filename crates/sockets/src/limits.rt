@@ -1,6 +1,6 @@
 //! Time limits of connections, in milliseconds, and how many there may be. No setting changes them.
 
-/// How often a thread that waits for one side of a session checks the other.
+/// How often a thread that waits for one side of a session checks the other, at least.
 pub const POLL_MILLIS: u64 = 500;
 
 /// How long a write to a server may block. The rest is buffered, and is written while the reply is
@@ -22,6 +22,18 @@ pub const ENDING_PAUSE_MILLIS: u64 = 1_000;
 
 /// How many connections of a node may be pending at a time: 256 cancel requests and 64 others.
 pub const PENDING_PER_NODE: usize = 320;
+
+/// How many connections of a node no session has.
+pub const KEPT_PER_NODE: usize = 128;
+
+/// How many sessions on the console a node serves at a time.
+pub const CONSOLES_PER_NODE: u64 = 32;
+
+/// After which silence a session on the console ends.
+pub const CONSOLE_MILLIS: u64 = 60_000;
+
+/// How long a client may take to complete a message that it has begun, once the group drains.
+pub const DRAIN_MESSAGE_MILLIS: u64 = 4_000;
 
 /// How many cancel requests a node serves at a time.
 pub const CANCELS_PER_NODE: usize = 256;

@@ -4,7 +4,7 @@ ghost use Rattle.std.specs.Io.{ReadsAtMost, WritesAtMost};
 use crate::error_kind::{Cause, with_error, with_kind};
 use crate::inspector::Inspector;
 use crate::keepalive::keep_alive;
-use crate::limits::{POLL_MILLIS, WRITE_MILLIS};
+use crate::limits::{POLL_MILLIS, REFUSAL_MILLIS, WRITE_MILLIS};
 use crate::poll::{is_ended, is_quiet, wait_both};
 use crate::{Deadline, Machine};
 use bytes::BytesMut;
@@ -95,6 +95,12 @@ impl<M: Machine> LinkStream<M> {
         self.inside.inspector.attach();
     }
 
+    /// The server answers the login of this link with an error, which has begun to come. The rest is
+    /// awaited for a short time, and from now on nothing of the stream is logged.
+    pub fn begin_refusal(&self) {
+        self.inside.begin_refusal();
+    }
+
     /// Returns the database of a link.
     pub fn database(&self) -> Option<DatabaseNo> {
         self.inside.database
@@ -111,6 +117,19 @@ impl<M: Machine> Inside<M> {
     #[inline(never)]
     fn log_close(&self) {
         self.inspector.close(&self.machine);
+    }
+
+    // Awaits the rest of an error for a short time.
+    fn begin_refusal(&self) {
+        self.inspector.silence();
+        let Ok(soon) = Deadline::after(&self.machine, REFUSAL_MILLIS) else {
+            return;
+        };
+        let deadline = match self.deadline.get() {
+            Some(login) => login.or_earlier(soon),
+            None => soon,
+        };
+        self.deadline.set(Some(deadline));
     }
 
     // Fails if the deadline has passed.

@@ -1,6 +1,6 @@
 //! What the log names of a link or of a connection for a cancel request.
-use crate::login_answer::{LoginAnswer, Refusal};
 use link_state::Difference;
+use startup::error_field;
 use std::alloc::{AllocError, Global};
 use std::io;
 use std::sync::{Arc, Wait};
@@ -39,21 +39,20 @@ impl Origin {
         self.log.write_of(rt, Some(self.node), event, names, fields);
     }
 
-    /// Logs that the login of a link was refused.
-    pub fn write_refusal<R: Wait + Clock>(&self, rt: &R, answer: &LoginAnswer, why: Refusal) {
-        match why {
-            Refusal::Error => {
-                let code = Value::Bytes(answer.field(b'C').unwrap_or(&[]));
-                let message = Value::Bytes(answer.field(b'M').unwrap_or(&[]));
-                let fields = [("code", code), ("message", message)];
-                self.write(rt, Event::LinkLoginFailed, &fields);
-            }
-            Refusal::Asks(code) => {
-                let why = Value::Text("the server asks for authentication");
-                let fields = [("error", why), ("method", Value::Number(code.into()))];
-                self.write(rt, Event::LinkLoginFailed, &fields);
-            }
-        }
+    /// Logs that the server refused the login of a link by an error with this body.
+    pub fn write_login_error<R: Wait + Clock>(&self, rt: &R, body: &[u8]) {
+        let code = Value::Bytes(error_field(body, b'C').unwrap_or(&[]));
+        let message = Value::Bytes(error_field(body, b'M').unwrap_or(&[]));
+        let fields = [("code", code), ("message", message)];
+        self.write(rt, Event::LinkLoginFailed, &fields);
+    }
+
+    /// Logs that the server asked for authentication at the login of a link, by a request with this
+    /// code.
+    pub fn write_asked<R: Wait + Clock>(&self, rt: &R, method: u32) {
+        let why = Value::Text("the server asks for authentication");
+        let fields = [("error", why), ("method", Value::Number(method.into()))];
+        self.write(rt, Event::LinkLoginFailed, &fields);
     }
 
     /// Logs that the server reports another value than clients get.

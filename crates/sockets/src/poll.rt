@@ -32,10 +32,15 @@ pub fn wait_readable(socket: RawFd, limit: Duration) -> bool {
     }
 }
 
-/// Waits until a read of one of these sockets returns at once, without a time limit.
-pub fn wait_either(one: RawFd, other: RawFd) {
+/// Waits until a read of one of these sockets returns at once; at most for `limit`, if there is
+/// one.
+pub fn wait_either(one: RawFd, other: RawFd, limit: Option<Duration>) {
     let mut asked = [ask(one, c::POLLIN), ask(other, c::POLLIN)];
-    c::poll(&mut asked, -1);
+    let millis = match limit {
+        Some(limit) => millis(limit),
+        None => -1,
+    };
+    c::poll(&mut asked, millis);
 }
 
 /// What a link and its client are ready for.

@@ -23,7 +23,7 @@ pub enum Unserved {
     Late,
     /// It was evicted, to accept another one.
     Evicted,
-    /// There is no thread or no memory for it.
+    /// There is no thread, no memory or no connection for it, or the console has too many sessions.
     Shortage,
     /// The group drains.
     Draining,

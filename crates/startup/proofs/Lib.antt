@@ -2,9 +2,11 @@ pub mod PacketLemmas
 pub mod BodyLemmas
 pub mod DecisionLemmas
 pub mod AnswerLemmas
+pub mod WantedLemmas
 pub mod ParameterLemmas
 pub mod SessionLemmas
 pub mod RequestLemmas
 pub mod RoomLemmas
 pub mod NameLemmas
 pub mod ReportLemmas
+pub mod FieldLemmas

@@ -49,11 +49,15 @@ zero_free : (text after : List ℕ) → AllByRecursion (λ byte. byte ≢ 0) (te
 zero_free [] after all = all.0 refl
 zero_free (b ∷ bs) after all = zero_free bs after all.1
 
--- no text stands at the front of bytes without a zero byte
-pub no_text : (bytes : List ℕ) (o : Option ℕ) → o ≡ position_from IsZero 0 bytes → o ≡ None → (text after : List ℕ) → IsText text → bytes ≡ text ++ 0 ∷ after → ⊥
-no_text bytes o is none text after is_text spelled =
+-- bytes without a zero byte hold no end of a text
+pub no_end : (bytes : List ℕ) (o : Option ℕ) → o ≡ position_from IsZero 0 bytes → o ≡ None → (text after : List ℕ) → bytes ≡ text ++ 0 ∷ after → ⊥
+no_end bytes o is none text after spelled =
     zero_free text after (subst (AllByRecursion (λ byte. byte ≢ 0)) spelled
     (subst (λ (p : Option ℕ). MatchOption p (AllByRecursion (λ byte. byte ≢ 0) bytes) (λ end. (n : ℕ) × (end ≡ 0 + n) × Split bytes n)) (sym is ∙ none) (split_from 0 bytes)))
+
+-- no text stands at the front of them
+pub no_text : (bytes : List ℕ) (o : Option ℕ) → o ≡ position_from IsZero 0 bytes → o ≡ None → (text after : List ℕ) → IsText text → bytes ≡ text ++ 0 ∷ after → ⊥
+no_text bytes o is none text after is_text spelled = no_end bytes o is none text after spelled
 
 -- what stands before the first zero byte, and after it
 pub split_at : (bytes : List ℕ) (end : ℕ) (o : Option ℕ) → o ≡ position_from IsZero 0 bytes → o ≡ Some end → Split bytes end

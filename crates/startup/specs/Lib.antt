@@ -3,6 +3,7 @@ pub mod CancelPacket
 pub mod StartupMessage
 pub mod Kinds
 pub mod FirstPacket
+pub mod Wanted
 pub mod Header
 pub mod Session
 pub mod Parameter
@@ -12,3 +13,4 @@ pub mod ErrorCode
 pub mod Replies
 pub mod Reports
 pub mod Stored
+pub mod Fields

@@ -4,6 +4,7 @@
 
 mod append;
 mod error_code;
+mod fields;
 mod first;
 mod header;
 mod names;
@@ -18,8 +19,10 @@ mod reports;
 mod request;
 mod session;
 mod startup_error;
+mod wanted;
 
 pub use error_code::{ErrorCode, Severity};
+pub use fields::error_field;
 pub use first::First;
 pub use opening::Opening;
 pub use packet::Packet;
@@ -29,3 +32,4 @@ pub use report_error::ReportError;
 pub use reports::Reports;
 pub use request::{write_cancel, write_startup};
 pub use startup_error::StartupError;
+pub use wanted::{Wanted, cancel_key};

@@ -51,8 +51,8 @@ fn text_at(bytes: &[u8]) -> Option<(&str, &[u8])>
     }
 }
 
-// The place of the first zero byte.
-fn zero_at(bytes: &[u8]) -> Option<usize>
+/// The place of the first zero byte.
+pub fn zero_at(bytes: &[u8]) -> Option<usize>
     ensures place { result ≡ position_from (λ byte. byte == 0) 0 bytes.now }
     ensures within { IfSome result (λ end. end < length bytes.now) }
 {

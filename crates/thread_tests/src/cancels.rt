@@ -1,5 +1,5 @@
 //! Cancel connections at a real node that get no order, over streams that log what happens to them.
-use crate::log::{Dialer, Log, Marks, Reply, Wire, assert_logged};
+use crate::log::{Dialer, Event, Log, Marks, Reply, Wire, assert_logged};
 use crate::node::{Asked, Node};
 use node_core::ReleaseReply;
 use pg_ids::AnyKey;
@@ -11,7 +11,8 @@ use std::test::Fail;
 // The key of the second client.
 const SECOND: [u8; 8] = [0, 8, 0, 4, 0, 0, 0, 0x17];
 
-// A cancel connection with this key is served. Nothing is connected or written for it.
+// A cancel connection with this key is served. Nothing is connected or written for it, and its last
+// byte is taken.
 fn expect_nothing<R: Wait + Abort>(rt: &R, alloc: Global, node: &mut Node, asked: [u8; 8]) {
     let log = Log::new(alloc);
     let mut requester = Wire::new(&log, 16, Reply::End);
@@ -21,7 +22,7 @@ fn expect_nothing<R: Wait + Abort>(rt: &R, alloc: Global, node: &mut Node, asked
     };
     let key = AnyKey::from_short_bytes(asked);
     node.cancel(rt, &opener, &Marks(&log), &mut requester, key);
-    assert_logged(rt, &log, &[]);
+    assert_logged(rt, &log, &[Event::TakesSeen]);
 }
 
 // Requests that go nowhere: with spent hops, with another secret, for a pooler that isn't listed,

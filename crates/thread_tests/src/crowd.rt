@@ -1,4 +1,4 @@
-//! Requests for another node that come at once, of which one finds no seat.
+//! Requests for another node that come at once, with one key, of which one finds no seat.
 use crate::calls::calls_of;
 use crate::messages::LOWERED;
 use crate::story::{NODE, SEED, calling, serve};
@@ -16,8 +16,8 @@ use std::thread;
 use std::thread::Threads;
 use std::time::Duration;
 
-// How many requests for other nodes have a seat at most.
-const SHARE: u64 = 128;
+// How many requests with one key have a seat at most.
+const SHARE: u64 = 32;
 
 const FORWARDS: &[Turn] = &[Turn::Gives(b"\0\0\0\x10\x04\xd2\x16\x2e\0\x0c\0\0\0\0\0\x07")];
 
@@ -133,7 +133,7 @@ fn assert_closed<R: Threads + Wait + Sync + Abort>(
     assert_one_is_closed(rt, callings.as_slice());
     // Its client was written nothing, no connection was made for it, and it was given up.
     let ends = crowd.tracker.ends();
-    assert_eq!(rt; (ends.made, ends.done, ends.strayed), (257, 257, 0));
+    assert_eq!(rt; (ends.made, ends.done, ends.strayed), (65, 65, 0));
     assert_eq!(rt; ends.given_up, 1);
 }
 

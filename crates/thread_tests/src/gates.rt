@@ -1,7 +1,8 @@
 //! Where one thread is held until another lets it go.
 use crate::tracked::Talk;
 use node_threads::{Gate, Point};
-use peer_forward::Requester;
+use peer_forward::{Arrival, Asks, Requester};
+use startup::StartupError;
 use std::io::{Read, Write};
 use std::sync::Wait;
 use std::sync::atomic::{AtomicBool, AtomicUsize, Ordering};
@@ -182,11 +183,11 @@ impl Gate for Marks {
     }
 }
 
-// A client that tells when its request was read, at the second read.
+// A client that tells when its request is read, at the first read after it was admitted.
 #[derive(Drop)]
 pub(crate) struct Asking<'a> {
     talk: Talk,
-    reads: usize,
+    is_admitted: bool,
     marks: &'a Marks,
 }
 
@@ -194,7 +195,7 @@ impl<'a> Asking<'a> {
     pub(crate) fn new(talk: Talk, marks: &'a Marks) -> Asking<'a> {
         Asking {
             talk,
-            reads: 0,
+            is_admitted: false,
             marks,
         }
     }
@@ -202,8 +203,7 @@ impl<'a> Asking<'a> {
 
 impl Read for Asking<'_> {
     fn read(&mut self, buffer: &mut [u8]) -> io::Result<usize> {
-        self.reads = self.reads.wrapping_add(1);
-        if self.reads == 2 {
+        if self.is_admitted {
             self.marks.has_asked.store(true, Ordering::SeqCst);
         }
         self.talk.read(buffer)
@@ -213,9 +213,38 @@ impl Read for Asking<'_> {
 impl Requester for Asking<'_> {
     ghost use Rattle.std.specs.Prelude.{⊤};
 
+    ghost saw = { λ _ _ _ _. ⊤ };
+
+    ghost takes = { λ _ _. ⊤ };
+
     ghost resets = { λ _ _. ⊤ };
 
+    fn peek_once(&mut self, buffer: &mut [u8]) -> io::Result<usize> {
+        self.talk.peek_once(buffer)
+    }
+
+    fn take_seen(&mut self) {
+        self.talk.take_seen();
+    }
+
     fn give_up(&mut self) {}
+}
+
+impl Arrival for Asking<'_> {
+    ghost use Rattle.std.specs.Prelude.{⊤};
+
+    ghost admitted = { λ _ _ _ _. ⊤ };
+
+    ghost refused = { λ _ _ _ _. ⊤ };
+
+    fn admits(&mut self, _asks: Asks) -> bool {
+        self.is_admitted = true;
+        true
+    }
+
+    fn refuse(&mut self, _error: StartupError) -> bool {
+        true
+    }
 }
 
 impl Write for Asking<'_> {

@@ -20,6 +20,8 @@ mod linked;
 #[cfg(test)]
 mod log;
 #[cfg(test)]
+mod login_refusals;
+#[cfg(test)]
 mod messages;
 #[cfg(test)]
 mod node;

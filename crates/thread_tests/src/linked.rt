@@ -5,7 +5,7 @@ ghost use Rattle.pg_frames.specs.Passage.{start};
 use crate::messages::LOGIN;
 use node_threads::Link;
 use pg_frames::MessageLimit;
-use session_io::log_in;
+use session_io::{NoListener, log_in};
 use std::alloc::Global;
 use std::io;
 use std::io::{Read, Write};
@@ -62,7 +62,7 @@ pub(crate) fn link_over<R: Wait, S: Read + Write + Drop>(
         is_asked: false,
         answer: LOGIN,
     };
-    match log_in(rt, alloc, limit, stream, "plain", "plain") {
+    match log_in(rt, alloc, &NoListener, limit, stream, "plain", "plain") {
         Ok(logged) => Ok(logged.link),
         Err(_) => Err(Fail::from("no login")),
     }

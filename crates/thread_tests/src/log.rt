@@ -2,6 +2,7 @@
 //! that log it.
 use lease::{Lease, Ticket};
 use node_threads::{Desk, Gate, Opener, Point};
+use peer_forward::Requester;
 use pg_ids::{DatabaseNo, PeerNo};
 use startup::Packet;
 use std::alloc::Global;
@@ -26,6 +27,8 @@ pub(crate) enum Event {
     Part(usize),
     // The end of a stream was awaited.
     Read,
+    // The byte that was seen was taken.
+    TakesSeen,
     // The request of the ticket with this number was reported to a desk.
     Ended(u64),
     Failed(u64),
@@ -132,6 +135,26 @@ impl Read for Wire<'_> {
             Reply::Fails => Err(io::Error::from(ErrorKind::ConnectionReset)),
         }
     }
+}
+
+impl Requester for Wire<'_> {
+    ghost use Rattle.std.specs.Prelude.{⊤};
+
+    ghost saw = { λ _ _ _ _. ⊤ };
+
+    ghost takes = { λ _ _. ⊤ };
+
+    ghost resets = { λ _ _. ⊤ };
+
+    fn peek_once(&mut self, _buffer: &mut [u8]) -> io::Result<usize> {
+        Ok(0)
+    }
+
+    fn take_seen(&mut self) {
+        self.log.add(Event::TakesSeen);
+    }
+
+    fn give_up(&mut self) {}
 }
 
 // A gate that logs each point.

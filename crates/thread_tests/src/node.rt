@@ -8,7 +8,7 @@ use node_core::{
     AcquireReply, DatabaseNo, Lease, LeaveReply, NodeCore, Pass, Permit, ReleaseReply,
 };
 use node_threads::{Context, Counting, Gate, Opener, SingleUse, serve_cancel};
-use peer_forward::WriteCalls;
+use peer_forward::{Requester, WriteCalls};
 use pg_ids::{AnyKey, Boot, Kind, PeerNo, Secret};
 use std::alloc::{AllocError, Global};
 use std::sync::Wait;
@@ -117,7 +117,7 @@ impl Node {
     }
 
     // A cancel connection is served.
-    pub(crate) fn cancel<R: Wait, O: Opener, G: Gate, Q: WriteCalls>(
+    pub(crate) fn cancel<R: Wait, O: Opener, G: Gate, Q: WriteCalls + Requester>(
         &mut self,
         rt: &R,
         opener: &O,

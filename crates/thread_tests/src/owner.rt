@@ -12,7 +12,7 @@ use node_core::LeaveReply;
 use node_threads::{Entrance, Link};
 use pg_frames::MessageLimit;
 use pg_ids::{Kind, Secret, ServerKey, SlotNo};
-use session_io::log_in;
+use session_io::{NoListener, log_in};
 use std::alloc::Global;
 use std::sync::{Arc, Wait};
 
@@ -94,7 +94,15 @@ fn enter<'a, R: Wait>(rt: &R, alloc: Global, node: &'a Node, slot: SlotNo) -> Op
 fn link<R: Wait>(rt: &R, alloc: Global, servers: &Arc<Tracker, Global>) -> Option<Link<Talk>> {
     let turns = &[Turn::Takes(STARTUP), Turn::Gives(LOGIN)];
     let stream = Talk::new(servers, turns).ok()?;
-    match log_in(rt, alloc, MessageLimit::DEFAULT, stream, "plain", "plain") {
+    match log_in(
+        rt,
+        alloc,
+        &NoListener,
+        MessageLimit::DEFAULT,
+        stream,
+        "plain",
+        "plain",
+    ) {
         Ok(logged) => Some(logged.link),
         Err(_) => None,
     }

@@ -69,7 +69,8 @@ fn told(outcome: Outcome) -> Event {
 }
 
 // What happens: the packet is written and the end awaited, if it was taken whole, then come these
-// events, and the byte for the requester, if the request may still be acted on.
+// events, and the byte for the requester, if the request may still be acted on. Then the seen byte is
+// taken.
 fn happens(
     alloc: Global,
     written: Event,
@@ -85,6 +86,7 @@ fn happens(
     if outcome == Outcome::Failed {
         events.push(Event::Byte(0x45))?;
     }
+    events.push(Event::TakesSeen)?;
     Ok(events)
 }
 

@@ -6,8 +6,8 @@ use crate::story::{NODE, calling, serve};
 use crate::talk::Turn;
 use crate::tracked::{Dialer, Talk, Tracker};
 use locked_node::CallAnswer;
-use node_threads::{Calling, Open, Seat, Seats};
-use pg_ids::{AnyKey, Boot};
+use node_threads::{Calling, Destination, Open, Seat, Seats};
+use pg_ids::{AnyKey, Boot, DatabaseNo, PeerNo};
 use std::alloc::Global;
 use std::process::Abort;
 use std::sync::{Arc, Wait};
@@ -16,25 +16,44 @@ use std::test::Fail;
 // How many seats there are for requests. The console has one of the 256.
 const SEATS: usize = 255;
 
-// How many of them requests for other nodes have at most, and those with one key.
-const SHARE: usize = 128;
+// How many of them requests for other nodes have at most, those for one place, and those with one
+// key.
+const FORWARD_SHARE: usize = 128;
+
+const PLACE_SHARE: usize = 64;
+
+const KEY_SHARE: usize = 32;
 
 // The short key with this secret of node 2, slot 0, three hops.
 fn key(secret: u8) -> AnyKey {
     AnyKey::from_short_bytes([0, 8, 0, 0, 0, 0, secret, 3])
 }
 
-// Requests of one kind: with a key with this secret, for this node or another.
+// Requests of one kind: with a key with this secret, for this place.
 #[derive(Clone, Copy, Debug)]
 struct Requests {
     secret: u8,
-    is_own: bool,
+    to: Destination,
+}
+
+fn asked_with(secret: u8, to: Destination) -> Requests {
+    Requests { secret, to }
+}
+
+impl Requests {
+    // The same with another key, so many further.
+    fn further(&self, more: u8) -> Requests {
+        Requests {
+            secret: self.secret.wrapping_add(more),
+            to: self.to,
+        }
+    }
 }
 
 // Takes seats for such requests until there is none, and returns how many.
-fn take_all<R: Wait>(rt: &R, seats: &Seats, requests: Requests, taken: &mut Vec<Seat>) -> usize {
+fn take_all<R: Wait>(rt: &R, seats: &Seats, requests: &Requests, taken: &mut Vec<Seat>) -> usize {
     for count in 0..1_000 {
-        let Some(seat) = seats.take(rt, key(requests.secret), requests.is_own) else {
+        let Some(seat) = seats.take(rt, key(requests.secret), requests.to) else {
             return count;
         };
         if let Err(failed) = taken.push(seat) {
@@ -43,6 +62,17 @@ fn take_all<R: Wait>(rt: &R, seats: &Seats, requests: Requests, taken: &mut Vec<
         }
     }
     1_000
+}
+
+// Takes seats for such requests, and for those with the next keys, until there is none for each.
+// Returns how many.
+fn take_at<R: Wait>(rt: &R, seats: &Seats, first: &Requests, taken: &mut Vec<Seat>) -> usize {
+    let mut count: usize = 0;
+    for more in 0..8u8 {
+        let next = first.further(more);
+        count = count.saturating_add(take_all(rt, seats, &next, taken));
+    }
+    count
 }
 
 // As many of these are given back.
@@ -63,51 +93,54 @@ fn give_all_back<R: Wait>(rt: &R, seats: &Seats, taken: Vec<Seat>) {
     taken.destroy_empty();
 }
 
-// Half of the seats are for requests of one kind at most, and the rest for another. Then there is
-// none for a third, until one is given back.
-fn assert_shared<R: Wait + Abort>(
-    rt: &R,
-    seats: &Seats,
-    first: Requests,
-    second: Requests,
-    taken: &mut Vec<Seat>,
-) {
-    let rest = SEATS.wrapping_sub(SHARE);
-    let third = Requests {
-        secret: 200,
-        is_own: true,
-    };
-    assert_eq!(rt; take_all(rt, seats, first, taken), SHARE);
-    assert_eq!(rt; take_all(rt, seats, first, taken), 0);
-    assert_eq!(rt; take_all(rt, seats, second, taken), rest);
-    assert_eq!(rt; take_all(rt, seats, third, taken), 0);
-    give_back(rt, seats, taken, 1);
-    assert_eq!(rt; take_all(rt, seats, third, taken), 1);
-    give_back(rt, seats, taken, SEATS);
+// Two servers, and other nodes.
+const FIRST: Destination = Destination::Server(DatabaseNo(0));
+
+const SECOND: Destination = Destination::Server(DatabaseNo(1));
+
+fn peer(number: u16) -> Destination {
+    match PeerNo::new(number) {
+        Some(peer) => Destination::Peer(peer),
+        None => Destination::Nowhere,
+    }
 }
 
-// Requests for other nodes, and those with two keys of this one.
-const FORWARDS: Requests = Requests {
-    secret: 1,
-    is_own: false,
-};
+// So many are taken for these requests, and for those with the next keys.
+fn assert_taken<R: Wait + Abort>(
+    rt: &R,
+    seats: &Seats,
+    first: &Requests,
+    taken: &mut Vec<Seat>,
+    expected: usize,
+) {
+    assert_eq!(rt; take_at(rt, seats, first, taken), expected);
+}
 
-const FIRST: Requests = Requests {
-    secret: 1,
-    is_own: true,
-};
-
-const SECOND: Requests = Requests {
-    secret: 2,
-    is_own: true,
-};
+// Requests with one key have an eighth of the seats at most; those for one place a quarter; and
+// those for other nodes half of them. Then there is none for others, until one is given back.
+fn assert_shares<R: Wait + Abort>(rt: &R, seats: &Seats, taken: &mut Vec<Seat>) {
+    let one = asked_with(1, FIRST);
+    assert_eq!(rt; take_all(rt, seats, &one, taken), KEY_SHARE);
+    assert_eq!(rt; take_all(rt, seats, &one, taken), 0);
+    let rest = PLACE_SHARE.wrapping_sub(KEY_SHARE);
+    assert_taken(rt, seats, &asked_with(2, FIRST), taken, rest);
+    assert_taken(rt, seats, &asked_with(10, peer(3)), taken, PLACE_SHARE);
+    assert_taken(rt, seats, &asked_with(20, peer(4)), taken, PLACE_SHARE);
+    assert_taken(rt, seats, &asked_with(30, peer(5)), taken, 0);
+    let rest = SEATS.wrapping_sub(PLACE_SHARE).wrapping_sub(FORWARD_SHARE);
+    assert_taken(rt, seats, &asked_with(40, SECOND), taken, rest);
+    assert_taken(rt, seats, &asked_with(50, Destination::Nowhere), taken, 0);
+    give_back(rt, seats, taken, 1);
+    assert_taken(rt, seats, &asked_with(50, Destination::Nowhere), taken, 1);
+    give_back(rt, seats, taken, SEATS);
+}
 
 #[test]
 fn shares(rt: HostRuntime) -> Result<(), Fail> {
     let seats = Seats::new(rt.alloc())?;
     let mut taken = Vec::new(rt.alloc());
-    for (first, second) in [(FORWARDS, FIRST), (FIRST, SECOND), (SECOND, FORWARDS)] {
-        assert_shared(&rt, &seats, first, second, &mut taken);
+    for _ in 0..2u32 {
+        assert_shares(&rt, &seats, &mut taken);
     }
     give_all_back(&rt, &seats, taken);
     Ok(())

@@ -1,7 +1,7 @@
 //! Nodes by their settings, and connections that are served there.
 use ini_config::{Group, read_settings};
 use node_threads::{Calling, Context, Gate, NodePlace, Opener, serve_connection};
-use peer_forward::{ReadCalls, Requester, WriteCalls};
+use peer_forward::{Arrival, ReadCalls, Requester, WriteCalls};
 use pg_frames::MessageLimit;
 use pg_ids::Boot;
 use startup::Reports;
@@ -68,7 +68,7 @@ where
     R: Wait,
     O: Opener,
     G: Gate,
-    C: WriteCalls + ReadCalls + Requester,
+    C: WriteCalls + ReadCalls + Requester + Arrival,
 {
     let (context, reports) = (Context { rt, gate }, Reports::new(alloc));
     let limit = MessageLimit::DEFAULT;

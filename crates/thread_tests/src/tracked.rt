@@ -1,8 +1,9 @@
 //! A stream that plays one side of a conversation in any thread, and what becomes of such streams.
 use crate::talk::{Turn, is_error, is_out_of_memory};
 use node_threads::Opener;
-use peer_forward::Requester;
+use peer_forward::{Arrival, Asks, Requester};
 use pg_ids::{DatabaseNo, PeerNo};
+use startup::StartupError;
 use std::alloc::{AllocError, Global};
 use std::io;
 use std::io::{ErrorKind, Read, Write};
@@ -64,6 +65,8 @@ pub(crate) struct Talk {
     turns: &'static [Turn],
     // What is left to take of a turn that began.
     takes: &'static [u8],
+    // What is left to give of one.
+    gives: &'static [u8],
     // Whether it took anything.
     has_taken: bool,
     tracker: Arc<Tracker, Global>,
@@ -72,12 +75,13 @@ pub(crate) struct Talk {
 impl Drop for Talk {
     fn drop(self) {
         add_one(&self.tracker.closed);
-        if self.takes.is_empty() && self.turns.is_empty() {
+        if self.takes.is_empty() && self.gives.is_empty() && self.turns.is_empty() {
             add_one(&self.tracker.done);
         }
         let Talk {
             turns: _,
             takes: _,
+            gives: _,
             has_taken: _,
             tracker: _,
         } = self;
@@ -95,6 +99,7 @@ impl Talk {
         Ok(Talk {
             turns,
             takes: b"",
+            gives: b"",
             has_taken: false,
             tracker,
         })
@@ -151,33 +156,83 @@ impl Talk {
 
 impl Read for Talk {
     fn read(&mut self, buffer: &mut [u8]) -> io::Result<usize> {
-        if !self.takes.is_empty() {
-            return Ok(0);
+        self.begin()?;
+        let count = self.copy(buffer);
+        self.gives = self.gives.get(count..).unwrap_or(b"");
+        Ok(count.min(buffer.len()))
+    }
+}
+
+impl Talk {
+    // Begins to give a text, if it is its turn.
+    fn begin(&mut self) -> io::Result<()> {
+        if !self.takes.is_empty() || !self.gives.is_empty() {
+            return Ok(());
         }
-        if let Some(Turn::Breaks) = self.turns.first() {
-            self.turns = self.turns.split_at(1).1;
-            return Err(io::Error::from(ErrorKind::ConnectionReset));
+        match self.turns.first() {
+            Some(Turn::Breaks) => {
+                self.turns = self.turns.split_at(1).1;
+                Err(io::Error::from(ErrorKind::ConnectionReset))
+            }
+            Some(Turn::Gives(text)) => {
+                self.gives = *text;
+                self.turns = self.turns.split_at(1).1;
+                Ok(())
+            }
+            _ => Ok(()),
         }
-        let Some(Turn::Gives(text)) = self.turns.first() else {
-            return Ok(0);
-        };
-        if text.len() > buffer.len() {
-            return Err(io::Error::from(ErrorKind::InvalidInput));
-        }
-        self.turns = self.turns.split_at(1).1;
-        let count = text.len();
-        buffer[..count].copy_from_slice(text);
-        Ok(count)
+    }
+
+    // Copies what is to be given next, and returns how many bytes.
+    fn copy(&self, buffer: &mut [u8]) -> usize {
+        let count = self.gives.len().min(buffer.len());
+        buffer
+            .split_at_mut(count)
+            .0
+            .copy_from_slice(self.gives.split_at(count).0);
+        count
     }
 }
 
 impl Requester for Talk {
     ghost use Rattle.std.specs.Prelude.{⊤};
 
+    ghost saw = { λ _ _ _ _. ⊤ };
+
+    ghost takes = { λ _ _. ⊤ };
+
     ghost resets = { λ _ _. ⊤ };
 
+    fn peek_once(&mut self, buffer: &mut [u8]) -> io::Result<usize> {
+        self.begin()?;
+        let count = self.copy(buffer);
+        Ok(count.min(buffer.len()))
+    }
+
+    fn take_seen(&mut self) {
+        self.gives = self.gives.get(1..).unwrap_or(b"");
+    }
+
+    // What it was to give is lost.
     fn give_up(&mut self) {
+        self.gives = b"";
         add_one(&self.tracker.given_up);
+    }
+}
+
+impl Arrival for Talk {
+    ghost use Rattle.std.specs.Prelude.{⊤};
+
+    ghost admitted = { λ _ _ _ _. ⊤ };
+
+    ghost refused = { λ _ _ _ _. ⊤ };
+
+    fn admits(&mut self, _asks: Asks) -> bool {
+        true
+    }
+
+    fn refuse(&mut self, _error: StartupError) -> bool {
+        true
     }
 }
 

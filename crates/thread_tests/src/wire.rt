@@ -1,5 +1,6 @@
 //! Streams in memory that are read in given pieces.
-use peer_forward::Requester;
+use peer_forward::{Arrival, Asks, Requester};
+use startup::StartupError;
 use std::alloc::{AllocError, Global};
 use std::io;
 use std::io::{Read, Write};
@@ -35,27 +36,72 @@ impl<'a> Wire<'a> {
 impl Requester for Wire<'_> {
     ghost use Rattle.std.specs.Prelude.{⊤};
 
+    ghost saw = { λ _ _ _ _. ⊤ };
+
+    ghost takes = { λ _ _. ⊤ };
+
     ghost resets = { λ _ _. ⊤ };
+
+    fn peek_once(&mut self, buffer: &mut [u8]) -> io::Result<usize> {
+        let count = self.copy(buffer);
+        Ok(count.min(buffer.len()))
+    }
+
+    fn take_seen(&mut self) {
+        self.pass(1);
+    }
 
     fn give_up(&mut self) {}
 }
 
-impl Read for Wire<'_> {
-    fn read(&mut self, buf: &mut [u8]) -> io::Result<usize> {
+impl Arrival for Wire<'_> {
+    ghost use Rattle.std.specs.Prelude.{⊤};
+
+    ghost admitted = { λ _ _ _ _. ⊤ };
+
+    ghost refused = { λ _ _ _ _. ⊤ };
+
+    fn admits(&mut self, _asks: Asks) -> bool {
+        true
+    }
+
+    fn refuse(&mut self, _error: StartupError) -> bool {
+        true
+    }
+}
+
+impl Wire<'_> {
+    // Copies what comes next, and returns how many bytes.
+    fn copy(&self, buf: &mut [u8]) -> usize {
         let Some(piece) = self.pieces.get(self.piece) else {
-            return Ok(0);
+            return 0;
         };
         let rest = piece.split_at(self.offset.min(piece.len())).1;
         let count = rest.len().min(buf.len());
         buf.split_at_mut(count)
             .0
             .copy_from_slice(rest.split_at(count).0);
+        count
+    }
+
+    // Goes on behind so many bytes of the piece that comes next.
+    fn pass(&mut self, count: usize) {
+        let Some(piece) = self.pieces.get(self.piece) else {
+            return;
+        };
         self.offset = self.offset.saturating_add(count);
         if self.offset >= piece.len() {
             self.piece = self.piece.saturating_add(1);
             self.offset = 0;
         }
-        Ok(count)
+    }
+}
+
+impl Read for Wire<'_> {
+    fn read(&mut self, buf: &mut [u8]) -> io::Result<usize> {
+        let count = self.copy(buf);
+        self.pass(count);
+        Ok(count.min(buf.len()))
     }
 }
 

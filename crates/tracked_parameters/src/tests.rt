@@ -4,8 +4,8 @@ ghost use Rattle.std.specs.Prelude.{IfOk};
 ghost use Rattle.tracked_parameters.specs.Values.{Fit};
 
 use crate::{
-    NameError, Reported, TrackedNames, Values, agrees, login_parameters, read_status,
-    settings_query,
+    NameError, Reported, Setting, TrackedNames, Values, agrees, asked_for, login_parameters,
+    read_status, settings_query,
 };
 use std::alloc::Global;
 use std::process::Abort;
@@ -233,5 +233,31 @@ fn login(rt: HostRuntime) -> Result<(), Fail> {
         S\0\0\0\x15timezone\0Etc/UTC\0\
         S\0\0\0\x17in_hot_standby\0off\0";
     assert_eq!(rt; found.as_slice(), expected.as_slice());
+    Ok(())
+}
+
+#[test]
+fn asked(rt: HostRuntime) -> Result<(), Fail> {
+    let alloc = rt.alloc();
+    let names = TrackedNames::new(alloc)?;
+    let sent = [
+        Setting {
+            name: b"options",
+            value: b"-cDateStyle=German --application-name=a\\ b --timezone=UTC",
+        },
+        Setting {
+            name: b"user",
+            value: b"client_encoding",
+        },
+        Setting {
+            name: b"TIMEZONE",
+            value: b"GMT",
+        },
+    ];
+    let values = asked_for(alloc, &names, &sent)?;
+    assert!(rt; is_value(values.get(&names, b"DateStyle"), b"German"));
+    assert!(rt; is_value(values.get(&names, b"application_name"), b"a b"));
+    assert!(rt; is_value(values.get(&names, b"TimeZone"), b"GMT"));
+    assert!(rt; values.get(&names, b"client_encoding").is_none());
     Ok(())
 }

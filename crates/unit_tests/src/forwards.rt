@@ -1,7 +1,7 @@
 //! Packets carried over streams that take a given number of bytes and then stop, and requests
 //! finished over them.
 use crate::checks::{assert_bytes, assert_same};
-use peer_forward::{Outcome, ReadCalls, Verdict, WriteCalls, carry, finish};
+use peer_forward::{Outcome, ReadCalls, Requester, Verdict, WriteCalls, carry, finish};
 use startup::Packet;
 use std::alloc::{AllocError, Global};
 use std::io;
@@ -52,6 +52,8 @@ struct Wire {
     reply: Reply,
     writes: u32,
     reads: u32,
+    // How often the byte was taken that was seen.
+    takes: u32,
 }
 
 impl Wire {
@@ -70,8 +72,29 @@ impl Wire {
             reply,
             writes: 0,
             reads: 0,
+            takes: 0,
         })
     }
+}
+
+impl Requester for Wire {
+    ghost use Rattle.std.specs.Prelude.{⊤};
+
+    ghost saw = { λ _ _ _ _. ⊤ };
+
+    ghost takes = { λ _ _. ⊤ };
+
+    ghost resets = { λ _ _. ⊤ };
+
+    fn peek_once(&mut self, _buffer: &mut [u8]) -> io::Result<usize> {
+        Ok(0)
+    }
+
+    fn take_seen(&mut self) {
+        self.takes = self.takes.saturating_add(1);
+    }
+
+    fn give_up(&mut self) {}
 }
 
 impl Write for Wire {
@@ -417,21 +440,25 @@ fn interrupted_calls(rt: HostRuntime) {
     assert_stops(&rt, &PACKETS[2], &calls);
 }
 
-// What was written over the stream, and by how many writes; it isn't read.
+// What was written over the stream, by how many writes, and how often the seen byte was taken; it
+// isn't read.
 fn assert_finished(
     rt: &impl Abort,
     wire: &mut Wire,
     verdict: Verdict,
     written: &[u8],
     writes: usize,
+    takes: usize,
 ) {
     finish(wire, verdict);
     assert_bytes(rt, wire.held.as_slice(), written);
     assert_same(rt, wire.writes as usize, writes);
     assert_same(rt, wire.reads, 0);
+    assert_same(rt, wire.takes as usize, takes);
 }
 
-// The byte is written, or one write is tried for it, exactly where the request isn't settled.
+// The byte is written, or one write is tried for it, exactly where the request isn't settled. The
+// byte that was seen is taken, unless that write failed.
 #[test]
 fn verdicts(rt: HostRuntime) -> Result<(), Fail> {
     for (verdict, byte) in [
@@ -442,9 +469,9 @@ fn verdicts(rt: HostRuntime) -> Result<(), Fail> {
         (Verdict::NoConnect, b"\x45".as_slice()),
     ] {
         let mut wire = Wire::new(rt.alloc(), 16, 16, Full::Fails, Reply::End)?;
-        assert_finished(&rt, &mut wire, verdict, byte, byte.len());
+        assert_finished(&rt, &mut wire, verdict, byte, byte.len(), 1);
         let mut closed = Wire::new(rt.alloc(), 16, 0, Full::Fails, Reply::End)?;
-        assert_finished(&rt, &mut closed, verdict, b"", byte.len());
+        assert_finished(&rt, &mut closed, verdict, b"", byte.len(), 1 - byte.len());
     }
     Ok(())
 }

@@ -9,6 +9,8 @@ mod checks;
 #[cfg(test)]
 mod clients;
 #[cfg(test)]
+mod errors;
+#[cfg(test)]
 mod forwards;
 #[cfg(test)]
 mod frames;
@@ -30,5 +32,7 @@ mod queues;
 mod routes;
 #[cfg(test)]
 mod stand_in;
+#[cfg(test)]
+mod wanted;
 #[cfg(test)]
 mod watches;

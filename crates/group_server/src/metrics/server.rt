@@ -1,11 +1,12 @@
-//! The metrics port, over HTTP. Few connections are served at a time, each for a short time, and the
-//! page is cached for a second: so slow or frequent readers don't slow down the group.
+//! The metrics port, over HTTP. Few connections are served at a time, each for a short time, and
+//! the page is cached for a second: so slow or frequent readers don't slow down the group. If as
+//! many are served as there may be, the oldest of which no request was received is closed.
 use crate::Serving;
-use crate::limits::{METRICS_AGE_MILLIS, METRICS_MILLIS, METRICS_REQUEST_MILLIS};
+use crate::limits::{METRICS_AGE_MILLIS, METRICS_MILLIS, METRICS_READERS, METRICS_REQUEST_MILLIS};
 use crate::metrics::page::page_of;
 use crate::metrics::state::NodeState;
 use ini_config::Group;
-use sockets::{Deadline, Host, Machine, wait_readable};
+use sockets::{Capacity, ConnectionLimit, Deadline, Host, Machine, PendingId, wait_readable};
 use std::alloc::{AllocError, Global};
 use std::io::{ErrorKind, Read, Write};
 use std::net::{Shutdown, TcpListener, TcpStream};
@@ -31,7 +32,16 @@ pub struct Exporter<M: Machine> {
     counters: Arc<Counters, Global>,
     log: Arc<Log, Global>,
     last: Mutex<Option<Page>>,
+    // The connections. One is pending until its request was received.
+    readers: ConnectionLimit,
 }
+
+// One thread waits for the next connection, for which another one is evicted.
+const READERS: Capacity = Capacity {
+    connections: METRICS_READERS - 1,
+    pending: METRICS_READERS - 1,
+    kept: 0,
+};
 
 // The cached page, and when it was made.
 #[derive(Drop)]
@@ -54,6 +64,7 @@ pub struct Sources {
 impl<M: Machine> Exporter<M> {
     /// Returns an exporter without a cached page.
     pub fn new(
+        alloc: Global,
         listener: TcpListener,
         version: String,
         nodes: Vec<Arc<Serving<M>, Global>>,
@@ -72,6 +83,7 @@ impl<M: Machine> Exporter<M> {
             counters,
             log,
             last: Mutex::new(None),
+            readers: ConnectionLimit::new(alloc, READERS),
         }
     }
 
@@ -124,13 +136,38 @@ impl<M: Machine> Exporter<M> {
         Ok(Some(NodeState::new(alloc, settings, &census, counters)?))
     }
 
-    // Serves a connection, and closes it.
-    fn serve(&self, machine: &M, alloc: Global, socket: TcpStream) -> io::Result<()> {
+    // Serves a connection, and closes it. Until its request was received it may be evicted for
+    // another.
+    fn serve(&self, machine: &M, alloc: Global, socket: TcpStream) {
+        let Some(pending) = self.readers.admit(machine, socket.as_raw_fd()) else {
+            // All others are being answered.
+            let _ = self.answer(machine, alloc, &socket, None);
+            return;
+        };
+        let _ = self.answer(machine, alloc, &socket, Some(pending));
+        self.readers.closing(machine, pending);
+        drop(socket);
+        self.readers.closed(machine);
+    }
+
+    // Answers the request of a connection.
+    fn answer(
+        &self,
+        machine: &M,
+        alloc: Global,
+        socket: &TcpStream,
+        pending: Option<PendingId>,
+    ) -> io::Result<()> {
         let deadline = Deadline::after(machine, METRICS_MILLIS)?;
-        match read_request(machine, &socket)? {
-            Answer::Metrics => self.serve_page(machine, alloc, &socket, deadline, true),
-            Answer::HeadOfMetrics => self.serve_page(machine, alloc, &socket, deadline, false),
-            refusal => write_response(machine, &socket, deadline, refusal_text(refusal)),
+        let answer = read_request(machine, socket)?;
+        if let Some(pending) = pending {
+            // One that was evicted after its request had come is answered all the same.
+            let _ = self.readers.activate(machine, pending);
+        }
+        match answer {
+            Answer::Metrics => self.serve_page(machine, alloc, socket, deadline, true),
+            Answer::HeadOfMetrics => self.serve_page(machine, alloc, socket, deadline, false),
+            refusal => write_response(machine, socket, deadline, refusal_text(refusal)),
         }
     }
 
@@ -243,9 +280,7 @@ fn write_response<M: Machine>(
 pub fn keep_exporting<H: Host>(host: &H, alloc: Global, exporter: &Exporter<H>) {
     for socket in exporter.listener.incoming() {
         match socket {
-            Ok(socket) => {
-                let _ = exporter.serve(host, alloc, socket);
-            }
+            Ok(socket) => exporter.serve(host, alloc, socket),
             Err(_) => thread::sleep(host, Duration::from_millis(RETRY_MILLIS)),
         }
     }

@@ -12,4 +12,4 @@ pub use counting::Counting;
 pub use orders::serve_cancel;
 pub(crate) use reports::report_unconnected;
 pub use reports::{relay, report};
-pub use seats::{Seat, Seats};
+pub use seats::{Destination, Seat, Seats};

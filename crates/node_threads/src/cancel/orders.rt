@@ -4,6 +4,7 @@ ghost use Rattle.pg_ids.specs.declared.any_key.KeyBytes.TheVariants as bytes;
 ghost use Rattle.startup.specs.CancelPacket.{packet_of, packet_bytes};
 ghost use Rattle.peer_forward.specs.Carrying.{Carried};
 ghost use Rattle.peer_forward.specs.Finishing.{Finishes};
+ghost use Rattle.peer_forward.specs.declared.outcome.Outcome.TheVariants as outcome;
 ghost use Rattle.peer_forward.specs.declared.verdict.Verdict.TheVariants as verdict;
 ghost use Rattle.stat_board.specs.Places.{place_of};
 ghost use Rattle.node_threads.specs.Desks.{Tells, reported};
@@ -16,7 +17,7 @@ use cancel_router::RouteRefusal;
 use lease::Ticket;
 use locked_node::{Caller, Shared};
 use node_core::{CancelRefusal, Order};
-use peer_forward::{Outcome, ReadCalls, Verdict, WriteCalls, finish};
+use peer_forward::{Outcome, ReadCalls, Requester, Verdict, WriteCalls, finish};
 use pg_ids::{AnyKey, DatabaseNo, PeerNo, ServerKey};
 use startup::{Packet, write_cancel};
 use stat_board::Counter;
@@ -40,7 +41,7 @@ where
     S: Drop,
     O: CancelOpener,
     G: Gate,
-    Q: WriteCalls,
+    Q: WriteCalls + Requester,
     requires own { caller.old.lock ≡ shared.now }
     // One order for this key, which is carried out over a connection that was opened for it,
     // reported if it has a ticket, and counted. The requester's connection is finished by its
@@ -51,7 +52,7 @@ where
         (IsCarried ⟦<O::Stream as WriteCalls>⟧.wrote ⟦<O::Stream as ReadCalls>⟧.gave
         (O.reaches opener))
         key caller.old caller.new counting.old.seat counting.new.seat
-        (λ verdict. Finishes Q.wrote requester.old verdict requester.new) }
+        (λ verdict. Finishes Q.wrote Q.takes requester.old verdict requester.new) }
     // Each ticket that was made was spent, and nothing else was made or spent.
     ensures balanced { Balanced caller.old caller.new }
     ensures once { CancelsAtMostOnce caller.old caller.new }
@@ -103,13 +104,13 @@ where
     S: Drop,
     O: CancelOpener,
     G: Gate,
-    Q: WriteCalls,
+    Q: WriteCalls + Requester,
     requires own { caller.old.lock ≡ shared.now }
     ensures told { Tells (reported result request.ticket) caller.old caller.new }
     ensures finished { FinishesCarried
         (IsCarried ⟦<O::Stream as WriteCalls>⟧.wrote ⟦<O::Stream as ReadCalls>⟧.gave
         (O.cancels opener) request.database (packet_bytes request.packet))
-        (λ verdict. Finishes Q.wrote requester.old verdict requester.new) result }
+        (λ verdict. Finishes Q.wrote Q.takes requester.old verdict requester.new) result }
 {
     let Request {
         ticket,
@@ -118,9 +119,7 @@ where
     } = request;
     context.gate.pass(context.rt, Point::Ordered);
     let Ok(mut server) = opener.cancel(context.rt, database) else {
-        let desk = LockDesk { shared, caller };
-        let mut desk = Requested { desk, requester };
-        return report_unconnected(context, &mut desk, ticket);
+        return fail_at_lock(context, shared, caller, requester, ticket);
     };
     report_at_lock(
         context,
@@ -131,6 +130,29 @@ where
         ticket,
         packet,
     )
+}
+
+// Reports to the node that the request of a ticket couldn't be carried.
+fn fail_at_lock<R, S, G, Q>(
+    context: Context<'_, R, G>,
+    shared: &Shared<S>,
+    caller: &mut Caller<S>,
+    requester: &mut Q,
+    ticket: Ticket,
+) -> Outcome
+where
+    R: Wait,
+    S: Drop,
+    G: Gate,
+    Q: WriteCalls + Requester,
+    requires own { caller.old.lock ≡ shared.now }
+    ensures failed { result ≡ outcome.Failed }
+    ensures told { Tells (reported result ticket) caller.old caller.new }
+    ensures finished { Finishes Q.wrote Q.takes requester.old verdict.NoConnect requester.new }
+{
+    let desk = LockDesk { shared, caller };
+    let mut desk = Requested { desk, requester };
+    report_unconnected(context, &mut desk, ticket)
 }
 
 // Carries the request of a ticket to its server, and reports to the node how that ended.
@@ -147,12 +169,12 @@ where
     R: Wait,
     S: Drop,
     G: Gate,
-    Q: WriteCalls,
+    Q: WriteCalls + Requester,
     T: WriteCalls + ReadCalls,
     requires own { caller.old.lock ≡ shared.now }
     ensures carried { Carried T.wrote T.gave server.old (packet_bytes request) result server.new }
     ensures told { Tells (reported result ticket) caller.old caller.new }
-    ensures finished { Finishes Q.wrote requester.old (verdict.Carried result) requester.new }
+    ensures finished { Finishes Q.wrote Q.takes requester.old (verdict.Carried result) requester.new }
 {
     let desk = LockDesk { shared, caller };
     let mut desk = Requested { desk, requester };
@@ -171,11 +193,11 @@ where
     R: Wait,
     O: CancelOpener,
     G: Gate,
-    Q: WriteCalls,
+    Q: WriteCalls + Requester,
     ensures finished { FinishesCarried
         (IsCarried ⟦<O::Stream as WriteCalls>⟧.wrote ⟦<O::Stream as ReadCalls>⟧.gave
         (O.reaches opener) peer (packet_bytes packet))
-        (λ verdict. Finishes Q.wrote requester.old verdict requester.new) result }
+        (λ verdict. Finishes Q.wrote Q.takes requester.old verdict requester.new) result }
 {
     context.gate.pass(context.rt, Point::Ordered);
     let Ok(mut stream) = opener.peer(context.rt, peer) else {

@@ -9,7 +9,7 @@ ghost use Rattle.node_threads.specs.Desks.{reported};
 
 use crate::{Context, Gate, Point, RequestDesk};
 use lease::Ticket;
-use peer_forward::{Outcome, ReadCalls, Verdict, WriteCalls, carry, finish};
+use peer_forward::{Outcome, ReadCalls, Requester, Verdict, WriteCalls, carry, finish};
 use startup::Packet;
 use std::sync::Wait;
 
@@ -73,10 +73,10 @@ where
 /// Carries a request to another pooler, and finishes the connection that it came on.
 pub fn relay<Q, T>(requester: &mut Q, peer: &mut T, packet: Packet) -> Outcome
 where
-    Q: WriteCalls,
+    Q: WriteCalls + Requester,
     T: WriteCalls + ReadCalls,
     ensures carried { Carried T.wrote T.gave peer.old (packet_bytes packet) result peer.new }
-    ensures finished { Finishes Q.wrote requester.old (verdict.Carried result) requester.new }
+    ensures finished { Finishes Q.wrote Q.takes requester.old (verdict.Carried result) requester.new }
 {
     let outcome = carry(peer, packet);
     finish(requester, Verdict::Carried(outcome));

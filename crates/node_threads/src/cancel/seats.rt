@@ -1,17 +1,49 @@
 //! The seats at a node's board, for its cancel connections.
-ghost use Rattle.std.specs.Prelude.{◌≡◌, ◌⊎◌, ◌≤◌, ◌<◌, ◌+◌, ◌*◌, ◌++◌, ◌∷◌, [], None, IfSome, OnOk, vec_len, vec_capacity, Contains};
+ghost use Rattle.std.specs.Prelude.{◌≡◌, ◌⊎◌, ◌≤◌, ◌<◌, ◌+◌, ◌*◌, ◌++◌, ◌∷◌, ◌==◌, [], None, IfSome, OnOk, vec_len, vec_capacity, Contains, count_by, nat_le};
 ghost use Rattle.node_threads.specs.Words.{AreRead};
 
 use crate::Counting;
-use pg_ids::{AnyKey, Identity};
+use pg_ids::{AnyKey, DatabaseNo, Identity, PeerNo};
 use std::alloc::{AllocError, Global};
 use std::sync::{Mutex, Wait};
 
 // How often the first seat is halved, all of its parts likewise: there are 256 seats.
 const HALVINGS: u32 = 8;
 
-// How many seats requests for other poolers have at most, and how many those of one key.
-const SHARE: usize = 128;
+// How many seats requests for other poolers have at most; how many those for one server, and those
+// for one other pooler; and how many those of one key.
+const FORWARD_SHARE: usize = 128;
+
+const PLACE_SHARE: usize = 64;
+
+const KEY_SHARE: usize = 32;
+
+// The numbers of places: those of databases are below 256, and those of other poolers above it.
+const NOWHERE: u32 = 256;
+
+const PEERS: u32 = 257;
+
+/// Where a cancel request goes.
+#[derive(Clone, Copy, Debug, PartialEq, Eq)]
+pub enum Destination {
+    /// To the server of this database.
+    Server(DatabaseNo),
+    /// To this other pooler.
+    Peer(PeerNo),
+    /// Nowhere: its key's slot has no client.
+    Nowhere,
+}
+
+impl Destination {
+    // Its number.
+    fn place(self) -> u32 {
+        match self {
+            Destination::Server(database) => u32::from(database.get()),
+            Destination::Nowhere => NOWHERE,
+            Destination::Peer(peer) => u32::from(peer.get()).saturating_add(PEERS),
+        }
+    }
+}
 
 /// The seats at a node's board: those that no cancel connection has, and one for the console.
 #[derive(Drop)]
@@ -42,13 +74,11 @@ struct Free {
     ghost room: { (255 ≤ vec_capacity seats) × (255 ≤ vec_capacity taken) },
 }
 
-// What a seat is for.
+// What a seat is for: a request with this key, that goes to this place.
 #[derive(Clone, Copy, Debug, PartialEq, Eq)]
-enum Purpose {
-    // A request for another pooler.
-    Forward,
-    // A request for the client with this key.
-    Own(Identity),
+struct Purpose {
+    place: u32,
+    key: Identity,
 }
 
 impl Seats {
@@ -70,14 +100,14 @@ impl Seats {
         })
     }
 
-    /// Takes a seat for a request with this key, if one is free. A request of another pooler's
-    /// client gets none while such requests have half of the seats, nor does one with a key of
-    /// which requests have half of them: so neither keeps the node's other clients from cancelling.
-    pub fn take<R: Wait>(&self, rt: &R, key: AnyKey, is_own: bool) -> Option<Seat> {
-        let purpose = if is_own {
-            Purpose::Own(key.identity())
-        } else {
-            Purpose::Forward
+    /// Takes a seat for a request with this key that goes there, if one is free. It gets none while
+    /// requests for the same server, or for the same other pooler, have a quarter of the seats,
+    /// those with the same key an eighth, or, if it goes to another pooler, all such requests half
+    /// of them: so no server, no pooler and no key keeps the node's other clients from cancelling.
+    pub fn take<R: Wait>(&self, rt: &R, key: AnyKey, to: Destination) -> Option<Seat> {
+        let purpose = Purpose {
+            place: to.place(),
+            key: key.identity(),
         };
         self.free.lock(rt).take(purpose)
     }
@@ -96,18 +126,27 @@ impl Seats {
 }
 
 impl Free {
-    // Takes a seat for this, if one is free and less than half of them are taken for it.
+    // Takes a seat for this, if one is free and its shares aren't taken.
     fn take(&mut self, purpose: Purpose) -> Option<Seat>
         ensures taken { IfSome result (λ seat. (vec_len self.new.seats + 1 ≡ vec_len self.old.seats)
             × (self.new.taken.items ≡ self.old.taken.items ++ seat.purpose ∷ [])
             × (seat.purpose ≡ purpose)) }
         ensures none { result ≡ None → (vec_len self.new.seats ≡ vec_len self.old.seats)
             × (self.new.taken.items ≡ self.old.taken.items) }
-        // There is none only where no seat is free, or half of them are taken.
+        // There is none only where no seat is free, or a share is taken, of which the least is 32.
         ensures needed { result ≡ None
-            → (vec_len self.old.seats ≡ 0) ⊎ (128 ≤ vec_len self.old.taken) }
+            → (vec_len self.old.seats ≡ 0) ⊎ (32 ≤ vec_len self.old.taken) }
+        // Requests for one place never have more than a quarter of the seats.
+        ensures places { IfSome result (λ _. count_by (λ taken. taken.place == purpose.place)
+            self.old.taken.items < 64) }
+        // Those for other poolers never have more than half of them.
+        ensures forwards { IfSome result (λ _. 257 ≤ purpose.place
+            → count_by (λ taken. nat_le 257 taken.place) self.old.taken.items < 128) }
     {
-        if self.alike(&purpose) >= SHARE {
+        if self.alike(&purpose.key) >= KEY_SHARE || self.at(purpose.place) >= PLACE_SHARE {
+            return None;
+        }
+        if purpose.place >= PEERS && self.forwards() >= FORWARD_SHARE {
             return None;
         }
         let counting = self.seats.pop()?;
@@ -115,17 +154,39 @@ impl Free {
         Some(Seat { counting, purpose })
     }
 
-    // How many seats are taken for this.
-    fn alike(&self, purpose: &Purpose) -> usize
+    // How many seats are taken for requests with this key.
+    fn alike(&self, key: &Identity) -> usize
         ensures { result ≤ vec_len self.now.taken }
     {
         let mut alike: usize = 0;
         for taken in &self.taken {
-            if taken == purpose {
+            if taken.key == *key {
                 alike = alike.saturating_add(1);
             }
         }
         alike
+    }
+
+    // How many seats are taken for requests that go to this place.
+    fn at(&self, place: u32) -> usize
+        ensures count { result ≡ count_by (λ taken. taken.place == place) self.now.taken.items }
+        ensures most { result ≤ vec_len self.now.taken }
+    {
+        self.taken
+            .iter()
+            .filter(|taken| taken.place == place)
+            .count()
+    }
+
+    // How many seats are taken for requests that go to other poolers.
+    fn forwards(&self) -> usize
+        ensures count { result ≡ count_by (λ taken. nat_le 257 taken.place) self.now.taken.items }
+        ensures most { result ≤ vec_len self.now.taken }
+    {
+        self.taken
+            .iter()
+            .filter(|taken| taken.place >= PEERS)
+            .count()
     }
 
     // Gives back a seat that was taken here. If none is noted as taken for its purpose, another's

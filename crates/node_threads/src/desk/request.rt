@@ -6,7 +6,7 @@ ghost use Rattle.peer_forward.specs.declared.verdict.Verdict.{Verdict};
 
 use crate::Desk;
 use lease::{Lease, Ticket};
-use peer_forward::{Verdict, WriteCalls, finish};
+use peer_forward::{Requester, Verdict, WriteCalls, finish};
 use std::sync::Wait;
 
 /// A desk to which a cancel request is reported, and at which its requester waits: so contracts see
@@ -29,7 +29,7 @@ pub struct Requested<'a, D, Q> {
     pub requester: &'a mut Q,
 }
 
-impl<S, D: Desk<S>, Q: WriteCalls> Desk<S> for Requested<'_, D, Q> {
+impl<S, D: Desk<S>, Q: WriteCalls + Requester> Desk<S> for Requested<'_, D, Q> {
     ghost use Rattle.std.specs.Prelude.{◌≡◌};
 
     ghost ready = { λ place. D.ready place.desk };
@@ -69,9 +69,9 @@ impl<S, D: Desk<S>, Q: WriteCalls> Desk<S> for Requested<'_, D, Q> {
     }
 }
 
-impl<S, D: Desk<S>, Q: WriteCalls> RequestDesk<S> for Requested<'_, D, Q> {
+impl<S, D: Desk<S>, Q: WriteCalls + Requester> RequestDesk<S> for Requested<'_, D, Q> {
     ghost finished = { λ old verdict new. (new.desk ≡ old.desk)
-        × Finishes Q.wrote old.requester.now verdict new.requester.now
+        × Finishes Q.wrote Q.takes old.requester.now verdict new.requester.now
         × (new.requester.ghost_name ≡ old.requester.ghost_name) };
 
     fn finish(&mut self, verdict: Verdict) {

@@ -9,12 +9,12 @@ ghost use Rattle.node_threads.specs.Restarting.{boot_after, RestartsAt};
 ghost use Rattle.node_threads.specs.Secrets.{drawing_of, secret_at};
 
 use crate::node::restarts::restart;
-use crate::{Admission, Link, NodePlace, Seats, Secrets};
+use crate::{Admission, Destination, Link, NodePlace, Seats, Secrets};
 use ini_config::{Group, Settings};
 use link_pool::RestartReply;
 use locked_node::{Caller, Journal, Shared};
 use node_core::NodeCore;
-use pg_ids::{Boot, Secret};
+use pg_ids::{AnyKey, Boot, DatabaseNo, Secret};
 use std::alloc::{AllocError, Global};
 use std::sync::atomic::{AtomicU64, Ordering};
 use std::sync::{Arc, Mutex, Wait};
@@ -81,6 +81,35 @@ impl<L: Drop> Node<L> {
         ensures { slice_get (arc_value self.now.group) self.now.place ≡ Some result.now }
     {
         &self.group.nodes()[self.place]
+    }
+
+    /// Where a cancel request with this key goes, as far as its slot tells: to this node's client
+    /// there, or to another pooler.
+    pub(crate) fn destination<R: Wait>(&self, rt: &R, key: AnyKey, is_own: bool) -> Destination {
+        if !is_own {
+            return Destination::Peer(key.peer());
+        }
+        match self.admission.database(rt, key.slot()) {
+            Some(database) => Destination::Server(self.first_at_server_of(database)),
+            None => Destination::Nowhere,
+        }
+    }
+
+    // The first database that has the same server as this one.
+    fn first_at_server_of(&self, database: DatabaseNo) -> DatabaseNo {
+        let settings = self.settings();
+        let Some(entry) = settings.database(database) else {
+            return database;
+        };
+        for place in 0..settings.database_count() {
+            let first = DatabaseNo(place as u8);
+            if let Some(other) = settings.database(first) {
+                if other.port == entry.port && other.host == entry.host {
+                    return first;
+                }
+            }
+        }
+        database
     }
 
     /// The secret for a login, which no other login gets until 2^64 were drawn.

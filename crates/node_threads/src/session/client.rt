@@ -1,17 +1,16 @@
 //! A client's session, from its login to its end.
-ghost use Rattle.std.specs.Prelude.{◌≡◌, ◌<◌, [], None, length};
+ghost use Rattle.std.specs.Prelude.{◌≡◌, ◌<◌, None, length};
 ghost use Rattle.startup.specs.declared.error_code.ErrorCode.TheVariants.{OutOfMemory};
 ghost use Rattle.client_state.specs.Acts.{start};
 ghost use Rattle.pg_frames.specs.Passage.{start as passage_start};
 ghost use Rattle.session_io.specs.Progress.{asking};
 ghost use Rattle.session_io.specs.Asking.{IsError};
 ghost use Rattle.session_io.specs.StreamCalls.{SomeCalls};
-ghost use Rattle.session_io.specs.Stay.{Stay};
 ghost use Rattle.node_threads.specs.Balance.{Moves, Balanced, nothing, a_pass, a_lease};
-ghost use Rattle.node_threads.specs.Desks.{Tells};
-ghost use Rattle.node_threads.specs.Turn.{handed_in, GoesOnWithout};
-ghost use Rattle.node_threads.specs.Leasing.{hand_of, IsLogin};
-ghost use Rattle.node_threads.specs.Serving.{Greets, TellsCancelled, ComesOf, Serves, Stays, ServesClient};
+ghost use Rattle.node_threads.specs.Turn.{GoesOnWithout};
+ghost use Rattle.node_threads.specs.Meaning.{meaning_of, moment};
+ghost use Rattle.node_threads.specs.Leasing.{hand_of};
+ghost use Rattle.node_threads.specs.Serving.{Greets, TellsCancelled, CarriesRequest, ComesOf, Serves, Stays, ServesClient};
 ghost use Rattle.node_threads.specs.declared.session.leases.Acquired.{Acquired as AcquiredOf};
 
 use crate::desk::SessionDesk;
@@ -54,12 +53,9 @@ where
     ensures balanced { Balanced caller.old caller.new }
     // The client was served from its login to its end, and told why it ended; or it was refused.
     ensures served { SomeCalls C.wrote C.gave client.old client.new (λ calls. ServesClient
-        service.entry.limit.now ⟦<O::Stream as WriteCalls>⟧.wrote ⟦<O::Stream as ReadCalls>⟧.gave
-        (IsLogin
-        service.entry.limit.now ⟦<O::Stream as WriteCalls>⟧.wrote ⟦<O::Stream as ReadCalls>⟧.gave
-        (O.connects service.entry.opener.now) service.entry.settings.now.databases)
-        service.entry.reports.now database secret kind cutter.old.bytes calls cutter.new.bytes
-        caller.old caller.new) }
+        (meaning_of O.Opener O.Stream.WriteCalls O.Stream.ReadCalls service.entry)
+        (record { database = database; secret = secret; kind = kind })
+        (moment cutter.old.bytes caller.old) calls (moment cutter.new.bytes caller.new)) }
 {
     let shared = service.shared;
     let Ok(pass) = shared.join(service.rt, caller, database, secret, kind) else {
@@ -91,12 +87,9 @@ where
     requires cutter { cutter.old.limit ≡ service.limit.now }
     ensures balanced { Balanced caller.old caller.new }
     ensures stays { SomeCalls C.wrote C.gave client.old client.new (λ calls. Stays
-        service.entry.limit.now ⟦<O::Stream as WriteCalls>⟧.wrote ⟦<O::Stream as ReadCalls>⟧.gave
-        (IsLogin
-        service.entry.limit.now ⟦<O::Stream as WriteCalls>⟧.wrote ⟦<O::Stream as ReadCalls>⟧.gave
-        (O.connects service.entry.opener.now) service.entry.settings.now.databases)
-        service.entry.reports.now pass.now database result cutter.old.bytes calls cutter.new.bytes
-        caller.old caller.new) }
+        (meaning_of O.Opener O.Stream.WriteCalls O.Stream.ReadCalls service.entry)
+        (record { pass = pass.now; database = database }) result
+        (moment cutter.old.bytes caller.old) calls (moment cutter.new.bytes caller.new)) }
 {
     let alloc = service.alloc;
     let slot = pass.key().slot();
@@ -166,18 +159,16 @@ where
     C: WriteCalls + ReadCalls,
     requires own { caller.old.lock ≡ service.shared.now }
     requires session { session.old ≡ start session.old.limit session.old.database }
+    requires limit { session.old.limit ≡ service.limit.now }
     requires cutter { cutter.old.limit ≡ session.old.limit }
     ensures balanced { Balanced caller.old caller.new }
     ensures session { result ≡ None
         → session.new ≡ start session.old.limit session.old.database }
     ensures limit { cutter.new.limit ≡ cutter.old.limit }
     ensures serves { SomeCalls C.wrote C.gave client.old client.new (λ calls. Serves
-        session.old.limit ⟦<O::Stream as WriteCalls>⟧.wrote ⟦<O::Stream as ReadCalls>⟧.gave
-        (IsLogin
-        service.entry.limit.now ⟦<O::Stream as WriteCalls>⟧.wrote ⟦<O::Stream as ReadCalls>⟧.gave
-        (O.connects service.entry.opener.now) service.entry.settings.now.databases)
-        pass.now session.old.database result cutter.old.bytes calls cutter.new.bytes caller.old
-        caller.new) }
+        (meaning_of O.Opener O.Stream.WriteCalls O.Stream.ReadCalls service.entry)
+        (record { pass = pass.now; database = session.old.database }) result
+        (moment cutter.old.bytes caller.old) calls (moment cutter.new.bytes caller.new)) }
 {
     let request = match next_request(service.rt, session, client, cutter) {
         Ok(request) => request,
@@ -211,15 +202,16 @@ where
     C: WriteCalls + ReadCalls,
     requires own { caller.old.lock ≡ service.shared.now }
     requires session { session.old ≡ asking session.old.limit session.old.database }
+    requires limit { session.old.limit ≡ service.limit.now }
     requires cutter { cutter.old.limit ≡ session.old.limit }
     ensures moves { Moves (hand_of acquired) caller.old nothing caller.new }
     ensures session { result ≡ None
         → session.new ≡ start session.old.limit session.old.database }
     ensures limit { cutter.new.limit ≡ cutter.old.limit }
     ensures comes { SomeCalls C.wrote C.gave client.old client.new (λ calls. ComesOf
-        session.old.limit ⟦<O::Stream as WriteCalls>⟧.wrote ⟦<O::Stream as ReadCalls>⟧.gave
-        acquired request result cutter.old.bytes calls cutter.new.bytes caller.old
-        caller.new) }
+        (meaning_of O.Opener O.Stream.WriteCalls O.Stream.ReadCalls service.entry)
+        acquired request result (moment cutter.old.bytes caller.old) calls
+        (moment cutter.new.bytes caller.new)) }
 {
     match acquired {
         Acquired::Lease(lease) => ride(service, caller, client, cutter, session, lease, request),
@@ -250,15 +242,16 @@ where
     C: WriteCalls + ReadCalls,
     requires own { caller.old.lock ≡ service.shared.now }
     requires session { session.old ≡ asking session.old.limit session.old.database }
+    requires limit { session.old.limit ≡ service.limit.now }
     requires cutter { cutter.old.limit ≡ session.old.limit }
     ensures moves { Moves a_lease caller.old nothing caller.new }
     ensures session { result ≡ None
         → session.new ≡ start session.old.limit session.old.database }
     ensures limit { cutter.new.limit ≡ cutter.old.limit }
     ensures comes { SomeCalls C.wrote C.gave client.old client.new (λ calls. ComesOf
-        session.old.limit ⟦<O::Stream as WriteCalls>⟧.wrote ⟦<O::Stream as ReadCalls>⟧.gave
-        (AcquiredOf.Lease lease) request result cutter.old.bytes calls cutter.new.bytes
-        caller.old caller.new) }
+        (meaning_of O.Opener O.Stream.WriteCalls O.Stream.ReadCalls service.entry)
+        (AcquiredOf.Lease lease) request result (moment cutter.old.bytes caller.old) calls
+        (moment cutter.new.bytes caller.new)) }
 {
     service.gate.pass(service.rt, Point::Acquired);
     // A link is given back as it was at its start. No clause of the lock says so.
@@ -293,15 +286,13 @@ where
     C: WriteCalls + ReadCalls,
     requires own { caller.old.lock ≡ service.shared.now }
     requires session { session.old ≡ asking session.old.limit session.old.database }
+    requires limit { session.old.limit ≡ service.limit.now }
     requires cutter { cutter.old.limit ≡ session.old.limit }
     requires at_start { lease.stream.flow ≡ passage_start session.old.limit }
-    ensures stay { (link : _) × SomeCalls
-        ⟦<O::Stream as WriteCalls>⟧.wrote ⟦<O::Stream as ReadCalls>⟧.gave
-        lease.stream.stream link
-        (λ on_link. SomeCalls C.wrote C.gave client.old client.new
-        (λ on_client. Stay session.old.limit request [] cutter.old.bytes on_link on_client result
-        cutter.new.bytes)) }
-    ensures told { Tells (handed_in result lease.details) caller.old caller.new }
+    ensures carries { SomeCalls C.wrote C.gave client.old client.new (λ calls. CarriesRequest
+        (meaning_of O.Opener O.Stream.WriteCalls O.Stream.ReadCalls service.entry)
+        lease.details lease.stream.stream request result (moment cutter.old.bytes caller.old) calls
+        (moment cutter.new.bytes caller.new)) }
     ensures session { GoesOnWithout result session.old session.new }
     ensures limit { cutter.new.limit ≡ cutter.old.limit }
 {

@@ -5,9 +5,11 @@ ghost use Rattle.link_pool.specs.declared.replies.UpReply.TheVariants as up;
 ghost use Rattle.node_core.specs.declared.exchange.Exchange.TheVariants as step;
 ghost use Rattle.locked_node.specs.Lock.{CallerStep};
 ghost use Rattle.node_threads.specs.Balance.{Moves, nothing, a_lease, a_permit};
-ghost use Rattle.node_threads.specs.Leasing.{hand_of, hand_of_answer, OfLease, OfAnswer, IsLoggedIn, IsLogin, IsThisLogin, IsAnswer, IsOpened, IsKept};
+ghost use Rattle.node_threads.specs.Meaning.{meaning_of, logins, IsLoggedIn, IsThisLogin};
+ghost use Rattle.node_threads.specs.Leasing.{hand_of, hand_of_answer, OfLease, OfAnswer, IsAnswer, IsOpened, IsKept};
 ghost use Rattle.node_threads.specs.declared.session.leases.Acquired.{Acquired};
 
+use crate::opener::Listening;
 use crate::{Entrance, Gate, Link, Opener, Point, Service};
 use lease::{Lease, Pass, Permit};
 use link_pool::{AcquireReply, UpReply};
@@ -50,9 +52,7 @@ pub fn acquire<R: Wait, O: Opener, G: Gate>(
     ensures database { OfLease (λ lease. lease.details.at.database ≡ database) result }
     // It is what the node answered last.
     ensures answer { IsAnswer
-        (IsLogin
-        service.entry.limit.now ⟦<O::Stream as WriteCalls>⟧.wrote ⟦<O::Stream as ReadCalls>⟧.gave
-        (O.connects service.entry.opener.now) service.entry.settings.now.databases)
+        (logins (meaning_of O.Opener O.Stream.WriteCalls O.Stream.ReadCalls service.entry))
         pass.now result caller.old caller.new }
 {
     if !entrance.try_enter() {
@@ -83,9 +83,7 @@ fn ask<R: Wait, O: Opener, G: Gate>(
     ensures moves { Moves nothing caller.old (hand_of_answer result) caller.new }
     ensures database { OfAnswer (λ lease. lease.details.at.database ≡ database) result }
     ensures answer { IfSome result (λ acquired. IsAnswer
-        (IsLogin
-        service.entry.limit.now ⟦<O::Stream as WriteCalls>⟧.wrote ⟦<O::Stream as ReadCalls>⟧.gave
-        (O.connects service.entry.opener.now) service.entry.settings.now.databases)
+        (logins (meaning_of O.Opener O.Stream.WriteCalls O.Stream.ReadCalls service.entry))
         pass.now acquired caller.old caller.new) }
 {
     let answer = service.shared.acquire(service.rt, caller, pass);
@@ -157,23 +155,22 @@ fn open<R: Wait, O: Opener, G: Gate>(
     requires own { caller.old.lock ≡ service.shared.now }
     ensures moves { Moves a_permit caller.old (hand_of result) caller.new }
     ensures logged_in { OfLease (λ lease. (key : List ℕ) × IsLoggedIn
-        service.entry.limit.now ⟦<O::Stream as WriteCalls>⟧.wrote ⟦<O::Stream as ReadCalls>⟧.gave
-        (O.connects service.entry.opener.now) service.entry.settings.now.databases
+        (meaning_of O.Opener O.Stream.WriteCalls O.Stream.ReadCalls service.entry)
         lease.details.at.database key lease.stream.stream
         × CallerStep caller.old (step.Up permit key (up.Up lease.details)) caller.new) result }
     ensures opened { IsOpened
-        (IsLogin
-        service.entry.limit.now ⟦<O::Stream as WriteCalls>⟧.wrote ⟦<O::Stream as ReadCalls>⟧.gave
-        (O.connects service.entry.opener.now) service.entry.settings.now.databases)
+        (logins (meaning_of O.Opener O.Stream.WriteCalls O.Stream.ReadCalls service.entry))
         permit result caller.old caller.new }
 {
     match connect(service, permit.details().at.database) {
         Ok(opened) => put_up(service, caller, permit, opened),
         Err(error) => {
+            let is_lost = had_memory(error);
             let _reply = service.shared.up_failed(service.rt, caller, permit);
-            match error {
-                LinkError::Lost => Acquired::Refused(ErrorCode::ConnectionFailure),
-                LinkError::Memory => Acquired::Ended,
+            if is_lost {
+                Acquired::Refused(ErrorCode::ConnectionFailure)
+            } else {
+                Acquired::Ended
             }
         }
     }
@@ -236,15 +233,37 @@ fn put_up<R: Wait, O: Opener, G: Gate>(
     }
 }
 
-// Connects to the server of a database and logs in there, as the user and to the database that its
-// entry names.
+// Connects to the server of a database and logs in there, and tries that again for as long as the
+// opener says so.
 fn connect<R: Wait, O: Opener, G: Gate>(
     service: Service<'_, R, Link<O::Stream>, O, G>,
     database: DatabaseNo,
 ) -> Result<LoggedIn<O::Stream>, LinkError>
     ensures logged_in { IfOk result (λ logged. IsLoggedIn
-        service.entry.limit.now ⟦<O::Stream as WriteCalls>⟧.wrote ⟦<O::Stream as ReadCalls>⟧.gave
-        (O.connects service.entry.opener.now) service.entry.settings.now.databases
+        (meaning_of O.Opener O.Stream.WriteCalls O.Stream.ReadCalls service.entry)
+        database logged.key logged.link.stream) }
+{
+    for _ in service.rt.forever() {
+        match connect_once(service, database) {
+            Ok(opened) => return Ok(opened),
+            Err(error) => {
+                if !service.opener.tries_again(service.rt, database) {
+                    return Err(error);
+                }
+            }
+        }
+    }
+    unreachable!()
+}
+
+// Connects to the server of a database and logs in there, as the user and to the database that its
+// entry names.
+fn connect_once<R: Wait, O: Opener, G: Gate>(
+    service: Service<'_, R, Link<O::Stream>, O, G>,
+    database: DatabaseNo,
+) -> Result<LoggedIn<O::Stream>, LinkError>
+    ensures logged_in { IfOk result (λ logged. IsLoggedIn
+        (meaning_of O.Opener O.Stream.WriteCalls O.Stream.ReadCalls service.entry)
         database logged.key logged.link.stream) }
 {
     let Some(entry) = service.settings.database(database) else {
@@ -257,15 +276,33 @@ fn connect<R: Wait, O: Opener, G: Gate>(
         return Err(LinkError::Lost);
     }
     match service.opener.server(service.rt, database) {
-        Ok(stream) => log_in(
-            service.rt,
-            service.alloc,
-            *service.limit,
-            stream,
-            entry.user,
-            entry.dbname,
-        ),
+        Ok(stream) => {
+            let listener = Listening {
+                opener: service.opener,
+            };
+            let logged = log_in(
+                service.rt,
+                service.alloc,
+                &listener,
+                *service.limit,
+                stream,
+                entry.user,
+                entry.dbname,
+            );
+            if let Err(LinkError::Refused(refusal)) = &logged {
+                service.opener.refuse_login(database, refusal);
+            }
+            logged
+        }
         Err(error) => Err(cause_of(&error)),
+    }
+}
+
+// Whether a link can't be opened for another reason than memory.
+fn had_memory(error: LinkError) -> bool {
+    match error {
+        LinkError::Lost | LinkError::Refused(_) => true,
+        LinkError::Memory => false,
     }
 }
 

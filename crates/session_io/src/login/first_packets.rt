@@ -1,25 +1,22 @@
 //! The first packets of a connection are read and answered.
-ghost use Rattle.std.specs.Prelude.{◌≡◌, ◌≢◌, ◌≤◌, [], ◌∷◌, ◌++◌, ℕ, List, true, false, length, drop, string_bytes, Err};
+ghost use Rattle.std.specs.Prelude.{◌≡◌, ◌<◌, ◌≤◌, [], ◌∷◌, ◌++◌, ℕ, List, true, false, length, drop};
 ghost use Rattle.peer_forward.specs.Calls.{taken};
-ghost use Rattle.pg_frames.specs.declared.error.FrameError.{FrameError};
-ghost use Rattle.startup.specs.ErrorCode.{told_of_refusal};
+ghost use Rattle.startup.specs.Wanted.{IsWithin, LacksLast};
 ghost use Rattle.session_io.specs.StreamCalls.{SomeCalls, Wrote, Read};
-ghost use Rattle.session_io.specs.Opening.{Opens, Begins, IsSession, Ends, WritesError};
+ghost use Rattle.session_io.specs.Opening.{Opens, Looks, Ends, Refuses};
 
 use crate::login::refuse;
 use bytes::BytesMut;
-use peer_forward::{ReadCalls, WriteCalls, write_whole};
-use pg_frames::{Cutter, FrameError};
+use peer_forward::{Arrival, ReadCalls, Requester, WriteCalls, write_whole};
 use pg_ids::{AnyKey, Kind};
-use startup::{First, Opening, StartupError};
+use startup::{First, Opening, StartupError, Wanted, cancel_key};
 use std::alloc::Global;
 use std::sync::Wait;
 
 // How many bytes are read at once.
 const MAX_READ: usize = 256;
 
-// How long a CancelRequest is at most, in bytes. Memory for it is taken before it is read: the end of
-// its connection must not be clean if it was read whole and isn't served.
+// How long a CancelRequest is at most, in bytes. Memory for it is taken before it is read.
 const LONGEST_CANCEL: usize = 32;
 
 // How many bytes a request for encryption takes.
@@ -35,26 +32,27 @@ pub enum Opened {
         /// The kind of its key.
         kind: Kind,
     },
-    /// A cancel request with this key.
+    /// A cancel request with this key, whose last byte was seen and isn't taken yet.
     Cancel(AnyKey),
     /// It is over: it was refused, or it was lost.
     Over,
 }
 
 /// Reads a connection's first packets, and answers each request for encryption with the byte N, up
-/// to a StartupMessage, behind which the bytes are fed to the cutter, or a CancelRequest. A refusal
-/// is written to the client. A call that is interrupted has failed, and none is tried again.
+/// to a StartupMessage or to the last byte of a CancelRequest, at which it looks. Nothing behind them
+/// is read. A refusal is told to the connection, and written to the client unless the connection says
+/// not to. A call that is interrupted has failed, and none is tried again.
 #[inline(never)]
-pub fn open<R: Wait, C: WriteCalls + ReadCalls>(
-    rt: &R,
-    alloc: Global,
-    client: &mut C,
-    cutter: &mut Cutter,
-) -> Opened
-    requires { cutter.old.bytes ≡ [] }
-    ensures opens { SomeCalls C.wrote C.gave client.old client.new
-        (λ calls. Opens calls result cutter.new.bytes) }
-    ensures limit { cutter.new.limit ≡ cutter.old.limit }
+pub fn open<R, C>(rt: &R, alloc: Global, client: &mut C) -> Opened
+where
+    R: Wait,
+    C: WriteCalls + ReadCalls + Requester + Arrival,
+    ensures opens { Opens (record {
+      wrote = C.wrote;
+      gave = C.gave;
+      saw = C.saw;
+      refused = C.refused;
+    }) client.old result client.new }
 {
     let mut opening = Opening::new(alloc);
     let mut text = BytesMut::new(alloc);
@@ -67,62 +65,25 @@ pub fn open<R: Wait, C: WriteCalls + ReadCalls>(
             }
         };
         match first {
-            First::Startup {
-                kind,
-                database,
-                used,
-                ..
-            } => {
-                let rest = text.as_slice().split_at(used).1;
-                return begin(alloc, client, cutter, rest, database, kind);
-            }
-            First::Cancel { key } => return Opened::Cancel(key),
+            First::Startup { database, kind, .. } => return Opened::Session { database, kind },
+            // Its last byte isn't read.
+            First::Cancel { .. } => unreachable!(),
             First::Ssl | First::Gss => {
                 if !decline(client, &mut text) {
                     return Opened::Over;
                 }
             }
-            First::More => {
-                if !read_more(alloc, client, &mut opening, &mut text) {
-                    return Opened::Over;
+            First::More => match Wanted::after(text.as_slice()) {
+                Wanted::Read(count) => {
+                    if !read_more(alloc, client, &mut opening, &mut text, count) {
+                        return Opened::Over;
+                    }
                 }
-            }
+                Wanted::Look => return look(alloc, client, &mut opening, text.as_slice()),
+            },
         }
     }
     unreachable!()
-}
-
-// Begins a session, behind whose StartupMessage these bytes were read.
-fn begin<C: WriteCalls + ReadCalls>(
-    alloc: Global,
-    client: &mut C,
-    cutter: &mut Cutter,
-    rest: &[u8],
-    database: String,
-    kind: Kind,
-) -> Opened
-    requires { cutter.old.bytes ≡ [] }
-    ensures begins { SomeCalls C.wrote C.gave client.old client.new
-        (λ calls. Begins rest.now result calls cutter.new.bytes) }
-    ensures same { IsSession result (string_bytes database) kind }
-    ensures limit { cutter.new.limit ≡ cutter.old.limit }
-{
-    if lacks_memory(&cutter.feed(rest)) {
-        refuse_first(alloc, client, StartupError::Memory);
-        return Opened::Over;
-    }
-    Opened::Session { database, kind }
-}
-
-// Whether bytes weren't taken because memory ran out. Bytes that are no frames are taken, and are
-// the session's to refuse.
-fn lacks_memory(fed: &Result<(), FrameError>) -> bool
-    ensures { result ≡ false → fed.now ≢ Err FrameError.Memory }
-{
-    match fed {
-        Err(FrameError::Memory) => true,
-        Ok(()) | Err(_) => false,
-    }
 }
 
 // Answers a request for encryption, which begins the text, with the byte N. It returns whether the
@@ -139,28 +100,36 @@ fn decline<C: WriteCalls + ReadCalls>(client: &mut C, text: &mut BytesMut) -> bo
     write_whole(client, b"N")
 }
 
-// Reads more of the client. Where nothing comes, the connection is over, and it returns false. It
-// isn't inlined, so that a session's stack has no room for its buffer.
+// Reads more of the client, at most this many bytes. Where nothing comes, the connection is over, and
+// it returns false. It isn't inlined, so that a session's stack has no room for its buffer.
 #[inline(never)]
-fn read_more<C: WriteCalls + ReadCalls>(
+fn read_more<C>(
     alloc: Global,
     client: &mut C,
     opening: &mut Opening,
     text: &mut BytesMut,
+    wanted: usize,
 ) -> bool
+where
+    C: WriteCalls + ReadCalls + Requester + Arrival,
     ensures more { result ≡ true → SomeCalls C.wrote C.gave client.old client.new
-        (λ calls. (bytes : List ℕ) × Read bytes calls
+        (λ calls. (bytes : List ℕ) × Read bytes calls × (length bytes ≤ wanted)
         × (text.new.items ≡ text.old.items ++ bytes)) }
     ensures seen { result ≡ true → opening.new ≡ opening.old }
-    ensures over { result ≡ false → SomeCalls C.wrote C.gave client.old client.new
-        (Ends opening.old text.old.items) }
+    ensures over { result ≡ false → Ends (record {
+      wrote = C.wrote;
+      gave = C.gave;
+      saw = C.saw;
+      refused = C.refused;
+    }) opening.old text.old.items client.old client.new }
 {
     if text.reserve(LONGEST_CANCEL).is_err() {
         refuse_first(alloc, client, StartupError::Memory);
         return false;
     }
     let mut buffer = [0; MAX_READ];
-    let Ok(count) = client.read_once(&mut buffer) else {
+    let room = wanted.min(MAX_READ);
+    let Ok(count) = client.read_once(&mut buffer[..room]) else {
         return false;
     };
     if count == 0 {
@@ -176,20 +145,60 @@ fn read_more<C: WriteCalls + ReadCalls>(
     }
 }
 
+// Looks at the last byte of a CancelRequest, of which these bytes were read.
+#[inline(never)]
+fn look<C>(alloc: Global, client: &mut C, opening: &mut Opening, text: &[u8]) -> Opened
+where
+    C: WriteCalls + ReadCalls + Requester + Arrival,
+    requires lacks { LacksLast text.now }
+    ensures looks { Looks (record {
+      wrote = C.wrote;
+      gave = C.gave;
+      saw = C.saw;
+      refused = C.refused;
+    }) opening.old text.now client.old result client.new }
+{
+    let mut last = [0];
+    match client.peek_once(&mut last) {
+        Ok(0) => {
+            end(alloc, client, opening, text);
+            Opened::Over
+        }
+        Ok(_) => Opened::Cancel(cancel_key(text, last[0])),
+        Err(_) => Opened::Over,
+    }
+}
+
 // Ends a connection whose input ended after these bytes.
-fn end<C: WriteCalls + ReadCalls>(alloc: Global, client: &mut C, opening: &mut Opening, text: &[u8])
-    ensures { SomeCalls C.wrote C.gave client.old client.new (Ends opening.old text.now) }
+fn end<C>(alloc: Global, client: &mut C, opening: &mut Opening, text: &[u8])
+where
+    C: WriteCalls + ReadCalls + Requester + Arrival,
+    ensures { Ends (record {
+      wrote = C.wrote;
+      gave = C.gave;
+      saw = C.saw;
+      refused = C.refused;
+    }) opening.old text.now client.old client.new }
 {
     if let Err(error) = opening.read(text, true) {
         refuse_first(alloc, client, error);
     }
 }
 
-// Writes a refusal to the client, if it has a code.
-fn refuse_first<C: WriteCalls + ReadCalls>(alloc: Global, client: &mut C, error: StartupError)
-    ensures { SomeCalls C.wrote C.gave client.old client.new
-        (WritesError (told_of_refusal error)) }
+// Refuses a connection: it is told the error, which is then written to the client if it has a code.
+fn refuse_first<C>(alloc: Global, client: &mut C, error: StartupError)
+where
+    C: WriteCalls + ReadCalls + Requester + Arrival,
+    ensures { Refuses (record {
+      wrote = C.wrote;
+      gave = C.gave;
+      saw = C.saw;
+      refused = C.refused;
+    }) error client.old client.new }
 {
+    if !client.refuse(error) {
+        return;
+    }
     if let Some(code) = error.error_code() {
         refuse(alloc, client, code);
     }

@@ -25,8 +25,19 @@ pub enum Taken {
     More(LoginPlace),
     /// The messages up to the one with which the link is up, with this key.
     Done(ServerKey),
-    /// A message with which the login fails.
+    /// The messages up to one with which the login fails.
+    Stopped(Stop),
+}
+
+/// With what a login fails.
+#[derive(Clone, Copy)]
+pub enum Stop {
+    /// With what is no answer to a login, or with the end of what came.
     Failed,
+    /// With an authentication request of this code.
+    Asks(u32),
+    /// With an ErrorResponse with this length field, whose head was taken.
+    Error(usize),
 }
 
 /// Which piece of a message was handed out. The bytes of its body aren't in it.
@@ -66,7 +77,7 @@ impl LoginPlace {
         match self {
             LoginPlace::Passing => Taken::More(LoginPlace::Between),
             LoginPlace::Up(key) => Taken::Done(key),
-            LoginPlace::Between | LoginPlace::Reading(_) => Taken::Failed,
+            LoginPlace::Between | LoginPlace::Reading(_) => Taken::Stopped(Stop::Failed),
         }
     }
 }

@@ -8,7 +8,6 @@ mod place;
 mod replies;
 mod requests;
 mod stays;
-mod whole;
 
 pub use above::length_above;
 pub use link::Link;

@@ -1,5 +1,5 @@
 //! The reply to a request is read from the link and passed on to the client.
-ghost use Rattle.std.specs.Prelude.{◌≡◌, ◌≤◌, ◌+◌, ◌-◌, ◌++◌, ◌∷◌, [], ℕ, List, true, false, length, take, IsTrue, None, Some, IfSome};
+ghost use Rattle.std.specs.Prelude.{◌≡◌, ◌≤◌, ◌+◌, ◌-◌, ◌++◌, ◌∷◌, [], ℕ, List, true, false, length, take, drop, IsTrue, None, Some, IfSome};
 ghost use Rattle.peer_forward.specs.Calls.{Call, Makes};
 ghost use Rattle.pg_frames.specs.FrameText.{HasFault};
 ghost use Rattle.pg_frames.specs.Passage.{start, fed, forgotten, after, HasNoNext, BeginsWith};
@@ -10,26 +10,24 @@ ghost use Rattle.client_state.specs.declared.link_message.LinkMessage.TheVariant
 ghost use Rattle.session_io.specs.StreamCalls.{SomeCalls, Wrote, WroteSome, Read, IsFailedRead};
 ghost use Rattle.session_io.specs.Asking.{IsError};
 ghost use Rattle.session_io.specs.Replying.{EndsStay, Replies};
-ghost use Rattle.session_io.specs.Progress.{asking, in_transaction, HandedOut, HandedLast, HandsOut, IsDry, KeepsSession, EndsHere, GoesOn, LeavesBehind, HeadMeans, PieceMeans, after_part, after_tail, Refuses, FinishesIdle, FinishesOpen};
+ghost use Rattle.session_io.specs.Progress.{asking, in_transaction, HandedOut, HandedLast, HandsOut, IsDry, KeepsSession, EndsHere, GoesOn, LeavesBehind, ArePassedOn, HeadMeans, PieceMeans, after_part, after_tail, Refuses, FinishesIdle, FinishesOpen};
 ghost use Rattle.session_io.specs.declared.session.outcome.Stayed.{Stayed};
 ghost use Rattle.session_io.specs.declared.session.place.Place.{Place as PlaceOf};
 
 use crate::Stayed;
-use crate::session::channel::{Channel, read_more, read_up_to};
+use crate::session::channel::{Channel, read_more};
 use crate::session::place::{Handed, Place};
 use client_state::{Act, Client, HeadAct, Reply, is_passed_on};
 use peer_forward::{ReadCalls, WriteCalls, write_whole};
-use pg_frames::{Flow, Header, Piece};
+use pg_frames::{Flow, Header, MessageLimit, Piece, whole_head_of};
 use std::sync::Wait;
 
-// How many bytes are read at once where memory for more is refused.
-const FEW: usize = 512;
+// How many bytes a ReadyForQuery takes.
+const READY_LEN: usize = 6;
 
-/// Passes the reply to a request on to the client, however it comes. It returns nothing where the
-/// reply leaves a transaction open and the stay goes on. It isn't inlined, since most replies come
-/// whole with one read.
-#[inline(never)]
-pub fn pass_rest<R: Wait, C: WriteCalls + ReadCalls, L: WriteCalls + ReadCalls>(
+/// Passes the reply to a request on to the client. It returns nothing where the reply leaves a
+/// transaction open and the stay goes on.
+pub fn pass_reply<R: Wait, C: WriteCalls + ReadCalls, L: WriteCalls + ReadCalls>(
     rt: &R,
     session: &mut Client,
     client: &mut C,
@@ -50,12 +48,11 @@ pub fn pass_rest<R: Wait, C: WriteCalls + ReadCalls, L: WriteCalls + ReadCalls>(
     ensures leaves { IfSome result
         (λ stayed. LeavesBehind link.old.flow.limit stayed session.old session.new link.new.flow) }
 {
-    let mut room = session.large_room();
     let mut place = Place::Between;
     for _ in rt.forever() {
         match hand_out(session, &mut link.flow, place) {
             Handed::More(now) => {
-                if let Some(stayed) = read_on(session, client, link, &mut room, now) {
+                if let Some(stayed) = read_on(session, client, link, now) {
                     return Some(stayed);
                 }
                 place = now;
@@ -76,9 +73,14 @@ fn hand_out(session: &mut Client, flow: &mut Flow, place: Place) -> Handed
     ensures dry { IsDry result flow.new }
     ensures session { KeepsSession result session.old session.new }
 {
+    if flow.is_at_start() {
+        return Handed::More(place);
+    }
     let mut place = place;
     loop {
-        pass_frames(flow);
+        if let Some(status) = pass_frames(flow) {
+            return Handed::Ready(status);
+        }
         let Some(piece) = flow.next() else {
             return Handed::More(place);
         };
@@ -90,27 +92,72 @@ fn hand_out(session: &mut Client, flow: &mut Flow, place: Place) -> Handed
     }
 }
 
-// Hands out the whole frames at the front that are passed on, where no frame was begun.
-fn pass_frames(flow: &mut Flow)
-    ensures handed { (limit : ℕ) (stream written : List ℕ) (place : PlaceOf)
+// Hands out the whole frames at the front that are passed on, where no frame was begun, and with
+// them the ReadyForQuery behind them, if it is whole. It returns its status then.
+fn pass_frames(flow: &mut Flow) -> Option<u8>
+    ensures more { result ≡ None → (limit : ℕ) (stream written : List ℕ) (place : PlaceOf)
         → HandedOut limit stream written place flow.old
         → HandedOut limit stream written place flow.new }
+    ensures ready { IfSome result (λ status. (limit : ℕ) (stream written : List ℕ) (place : PlaceOf)
+        → HandedOut limit stream written place flow.old
+        → HandedLast limit stream written (ready_text status) flow.new) }
     ensures fewer { length flow.new.bytes ≤ length flow.old.bytes }
     ensures left { flow.new.left ≡ flow.old.left }
 {
-    while let Some(head) = next_passed(flow) {
-        flow.pass_frame(head);
+    if !flow.is_between() {
+        return None;
+    }
+    let limit = flow.limit();
+    // Each limit admits a ReadyForQuery.
+    prove!(limit.get() as usize >= READY_LEN);
+    let bytes = flow.pending();
+    let len = passed_len(limit, bytes);
+    match ready_status(bytes.split_at(len).1) {
+        Some(status) => {
+            flow.pass_frames(len + READY_LEN);
+            Some(status)
+        }
+        None => {
+            flow.pass_frames(len);
+            None
+        }
     }
 }
 
+// How many bytes at the front are whole frames that are passed on.
+fn passed_len(limit: MessageLimit, bytes: &[u8]) -> usize
+    ensures within { result ≤ length bytes.now }
+    ensures frames { ArePassedOn limit (take result bytes.now) }
+{
+    let mut at = 0;
+    while let Some(head) = passed_head(limit, bytes.split_at(at).1) {
+        at += 1 + head.length;
+    }
+    at
+}
+
 // The head of the whole frame at the front, if it is passed on.
-fn next_passed(flow: &Flow) -> Option<Header>
-    ensures { IfSome result (λ head. (flow.now.left ≡ None) × BeginsWith flow.now.limit flow.now.bytes head
-        × (1 + head.length ≤ length flow.now.bytes)
+fn passed_head(limit: MessageLimit, bytes: &[u8]) -> Option<Header>
+    ensures { IfSome result (λ head. BeginsWith limit bytes.now head
+        × (1 + head.length ≤ length bytes.now)
         × (link_message head.kind head.length ≡ PassOn)) }
 {
-    match flow.whole_frame() {
-        Some(head) if is_passed_on(head.kind) => Some(head),
+    // Most types are passed on, and the type is judged in fewer steps than the whole head.
+    let (kind, after) = bytes.split_first()?;
+    if is_passed_on(*kind) {
+        whole_head_of(limit, *kind, after)
+    } else {
+        None
+    }
+}
+
+// The status of the whole ReadyForQuery at the front.
+fn ready_status(bytes: &[u8]) -> Option<u8>
+    ensures { IfSome result (λ status. (6 ≤ length bytes.now)
+        × (bytes.now ≡ ready_text status ++ drop 6 bytes.now)) }
+{
+    match bytes {
+        [b'Z', 0, 0, 0, 5, status, ..] => Some(*status),
         _ => None,
     }
 }
@@ -183,7 +230,6 @@ fn read_on<C: WriteCalls + ReadCalls, L: WriteCalls + ReadCalls>(
     session: &mut Client,
     client: &mut C,
     link: &mut Channel<L>,
-    room: &mut Vec<u8>,
     place: Place,
 ) -> Option<Stayed>
     requires session { session.old ≡ asking session.old.limit session.old.database }
@@ -214,7 +260,7 @@ fn read_on<C: WriteCalls + ReadCalls, L: WriteCalls + ReadCalls>(
     if link.flow.fault().is_some() {
         return Some(Stayed::End(lost(session)));
     }
-    if read_link(link, room) {
+    if read_more(link) {
         return None;
     }
     match place {
@@ -231,25 +277,6 @@ pub fn lost(session: &mut Client) -> Reply
     match session.on_link_fault() {
         Act::Close(error) => error,
         _ => Reply::nothing(),
-    }
-}
-
-// Reads more of a link into this memory, or by less where there is none, and returns whether more
-// came.
-fn read_link<L: WriteCalls + ReadCalls>(link: &mut Channel<L>, room: &mut Vec<u8>) -> bool
-    requires dry { HasNoNext link.old.flow.limit link.old.flow.left link.old.flow.bytes }
-    requires sound { HasFault link.old.flow.limit (after link.old.flow) None }
-    requires few { length link.old.flow.passed ≤ 6 }
-    ensures more { result ≡ true → (call : Call)
-        × Makes L.wrote L.gave link.old.stream (call ∷ []) link.new.stream
-        × (bytes : List ℕ) × Read bytes (call ∷ []) × (link.new.flow ≡ fed link.old.flow bytes) }
-    ensures none { result ≡ false → (call : Call)
-        × Makes L.wrote L.gave link.old.stream (call ∷ []) link.new.stream × IsFailedRead call }
-{
-    if room.is_empty() {
-        read_up_to::<FEW, L>(link)
-    } else {
-        read_more(link, room.as_mut_slice())
     }
 }
 

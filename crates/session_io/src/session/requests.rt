@@ -1,6 +1,5 @@
 //! The next request of a client is read.
-ghost use Rattle.std.specs.Prelude.{◌≡◌, ◌<◌, ◌≤◌, ◌++◌, ◌∷◌, [], ℕ, List, None, Some, IfSome, OnOk};
-ghost use Rattle.peer_forward.specs.Calls.{Call, Makes};
+ghost use Rattle.std.specs.Prelude.{◌≡◌, [], ℕ, List, None, IfSome, OnOk};
 ghost use Rattle.pg_frames.specs.FrameText.{BeginsNoFrame};
 ghost use Rattle.pg_frames.specs.Pending.{with_piece};
 ghost use Rattle.startup.specs.declared.error_code.ErrorCode.TheVariants.{ProtocolViolation};
@@ -9,8 +8,7 @@ ghost use Rattle.session_io.specs.Asking.{IsError};
 ghost use Rattle.session_io.specs.Progress.{asking};
 ghost use Rattle.session_io.specs.Finding.{gathering, Finds, Quits, IsRefusal, AsksNext};
 
-use crate::session::channel::read_into;
-use client_state::{Act, Client, Reply, Request, is_request};
+use client_state::{Act, Client, Reply, Request};
 use peer_forward::{ReadCalls, WriteCalls};
 use pg_frames::{Cutter, FrameError};
 use std::sync::Wait;
@@ -42,71 +40,6 @@ pub fn next_request<R: Wait, C: WriteCalls + ReadCalls>(
     ensures session { OnOk result (session.new ≡ asking session.old.limit session.old.database) }
     ensures limit { cutter.new.limit ≡ cutter.old.limit }
 {
-    if !cutter.pending().is_empty() {
-        return gather(rt, session, client, cutter);
-    }
-    match read_first(session, client, cutter) {
-        Some(asked) => asked,
-        None => gather(rt, session, client, cutter),
-    }
-}
-
-// Reads the client once, of which nothing is pending. It returns what to do where one whole request
-// came, or nothing more comes.
-#[inline(always)]
-fn read_first<C: WriteCalls + ReadCalls>(
-    session: &mut Client,
-    client: &mut C,
-    cutter: &mut Cutter,
-) -> Option<Result<Request, Reply>>
-    requires session { session.old
-        ≡ gathering session.old.limit session.old.leased session.old.database [] }
-    requires limit { cutter.old.limit ≡ session.old.limit }
-    requires none { cutter.old.bytes ≡ [] }
-    ensures asks { IfSome result (λ asked. SomeCalls C.wrote C.gave client.old client.new
-        (λ calls. AsksNext session.old.limit cutter.old.bytes calls asked cutter.new.bytes)) }
-    ensures more { result ≡ None → SomeCalls C.wrote C.gave client.old client.new
-        (λ calls. (bytes : List ℕ) × Read bytes calls × (cutter.new ≡ with_piece cutter.old bytes)) }
-    ensures session { IfSome result (λ asked.
-        OnOk asked (session.new ≡ asking session.old.limit session.old.database)) }
-    ensures same { result ≡ None → session.new ≡ session.old }
-    ensures limit { cutter.new.limit ≡ cutter.old.limit }
-{
-    let mut room = match session.take_room() {
-        Ok(room) => room,
-        Err(_) => return Some(Err(Reply::nothing())),
-    };
-    let count = read_into(client, &mut room);
-    if count == 0 {
-        return Some(Err(Reply::nothing()));
-    }
-    if is_request(session.limit(), room.as_slice().split_at(count).0) {
-        return Some(Ok(session.ask(room, count)));
-    }
-    let appended = cutter.append(room.as_slice().split_at(count).0);
-    session.keep_room(room, count);
-    match appended {
-        Ok(()) => None,
-        Err(_) => Some(Err(Reply::nothing())),
-    }
-}
-
-// Cuts the client's next request from what was read, and reads more until it is whole.
-#[inline(never)]
-fn gather<R: Wait, C: WriteCalls + ReadCalls>(
-    rt: &R,
-    session: &mut Client,
-    client: &mut C,
-    cutter: &mut Cutter,
-) -> Result<Request, Reply>
-    requires session { session.old
-        ≡ gathering session.old.limit session.old.leased session.old.database [] }
-    requires limit { cutter.old.limit ≡ session.old.limit }
-    ensures asks { SomeCalls C.wrote C.gave client.old client.new
-        (λ calls. AsksNext session.old.limit cutter.old.bytes calls result cutter.new.bytes) }
-    ensures session { OnOk result (session.new ≡ asking session.old.limit session.old.database) }
-    ensures limit { cutter.new.limit ≡ cutter.old.limit }
-{
     for _ in rt.forever() {
         match cut_request(session, cutter) {
             Found::Request(request) => return Ok(request),
@@ -120,7 +53,8 @@ fn gather<R: Wait, C: WriteCalls + ReadCalls>(
     unreachable!()
 }
 
-// Cuts a request from what was read of the client.
+// Cuts a request from what was read of the client. One that is all of it stays where it was read.
+#[inline]
 fn cut_request(session: &mut Client, cutter: &mut Cutter) -> Found
     requires session { session.old ≡ gathering session.old.limit session.old.leased
         session.old.database session.old.gathered }
@@ -129,6 +63,14 @@ fn cut_request(session: &mut Client, cutter: &mut Cutter) -> Found
         cutter.new.bytes }
     ensures limit { cutter.new.limit ≡ cutter.old.limit }
 {
+    let len = cutter.pending().len();
+    if len == 0 {
+        return Found::More;
+    }
+    if session.is_request(cutter.pending()) {
+        let memory = cutter.take_memory();
+        return Found::Request(session.ask(memory, len));
+    }
     loop {
         let Ok(found) = cutter.next() else {
             return Found::End(Reply::nothing());
@@ -148,7 +90,7 @@ fn cut_request(session: &mut Client, cutter: &mut Cutter) -> Found
 }
 
 // Reads more of the client. It returns what is to be written as the session ends, if it does.
-#[inline(never)]
+#[inline]
 fn read_more<C: WriteCalls + ReadCalls>(
     session: &mut Client,
     client: &mut C,
@@ -165,19 +107,13 @@ fn read_more<C: WriteCalls + ReadCalls>(
     if let Some(error) = cutter.fault() {
         return Some(refusal(session, error));
     }
-    let mut room = session.large_room();
-    if room.is_empty() {
+    let Ok(count) = cutter.read_from(client) else {
         return Some(Reply::nothing());
-    }
-    let count = read_into(client, &mut room);
+    };
     if count == 0 {
         return Some(Reply::nothing());
     }
-    let appended = cutter.append(room.as_slice().split_at(count).0);
-    match appended {
-        Ok(()) => None,
-        Err(_) => Some(Reply::nothing()),
-    }
+    None
 }
 
 // What is written to a client whose bytes can't be taken.

@@ -5,9 +5,8 @@ ghost use Rattle.session_io.specs.Progress.{asking, LeavesBehind};
 ghost use Rattle.session_io.specs.Stay.{Stay};
 
 use crate::session::channel::Channel;
-use crate::session::replies::lost;
+use crate::session::replies::{lost, pass_reply};
 use crate::session::requests::next_request;
-use crate::session::whole::pass_reply;
 use crate::{Link, Stayed};
 use client_state::{Client, Request};
 use peer_forward::{ReadCalls, WriteCalls, write_whole};
@@ -70,7 +69,7 @@ fn stay_on<R: Wait, C: WriteCalls + ReadCalls, L: WriteCalls + ReadCalls>(
         if !write_whole(&mut link.stream, request.as_slice()) {
             return Stayed::End(lost(session));
         }
-        session.recycle(request);
+        take_back(session, cutter, request);
         if let Some(stayed) = pass_reply(rt, session, client, link) {
             return stayed;
         }
@@ -80,4 +79,15 @@ fn stay_on<R: Wait, C: WriteCalls + ReadCalls, L: WriteCalls + ReadCalls>(
         }
     }
     unreachable!()
+}
+
+// Takes back a request that was written.
+#[inline]
+fn take_back(session: &mut Client, cutter: &mut Cutter, request: Request)
+    ensures session { session.new ≡ session.old }
+    ensures cutter { cutter.new ≡ cutter.old }
+{
+    if let Some(memory) = session.recycle(request) {
+        cutter.keep_memory(memory);
+    }
 }

@@ -2,10 +2,10 @@
 ghost use Rattle.std.specs.Io.{ReadsAtMost};
 
 use super::{ClientStream, Serves, Stage};
-use crate::first_packet::{Asks, FirstPacket, Next};
 use crate::poll::wait_readable;
-use crate::{Connection, Deadline, Machine, Unserved, UnservedEnd};
-use peer_forward::Requester;
+use crate::{Deadline, Machine, Unserved, UnservedEnd};
+use peer_forward::{Arrival, Asks, Requester};
+use startup::StartupError;
 use std::io;
 use std::io::{ErrorKind, Read};
 use telemetry::Event;
@@ -13,29 +13,33 @@ use telemetry::Event;
 impl<'a, M: Machine> ClientStream<'a, M> {
     // Reads the first packets. It isn't inlined, so that reads of the session take less stack.
     #[inline(never)]
-    pub(super) fn read_first(
-        &mut self,
-        packet: FirstPacket,
-        deadline: Deadline,
-        buffer: &mut [u8],
-    ) -> io::Result<usize>
+    pub(super) fn read_first(&mut self, deadline: Deadline, buffer: &mut [u8]) -> io::Result<usize>
         ensures bound { ReadsAtMost result buffer.new }
     {
         self.await_first(deadline)?;
-        let mut packet = packet;
-        match packet.next() {
-            Next::Peek => self.peek_last(buffer),
-            Next::Done => Err(io::Error::from(ErrorKind::ConnectionRefused)),
-            Next::Read(most) => {
-                let count = self.read_packet(buffer, most)?;
-                let bytes = buffer.get(..count).unwrap_or(&[]);
-                self.keep(packet, bytes);
-                packet.take(bytes);
-                self.stage = Stage::First(packet, deadline);
-                self.check(packet)?;
-                Ok(count)
-            }
+        let mut socket = self.connection.socket();
+        let read = socket.read(buffer);
+        match &read {
+            Ok(count @ 1..) => self.keep(buffer.get(..*count).unwrap_or(&[])),
+            _ => self.end_unserved(Unserved::Left),
         }
+        read
+    }
+
+    // Looks at the bytes that come next, and leaves them unread in the socket: if this process ends
+    // before they are taken, the connection is reset instead of closed cleanly.
+    #[inline(never)]
+    fn peek_first(&mut self, buffer: &mut [u8]) -> io::Result<usize>
+        ensures bound { ReadsAtMost result buffer.new }
+    {
+        if let Stage::First(deadline) = self.stage {
+            self.await_first(deadline)?;
+        }
+        let peeked = self.connection.socket().peek(buffer);
+        if !matches!(&peeked, Ok(1..)) {
+            self.end_unserved(Unserved::Left);
+        }
+        peeked
     }
 
     // Waits until more of the first packets can be read. Fails at their deadline.
@@ -54,50 +58,35 @@ impl<'a, M: Machine> ClientStream<'a, M> {
         Err(io::Error::from(ErrorKind::TimedOut))
     }
 
-    // Reads at most this many bytes.
-    fn read_packet(&mut self, buffer: &mut [u8], most: usize) -> io::Result<usize>
-        ensures bound { ReadsAtMost result buffer.new }
-    {
-        let read = read_up_to(self.connection, buffer, most);
-        if !matches!(&read, Ok(1..)) {
-            self.end_unserved(Unserved::Left);
-        }
-        read
-    }
-
-    // Keeps what was read of a start-up packet after its head, if the log needs it.
-    fn keep(&mut self, packet: FirstPacket, bytes: &[u8]) {
-        if packet.asks() == Asks::Session && self.context.log.has(Event::ParametersDropped) {
+    // Keeps what was read since the last answer, if the log needs it.
+    fn keep(&mut self, bytes: &[u8]) {
+        if self.context.log.has(Event::ParametersDropped) {
             let _ = self.packet.extend_from_slice(bytes);
         }
     }
 
-    // Begins the session once the StartupMessage was read. Fails if it isn't served, or if the
-    // connection was evicted.
-    fn check(&mut self, packet: FirstPacket) -> io::Result<()> {
-        if packet.asks() == Asks::Refused {
-            self.unserved = Some(Unserved::Refused);
+    // Begins a session, whose StartupMessage was read. Returns false if it isn't served.
+    fn admit_session(&mut self, asks: Asks) -> bool {
+        self.has_startup = true;
+        match self.decide(asks) {
+            Ok(()) => true,
+            Err(why) => {
+                self.end_unserved(why);
+                false
+            }
         }
-        if !packet.is_startup() {
-            return Ok(());
-        }
-        if self.context.serves == Serves::Cancels {
-            self.end_unserved(Unserved::Shortage);
-            return Err(io::Error::from(ErrorKind::ConnectionRefused));
-        }
-        if !self.activate() {
-            self.end_unserved(Unserved::Evicted);
-            return Err(io::Error::from(ErrorKind::ConnectionAborted));
-        }
-        self.stage = Stage::Session;
-        Ok(())
     }
 
-    // Makes the connection no longer pending. Returns false if it was evicted.
-    fn activate(&self) -> bool {
-        self.context
-            .limit
-            .activate(self.machine, self.context.pending)
+    // Begins to serve a cancel request. It is given up if the connection was evicted.
+    fn admit_cancel(&mut self) -> bool {
+        self.stage = Stage::Session;
+        self.is_answered = true;
+        self.cancel_received = self.machine.monotonic().ok();
+        let is_admitted = self.decide(Asks::Cancel).is_ok();
+        if !is_admitted {
+            self.give_up();
+        }
+        is_admitted
     }
 
     // Records that the first packets aren't served for this reason, unless the connection was evicted
@@ -119,11 +108,7 @@ impl<'a, M: Machine> ClientStream<'a, M> {
     /// or the group drains.
     #[inline(never)]
     pub fn dismiss(&self, why: Unserved) {
-        let has_startup = match &self.stage {
-            Stage::First(packet, _) => packet.is_startup(),
-            Stage::Cancel | Stage::Session => false,
-        };
-        let end = UnservedEnd::of(why, has_startup);
+        let end = UnservedEnd::of(why, self.has_startup);
         let error = end.error(self.alloc);
         // The client's address is known only until the connection is reset.
         if let Some(reason) = why.reason() {
@@ -134,46 +119,59 @@ impl<'a, M: Machine> ClientStream<'a, M> {
         }
         end.apply(self.connection.socket(), error);
     }
+}
 
-    // Returns the last byte of a cancel request, and leaves it unread in the socket: if this process
-    // ends before the request is settled, its sender's connection is reset instead of closed
-    // cleanly.
-    #[inline(never)]
-    fn peek_last(&mut self, buffer: &mut [u8]) -> io::Result<usize>
-        ensures bound { ReadsAtMost result buffer.new }
-    {
-        let Some(last) = buffer.get_mut(..1) else {
-            return Ok(0);
-        };
-        let peeked = self.connection.socket().peek(last);
-        if matches!(&peeked, Ok(1..)) {
-            self.stage = Stage::Cancel;
-            self.cancel_received = self.machine.monotonic().ok();
-            self.activate_cancel()?;
-        } else {
-            self.end_unserved(Unserved::Left);
+impl<'a, M: Machine> Arrival for ClientStream<'a, M> {
+    ghost use Rattle.std.specs.Prelude.{⊤};
+
+    ghost admitted = { λ _ _ _ _. ⊤ };
+
+    ghost refused = { λ _ _ _ _. ⊤ };
+
+    fn admits(&mut self, asks: Asks) -> bool {
+        match asks {
+            Asks::Session | Asks::Console => self.admit_session(asks),
+            Asks::Cancel => self.admit_cancel(),
         }
-        peeked
     }
 
-    // Makes the connection no longer pending. Its cancel request is given up if it was evicted.
-    fn activate_cancel(&mut self) -> io::Result<()> {
-        if self.activate() {
-            return Ok(());
+    fn refuse(&mut self, error: StartupError) -> bool {
+        match error {
+            // A whole StartupMessage was read: without a place its client isn't told what is wrong.
+            StartupError::BadText | StartupError::NoUser => self.admit_session(Asks::Session),
+            // The read that found the end has noted why, and without memory there was no place.
+            StartupError::Truncated | StartupError::Memory | StartupError::Repeated => true,
+            StartupError::TooShort
+            | StartupError::TooLong
+            | StartupError::BadVersion
+            | StartupError::BadCancelLength => {
+                self.unserved = Some(Unserved::Refused);
+                true
+            }
         }
-        self.give_up();
-        Err(io::Error::from(ErrorKind::ConnectionAborted))
     }
 }
 
-// Reads at most this many bytes of a connection.
-fn read_up_to(connection: &Connection, buffer: &mut [u8], most: usize) -> io::Result<usize>
-    ensures bound { ReadsAtMost result buffer.new }
-{
-    let room = buffer.len().min(most);
-    let Some(room) = buffer.get_mut(..room) else {
-        return Ok(0);
-    };
-    let mut socket = connection.socket();
-    socket.read(room)
+impl<'a, M: Machine> Requester for ClientStream<'a, M> {
+    ghost use Rattle.std.specs.Prelude.{◌≡◌, ⊤, true};
+
+    ghost saw = { λ _ _ _ _. ⊤ };
+
+    ghost takes = { λ _ _. ⊤ };
+
+    // `end` resets it then.
+    ghost resets = { λ _ new. new.is_given_up ≡ true };
+
+    fn peek_once(&mut self, buffer: &mut [u8]) -> io::Result<usize> {
+        self.peek_first(buffer)
+    }
+
+    fn take_seen(&mut self) {
+        let mut socket = self.connection.socket();
+        let _ = socket.read(&mut [0]);
+    }
+
+    fn give_up(&mut self) {
+        self.is_given_up = true;
+    }
 }

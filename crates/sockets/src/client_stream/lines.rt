@@ -2,32 +2,40 @@
 use super::ClientStream;
 use crate::Machine;
 use crate::dropped::put_dropped;
-use crate::login_answer::{HEAD, field_of};
+use startup::error_field;
 use telemetry::{Event, Field, Value};
+
+// How many bytes a packet's length and code take (PostgreSQL manual, "Message Formats").
+const HEADER: usize = 8;
+
+// The length of a message's type byte and length field (PostgreSQL manual, "Message Formats").
+const HEAD: usize = 5;
 
 impl<'a, M: Machine> ClientStream<'a, M> {
     // Examines the first bytes that are written to a client: its login reply, or the error with
     // which it is refused.
     #[inline(never)]
     pub(super) fn look_at_answer(&mut self, bytes: &[u8]) {
-        match (bytes.first(), self.holds_cancel()) {
-            (Some(b'R'), false) => {
+        match bytes.first() {
+            Some(b'R') => {
                 self.is_answered = true;
                 self.write_dropped();
                 self.packet = Vec::new(self.alloc);
             }
-            (Some(b'E'), false) => {
+            Some(b'E') => {
                 self.is_answered = true;
                 self.write_error(Event::ClientRefused, bytes);
             }
-            _ => {}
+            // The refusal of encryption, behind which another packet begins.
+            _ => self.packet = Vec::new(self.alloc),
         }
     }
 
     // Logs the parameters of the start-up packet that have no effect, if there are any.
     fn write_dropped(&self) {
         let mut names = Vec::new(self.alloc);
-        if put_dropped(self.packet.as_slice(), &mut names).is_ok() && !names.is_empty() {
+        let body = self.packet.get(HEADER..).unwrap_or(&[]);
+        if put_dropped(body, &mut names).is_ok() && !names.is_empty() {
             self.write_names(names.as_slice());
         }
     }
@@ -45,8 +53,8 @@ impl<'a, M: Machine> ClientStream<'a, M> {
     pub(super) fn write_error(&self, event: Event, error: &[u8]) {
         let fields = [
             ("client", self.client()),
-            ("code", Value::Bytes(error_field(error, b'C'))),
-            ("message", Value::Bytes(error_field(error, b'M'))),
+            ("code", Value::Bytes(field_of(error, b'C'))),
+            ("message", Value::Bytes(field_of(error, b'M'))),
         ];
         self.write(event, &fields);
     }
@@ -61,8 +69,8 @@ impl<'a, M: Machine> ClientStream<'a, M> {
     pub(super) fn write_refused(&self, reason: &str, error: &[u8]) {
         let fields = [
             ("client", self.client()),
-            ("code", Value::Bytes(error_field(error, b'C'))),
-            ("message", Value::Bytes(error_field(error, b'M'))),
+            ("code", Value::Bytes(field_of(error, b'C'))),
+            ("message", Value::Bytes(field_of(error, b'M'))),
             ("reason", Value::Text(reason)),
         ];
         self.write(Event::ClientRefused, &fields);
@@ -81,6 +89,6 @@ impl<'a, M: Machine> ClientStream<'a, M> {
 }
 
 // Returns this field of an ErrorResponse.
-fn error_field(error: &[u8], kind: u8) -> &[u8] {
-    field_of(error.get(HEAD..).unwrap_or(&[]), kind).unwrap_or(&[])
+fn field_of(error: &[u8], kind: u8) -> &[u8] {
+    error_field(error.get(HEAD..).unwrap_or(&[]), kind).unwrap_or(&[])
 }

@@ -1,17 +1,18 @@
 //! The stream of a client's connection.
 ghost use Rattle.std.specs.Io.{ReadsAtMost};
 
+mod admitting;
 mod first;
 mod lines;
 mod session;
+mod writing;
 
 use crate::cancel_end::CancelEnd;
 use crate::connection_limit::ConnectionLimit;
 use crate::connections::PendingId;
 use crate::error_kind::with_error;
-use crate::first_packet::FirstPacket;
-use crate::{Connection, Deadline, Machine, Unserved};
-use peer_forward::Requester;
+use crate::{Connection, Consoles, Deadline, Machine, Unserved};
+use admitting::Counted;
 use std::alloc::Global;
 use std::io;
 use std::io::{Read, Write};
@@ -25,6 +26,8 @@ pub struct ConnectionContext<'a> {
     pub limit: &'a ConnectionLimit,
     /// Identifies it there.
     pub pending: PendingId,
+    /// The sessions on the console of the node that serves it.
+    pub consoles: &'a Consoles,
     /// Whether a session is served, or only a cancel request.
     pub serves: Serves,
     /// The deadline of its first packets.
@@ -36,8 +39,9 @@ pub struct ConnectionContext<'a> {
 }
 
 /// The stream of a client's connection. The first packets have a deadline. After that a read has no
-/// time limit, but it fails if the server closes the client's link, or if the group drains while the
-/// client is idle.
+/// time limit, but on the console that of its silence. It fails if the server closes the client's
+/// link, or if the group drains while the client is idle, or doesn't complete in time what it has
+/// begun. A write fails if the server closes the link while the client doesn't read.
 #[derive(Drop)]
 pub struct ClientStream<'a, M: Machine> {
     machine: &'a M,
@@ -45,14 +49,16 @@ pub struct ClientStream<'a, M: Machine> {
     connection: &'a Connection,
     context: ConnectionContext<'a>,
     stage: Stage,
-    // When the last byte of a cancel request was received.
+    // Whether a whole StartupMessage was read.
+    has_startup: bool,
+    // When its cancel request was received.
     cancel_received: Option<Duration>,
-    // The start-up packet after its code, as far as it was read, until it is answered. Only kept if
-    // the log has lines about parameters without effect.
+    // What was read of the first packets since the last answer. Only kept if the log has lines about
+    // parameters without effect.
     packet: Vec<u8>,
     // Why its first packets aren't served, if that is known.
     unserved: Option<Unserved>,
-    // Whether the client is logged in, or was refused.
+    // Whether the client is logged in, was refused, or has sent a cancel request.
     is_answered: bool,
     // Whether reads of the socket have a timeout.
     has_timeout: bool,
@@ -64,6 +70,14 @@ pub struct ClientStream<'a, M: Machine> {
     is_sending: bool,
     // Whether its cancel request got no order.
     is_given_up: bool,
+    // What its session counts as.
+    counted: Counted,
+    // When its link was looked at last.
+    looked: Option<Duration>,
+    // By when the client has to complete what it has begun, once the group drains.
+    drains_by: Option<Deadline>,
+    // Whether its session has ended.
+    is_ending: bool,
     // The error to write to the client once nothing is held for it any more.
     final_error: Option<Vec<u8>>,
 }
@@ -81,11 +95,11 @@ pub enum Serves {
 #[derive(Clone, Copy)]
 enum Stage {
     // Its first packets are read, with this deadline.
-    First(FirstPacket, Deadline),
-    // The last byte of its cancel request was returned, and is unread in the socket.
-    Cancel,
-    // Its session.
+    First(Deadline),
+    // Its session, or its cancel request, of which nothing more is read.
     Session,
+    // Its session on the console.
+    Console,
 }
 
 /// The last call of a client's stream.
@@ -112,7 +126,8 @@ impl<'a, M: Machine> ClientStream<'a, M> {
             alloc,
             connection,
             context,
-            stage: Stage::First(FirstPacket::new(), context.deadline),
+            stage: Stage::First(context.deadline),
+            has_startup: false,
             cancel_received: None,
             packet: Vec::new(alloc),
             unserved: None,
@@ -122,6 +137,10 @@ impl<'a, M: Machine> ClientStream<'a, M> {
             is_idle: false,
             is_sending: false,
             is_given_up: false,
+            counted: Counted::Nothing,
+            looked: None,
+            drains_by: None,
+            is_ending: false,
             final_error: None,
         }
     }
@@ -131,14 +150,14 @@ impl<'a, M: Machine> ClientStream<'a, M> {
         ensures bound { ReadsAtMost result buffer.new }
     {
         match self.stage {
-            Stage::First(packet, deadline) => self.read_first(packet, deadline, buffer),
-            Stage::Cancel => Ok(0),
+            Stage::First(deadline) => self.read_first(deadline, buffer),
             Stage::Session => self.read_session(buffer),
+            Stage::Console => self.read_console(buffer),
         }
     }
 
-    /// Returns why the connection isn't served, unless its first packets were complete, an error was
-    /// written, or a write failed.
+    /// Returns why the connection isn't served, unless what its first packets ask for was admitted, an
+    /// error was written, or a write failed.
     pub fn unserved(&self) -> Option<Unserved> {
         let is_first = matches!(self.stage, Stage::First(..));
         if !is_first || self.is_answered || self.last == LastCall::Failed {
@@ -146,11 +165,6 @@ impl<'a, M: Machine> ClientStream<'a, M> {
         }
         // If the stream doesn't know why, there was no memory for the first packets.
         Some(self.unserved.unwrap_or(Unserved::Shortage))
-    }
-
-    /// Returns whether the last byte of a cancel request is unread.
-    pub fn holds_cancel(&self) -> bool {
-        matches!(self.stage, Stage::Cancel)
     }
 
     /// Returns how the client's cancel request has ended, and after how many milliseconds, if it sent
@@ -167,11 +181,6 @@ impl<'a, M: Machine> ClientStream<'a, M> {
         Some((end, u64::try_from(millis).unwrap_or(u64::MAX)))
     }
 
-    /// Returns whether its cancel request got no order, so that the connection is reset.
-    pub fn is_given_up(&self) -> bool {
-        self.is_given_up
-    }
-
     /// Returns whether the last read filled its buffer, so that more may follow.
     pub fn is_sending(&self) -> bool {
         self.is_sending
@@ -182,9 +191,16 @@ impl<'a, M: Machine> ClientStream<'a, M> {
         self.last
     }
 
-    /// Takes the error to write to the client once nothing is held for it any more.
+    /// Takes the error to write to the client once nothing is held for it any more. From then on a
+    /// write waits only as long as its socket does.
     pub fn take_final_error(&mut self) -> Option<Vec<u8>> {
+        self.is_ending = true;
         self.final_error.take()
+    }
+
+    /// Returns what identifies the connection at its limit.
+    pub fn pending(&self) -> PendingId {
+        self.context.pending
     }
 }
 
@@ -209,17 +225,6 @@ impl<'a, M: Machine> Read for ClientStream<'a, M> {
     }
 }
 
-impl<'a, M: Machine> Requester for ClientStream<'a, M> {
-    ghost use Rattle.std.specs.Prelude.{◌≡◌, true};
-
-    // `end` resets it then.
-    ghost resets = { λ _ new. new.is_given_up ≡ true };
-
-    fn give_up(&mut self) {
-        self.is_given_up = true;
-    }
-}
-
 impl<'a, M: Machine> Write for ClientStream<'a, M> {
     #[inline(always)]
     fn write(&mut self, bytes: &[u8]) -> io::Result<usize> {
@@ -228,15 +233,13 @@ impl<'a, M: Machine> Write for ClientStream<'a, M> {
         }
         let mut socket = self.connection.socket();
         match socket.write(bytes) {
-            Ok(count) => {
+            Ok(count) if count == bytes.len() => {
                 self.connection.meter().send(self.machine, count);
                 self.last = LastCall::Wrote;
                 Ok(count)
             }
-            Err(error) => {
-                self.last = LastCall::Failed;
-                with_error(Err(error.kind()))
-            }
+            Ok(count) => with_error(self.write_after_part(count, bytes)),
+            Err(error) => with_error(self.write_after_error(error.kind(), bytes)),
         }
     }
 

@@ -4,10 +4,10 @@ ghost use Rattle.std.specs.Io.{ReadsAtMost};
 use super::{ClientStream, Stage};
 use crate::error_kind::with_kind;
 use crate::final_error::{final_error, shutdown_error};
-use crate::limits::POLL_MILLIS;
+use crate::limits::{CONSOLE_MILLIS, DRAIN_MESSAGE_MILLIS, POLL_MILLIS};
 use crate::link_stream::is_pause;
-use crate::poll::{is_ended, wait_either};
-use crate::{DrainSignal, Machine};
+use crate::poll::{is_ended, wait_either, wait_readable};
+use crate::{Deadline, DrainSignal, Machine};
 use std::io;
 use std::io::{ErrorKind, Read};
 use std::os::fd::RawFd;
@@ -20,6 +20,9 @@ impl<'a, M: Machine> ClientStream<'a, M> {
         ensures bound { ReadsAtMost result buffer.new }
     {
         self.fail_if_draining()?;
+        if self.looked_at_long_ago() {
+            self.check_link()?;
+        }
         if !self.has_timeout && self.needs_timeout() {
             let pause = Duration::from_millis(POLL_MILLIS);
             self.connection.socket().set_read_timeout(Some(pause))?;
@@ -51,7 +54,19 @@ impl<'a, M: Machine> ClientStream<'a, M> {
     pub(super) fn is_ready(&self) -> bool {
         matches!(self.stage, Stage::Session)
             && (self.has_timeout || !self.needs_timeout())
-            && !self.has_to_end()
+            && !self.needs_care()
+    }
+
+    // Returns whether something has to be looked at before the socket is read: whether the client's
+    // link is open, if this isn't the first read of a request or of a part of one, since the client
+    // may never complete it; or whether the session has to end, if the group drains.
+    #[inline(always)]
+    fn needs_care(&self) -> bool {
+        if self.connection.link().is_some() {
+            !self.is_idle
+        } else {
+            self.context.limit.is_draining()
+        }
     }
 
     // Reads if `is_ready` is false.
@@ -62,7 +77,8 @@ impl<'a, M: Machine> ClientStream<'a, M> {
         let room = buffer.len();
         let read = self.read_stage(buffer);
         if let Ok(count) = &read {
-            self.is_sending = *count == room;
+            // A first packet is read with as much room as it needs.
+            self.is_sending = *count == room && matches!(self.stage, Stage::Session);
         }
         with_kind(read)
     }
@@ -106,11 +122,7 @@ impl<'a, M: Machine> ClientStream<'a, M> {
     // have no timeout any more.
     fn check_link_and_drain(&mut self) -> io::Result<()> {
         match self.connection.link() {
-            Some(link) if is_ended(link) => {
-                self.lose_link(link);
-                Err(io::Error::from(ErrorKind::ConnectionAborted))
-            }
-            Some(_) => Ok(()),
+            Some(_) => self.check_link(),
             None => match self.context.limit.drain_signal() {
                 Some(signal) => self.wait_for_client(signal),
                 None => {
@@ -118,6 +130,77 @@ impl<'a, M: Machine> ClientStream<'a, M> {
                     self.connection.socket().set_read_timeout(None)
                 }
             },
+        }
+    }
+
+    // Returns whether the client has a link that wasn't looked at for some time, and notes that it
+    // is looked at now.
+    fn looked_at_long_ago(&mut self) -> bool {
+        if self.connection.link().is_none() || self.is_idle {
+            return false;
+        }
+        let Ok(now) = self.machine.monotonic() else {
+            return true;
+        };
+        let pause = Duration::from_millis(POLL_MILLIS);
+        let is_recent = match self.looked {
+            Some(at) => now.saturating_sub(at) < pause,
+            None => false,
+        };
+        if !is_recent {
+            self.looked = Some(now);
+        }
+        !is_recent
+    }
+
+    // Fails if the server has closed the client's link, and keeps its final error.
+    fn check_link(&mut self) -> io::Result<()> {
+        match self.connection.link() {
+            Some(link) if is_ended(link) => {
+                self.lose_link(link);
+                Err(io::Error::from(ErrorKind::ConnectionAborted))
+            }
+            _ => Ok(()),
+        }
+    }
+
+    // Fails if the server has closed the client's link. Its final error isn't kept: the client has
+    // been written a part of a message.
+    pub(super) fn look_at_link(&self) -> Result<(), ErrorKind> {
+        match self.connection.link() {
+            Some(link) if is_ended(link) => Err(ErrorKind::ConnectionAborted),
+            _ => Ok(()),
+        }
+    }
+
+    // Reads the session of a console, which ends after a minute of silence.
+    #[inline(never)]
+    pub(super) fn read_console(&mut self, buffer: &mut [u8]) -> io::Result<usize>
+        ensures bound { ReadsAtMost result buffer.new }
+    {
+        let deadline = Deadline::after(self.machine, CONSOLE_MILLIS)?;
+        for _ in 0..u64::MAX {
+            self.fail_if_draining()?;
+            if self.awaits_input(deadline.left(self.machine)?) {
+                let mut socket = self.connection.socket();
+                let count = socket.read(buffer)?;
+                self.connection.meter().receive(count);
+                return Ok(count);
+            }
+        }
+        Err(io::Error::from(ErrorKind::TimedOut))
+    }
+
+    // Waits for input of the client for some time, at most for `left`, and not once the group
+    // begins to drain. Returns whether there is some.
+    fn awaits_input(&self, left: Duration) -> bool {
+        let client = self.connection.descriptor();
+        match self.context.limit.drain_signal() {
+            Some(signal) if !signal.is_sent() => {
+                wait_either(client, signal.descriptor(), Some(left));
+                wait_readable(client, Duration::ZERO)
+            }
+            _ => wait_readable(client, left.min(Duration::from_millis(POLL_MILLIS))),
         }
     }
 
@@ -135,12 +218,12 @@ impl<'a, M: Machine> ClientStream<'a, M> {
     // Waits for input of a client without a link. Fails if the group drains and the client is idle.
     fn wait_for_client(&mut self, signal: &DrainSignal) -> io::Result<()> {
         if !signal.is_sent() {
-            wait_either(self.connection.descriptor(), signal.descriptor());
+            wait_either(self.connection.descriptor(), signal.descriptor(), None);
         }
         self.fail_if_draining()
     }
 
-    // Fails if the group drains and the client is idle. Keeps the final error.
+    // Fails if the group drains, and the client is idle or takes too long. Keeps the final error.
     fn fail_if_draining(&mut self) -> io::Result<()> {
         if self.has_to_end() {
             self.keep_shutdown_error();
@@ -157,9 +240,23 @@ impl<'a, M: Machine> ClientStream<'a, M> {
     }
 
     // Returns whether the group drains, and the client is idle: it has no link and has sent nothing
-    // of a request.
-    #[inline(always)]
-    fn has_to_end(&self) -> bool {
-        self.is_idle && self.context.limit.is_draining() && self.connection.link().is_none()
+    // of a request. One that has begun a request has some seconds to complete it.
+    fn has_to_end(&mut self) -> bool {
+        if self.connection.link().is_some() || !self.context.limit.is_draining() {
+            return false;
+        }
+        self.is_idle || self.took_too_long()
+    }
+
+    // Returns whether the client hasn't completed in time what it had begun when the group began to
+    // drain.
+    fn took_too_long(&mut self) -> bool {
+        match self.drains_by {
+            Some(deadline) => deadline.left(self.machine).is_err(),
+            None => {
+                self.drains_by = Deadline::after(self.machine, DRAIN_MESSAGE_MILLIS).ok();
+                false
+            }
+        }
     }
 }

@@ -2,7 +2,8 @@
 use crate::tests::host::{ANY_PORT, TestHost};
 use crate::tests::log_lines::{expect_line, expect_no_line};
 use crate::{
-    Capacity, ClientStream, Connection, ConnectionContext, ConnectionLimit, Deadline, Serves,
+    Capacity, ClientStream, Connection, ConnectionContext, ConnectionLimit, Consoles, Deadline,
+    Serves,
 };
 use std::io::Write;
 use std::net::{TcpListener, TcpStream};
@@ -46,14 +47,17 @@ fn write_all<R: TestHost>(
     let capacity = Capacity {
         connections: 1,
         pending: 1,
+        kept: 0,
     };
     let limit = ConnectionLimit::new(rt.alloc(), capacity);
     let pending = limit
         .admit(rt, connection.descriptor())
         .ok_or("not admitted")?;
+    let consoles = Consoles::new();
     let context = ConnectionContext {
         limit: &limit,
         pending,
+        consoles: &consoles,
         serves: Serves::All,
         deadline: Deadline::after(rt, 1_000)?,
         log,

@@ -1,5 +1,5 @@
 //! Which connections are admitted, and which are evicted for them.
-use crate::{Capacity, Connections, PendingId};
+use crate::{Begun, Capacity, Connections, PendingId};
 use std::process::Abort;
 use std::time::Duration;
 
@@ -17,6 +17,7 @@ const fn capacity(connections: usize, pending: usize) -> Capacity {
     Capacity {
         connections,
         pending,
+        kept: 0,
     }
 }
 
@@ -83,4 +84,61 @@ fn evicted_connections_count_until_they_are_closed(rt: HostRuntime) {
     connections.closed();
     let admission = connections.admit(31, Duration::from_secs(3));
     assert!(&rt; admission.evicted.is_some() && admission.pending.is_some());
+}
+
+// Connections of which some are kept.
+const KEEPING: Capacity = Capacity {
+    connections: 4,
+    pending: 100,
+    kept: 2,
+};
+
+#[test]
+fn sessions_have_no_connection_that_is_kept(rt: HostRuntime) {
+    let mut connections = Connections::new(rt.alloc(), KEEPING);
+    for socket in 0..2 {
+        let pending = admit(&rt, &mut connections, socket, 1);
+        assert_eq!(&rt; connections.begin_session(pending), Begun::Begun);
+    }
+    // At the limit one is admitted that can't begin a session, and is pending.
+    let third = admit(&rt, &mut connections, 2, 2);
+    assert_eq!(&rt; connections.begin_session(third), Begun::Full);
+    assert_eq!(&rt; connections.pending_count(), 1);
+    assert!(&rt; connections.activate(third), "a cancel request is served");
+    let fourth = admit(&rt, &mut connections, 3, 3);
+    connections.end_session();
+    assert_eq!(&rt; connections.begin_session(fourth), Begun::Begun);
+    assert_eq!(&rt; connections.begin_session(fourth), Begun::Full);
+    connections.end_session();
+    assert_eq!(&rt; connections.begin_session(fourth), Begun::Gone);
+}
+
+#[test]
+fn those_that_were_told_their_last_error_are_evicted_first(rt: HostRuntime) {
+    let mut connections = Connections::new(rt.alloc(), capacity(3, 3));
+    let first = admit(&rt, &mut connections, 5, 1);
+    let _second = admit(&rt, &mut connections, 6, 2);
+    assert_eq!(&rt; connections.begin_session(first), Begun::Begun);
+    connections.end_session();
+    let lingering = connections.linger(5, Duration::from_secs(3));
+    assert_eq!(&rt; lingering.evicted, None);
+    admit(&rt, &mut connections, 7, 4);
+    let fourth = connections.admit(8, Duration::from_secs(5));
+    assert_eq!(&rt; fourth.evicted, Some(5));
+    let gone = lingering.pending.expect(&rt, "it may be evicted");
+    assert!(&rt; !connections.activate(gone));
+    let fifth = connections.admit(9, Duration::from_secs(6));
+    assert_eq!(&rt; fifth.evicted, Some(6));
+}
+
+#[test]
+fn as_many_linger_as_may_be_pending(rt: HostRuntime) {
+    let mut connections = Connections::new(rt.alloc(), capacity(10, 1));
+    let first = admit(&rt, &mut connections, 5, 1);
+    assert!(&rt; connections.activate(first));
+    let second = connections.linger(5, Duration::from_secs(2));
+    assert!(&rt; second.pending.is_some());
+    let third = connections.linger(6, Duration::from_secs(3));
+    assert_eq!(&rt; third.evicted, Some(5));
+    assert!(&rt; third.pending.is_some());
 }

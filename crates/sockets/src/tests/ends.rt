@@ -1,14 +1,15 @@
 //! The lines of the log about start-up parameters that have no effect, and how cancel requests
 //! end.
+use crate::tests::arriving::arrive;
 use crate::tests::host::{ANY_PORT, TestHost};
 use crate::tests::log_lines::{expect_line, expect_no_line};
 use crate::{
-    CancelEnd, Capacity, ClientStream, Connection, ConnectionContext, ConnectionLimit, Deadline,
-    Serves, Target,
+    CancelEnd, Capacity, ClientStream, Connection, ConnectionContext, ConnectionLimit, Consoles,
+    Deadline, Serves, Target,
 };
 use peer_forward::Requester;
 use pg_ids::DatabaseNo;
-use std::io::{Read, Write};
+use std::io::Write;
 use std::net::{TcpListener, TcpStream};
 use std::test::Fail;
 use telemetry::{Level, Log};
@@ -47,36 +48,36 @@ enum Answer<'a> {
     None,
 }
 
-// Reads the client's packet by this many reads at node 4, and answers it so. Returns how its cancel
-// request has ended, if it is one.
+// Reads the client's packet at node 4, and answers it so. Returns how its cancel request has ended,
+// if it is one.
 fn serve<R: TestHost>(
     rt: &R,
     connection: &Connection,
     log: &Log,
-    reads: usize,
+    packet: &[u8],
     answer: Answer<'_>,
 ) -> Result<Option<CancelEnd>, Fail> {
     let capacity = Capacity {
         connections: 1,
         pending: 1,
+        kept: 0,
     };
     let limit = ConnectionLimit::new(rt.alloc(), capacity);
     let pending = limit
         .admit(rt, connection.descriptor())
         .ok_or("not admitted")?;
+    let consoles = Consoles::new();
     let context = ConnectionContext {
         limit: &limit,
         pending,
+        consoles: &consoles,
         serves: Serves::All,
         deadline: Deadline::after(rt, 10_000)?,
         log,
         node: 4,
     };
     let mut client = ClientStream::new(rt, rt.alloc(), connection, context);
-    let mut buffer = [0; 64];
-    for _ in 0..reads {
-        let _count = client.read(&mut buffer)?;
-    }
+    assert!(rt; arrive(rt, &mut client, packet.len())?);
     match answer {
         Answer::Bytes([]) => {}
         Answer::Bytes(bytes) => client.write_all(bytes)?,
@@ -93,7 +94,13 @@ fn dropped_parameters_are_in_the_log(rt: HostRuntime) -> Result<(), Fail> {
     let listener = TcpListener::bind(&rt, ANY_PORT)?;
     let (connection, peer) = sent(&rt, &listener, STARTUP)?;
     let log = Log::new(rt.alloc(), Level::Notice);
-    serve(&rt, &connection, &log, 2, Answer::Bytes(AUTHENTICATED))?;
+    serve(
+        &rt,
+        &connection,
+        &log,
+        STARTUP,
+        Answer::Bytes(AUTHENTICATED),
+    )?;
     let port = peer.local_addr()?.port();
     let line = format!(in rt.alloc();
         "node=4 notice parameters_dropped client=127.0.0.1:{port} parameters=search_path,options"
@@ -108,7 +115,7 @@ fn a_refused_client_drops_nothing(rt: HostRuntime) -> Result<(), Fail> {
     let listener = TcpListener::bind(&rt, ANY_PORT)?;
     let (connection, _peer) = sent(&rt, &listener, STARTUP)?;
     let log = Log::new(rt.alloc(), Level::Notice);
-    serve(&rt, &connection, &log, 2, Answer::Bytes(REFUSED))?;
+    serve(&rt, &connection, &log, STARTUP, Answer::Bytes(REFUSED))?;
     let line = log.next(&rt).ok_or("no line")?;
     assert!(&rt; line.as_str().contains(" client_refused "));
     expect_no_line(&rt, &log)
@@ -127,7 +134,7 @@ fn expect_cancel_end<R: TestHost>(
         connection.set_target(target);
     }
     let log = Log::new(rt.alloc(), Level::Info);
-    let end = serve(rt, &connection, &log, 3, Answer::Bytes(answer))?;
+    let end = serve(rt, &connection, &log, CANCEL, Answer::Bytes(answer))?;
     assert_eq!(rt; end, Some(expected));
     Ok(())
 }
@@ -141,7 +148,7 @@ fn cancel_requests_end(rt: HostRuntime) -> Result<(), Fail> {
     let (session, _peer) = sent(&rt, &listener, STARTUP)?;
     let log = Log::new(rt.alloc(), Level::Info);
     assert_eq!(&rt;
-        serve(&rt, &session, &log, 2, Answer::Bytes(AUTHENTICATED))?,
+        serve(&rt, &session, &log, STARTUP, Answer::Bytes(AUTHENTICATED))?,
         None
     );
     Ok(())
@@ -153,7 +160,7 @@ fn a_cancel_request_is_given_up(rt: HostRuntime) -> Result<(), Fail> {
     let listener = TcpListener::bind(&rt, ANY_PORT)?;
     let (connection, _peer) = sent(&rt, &listener, CANCEL)?;
     let log = Log::new(rt.alloc(), Level::Info);
-    let end = serve(&rt, &connection, &log, 3, Answer::None)?;
+    let end = serve(&rt, &connection, &log, CANCEL, Answer::None)?;
     assert_eq!(&rt; end, Some(CancelEnd::NotServed));
     Ok(())
 }

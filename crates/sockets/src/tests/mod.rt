@@ -1,12 +1,11 @@
 //! Tests of connections by public names alone.
+mod arriving;
 mod client_lines;
 mod connections;
 mod descriptors;
 mod dropped;
 mod ends;
-mod final_error;
-mod first_packets;
+mod full;
 mod host;
 mod log_lines;
-mod login_answers;
 mod unserved;

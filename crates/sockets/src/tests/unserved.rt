@@ -1,10 +1,11 @@
 //! Connections that aren't served: each byte that their clients get, how they end, and the lines of
 //! the log.
+use crate::tests::arriving::arrive;
 use crate::tests::host::{ANY_PORT, TestHost};
 use crate::tests::log_lines::{expect_line, expect_no_line};
 use crate::{
-    Capacity, ClientStream, Connection, ConnectionContext, ConnectionLimit, Deadline, DrainSignal,
-    PendingId, Serves, UnservedEnd, end, refuse_accepted, wait_readable,
+    Capacity, ClientStream, Connection, ConnectionContext, ConnectionLimit, Consoles, Deadline,
+    DrainSignal, PendingId, Serves, UnservedEnd, end, refuse_accepted, wait_readable,
 };
 use std::io::{ErrorKind, Read, Write};
 use std::net::{Shutdown, TcpListener, TcpStream};
@@ -99,6 +100,7 @@ impl Pending {
         let capacity = Capacity {
             connections: 1,
             pending: 1,
+            kept: 0,
         };
         let limit = ConnectionLimit::with_drain(rt.alloc(), capacity, drain);
         let id = limit
@@ -129,22 +131,18 @@ impl Pending {
             id,
             log,
         } = self;
+        let consoles = Consoles::new();
         let context = ConnectionContext {
             limit: &limit,
             pending: id,
+            consoles: &consoles,
             serves,
             deadline: Deadline::after(rt, millis)?,
             log: &log,
             node: 4,
         };
         let mut client = ClientStream::new(rt, rt.alloc(), &connection, context);
-        let mut buffer = [0; 64];
-        for _ in 0..reads {
-            match client.read(&mut buffer) {
-                Ok(count) if count > 0 => {}
-                _ => break,
-            }
-        }
+        let _ = arrive(rt, &mut client, reads)?;
         end(rt, &connection, &mut client);
         drop(client);
         drop(connection);

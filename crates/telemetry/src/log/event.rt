@@ -35,6 +35,8 @@ pub enum Event {
     BootUnset,
     /// Logins don't report a parameter that drivers need.
     ReportMissing,
+    /// The process may open fewer descriptors than its settings need.
+    LimitLow,
     /// A client's start-up packet has parameters without effect.
     ParametersDropped,
     /// A cancel request has ended.
@@ -48,7 +50,7 @@ pub enum Event {
 }
 
 /// The number of kinds of events.
-pub const EVENTS: usize = 19;
+pub const EVENTS: usize = 20;
 
 /// The kinds of events.
 pub const KINDS: [Event; EVENTS] = [
@@ -71,6 +73,7 @@ pub const KINDS: [Event; EVENTS] = [
     Event::Stopped,
     Event::MessageTooLong,
     Event::ReportMissing,
+    Event::LimitLow,
 ];
 
 /// The importance of an event, in descending order.
@@ -110,7 +113,7 @@ impl Level {
 impl Event {
     /// Returns its position in `KINDS`.
     pub fn place(self) -> usize
-        ensures { result < 19 }
+        ensures { result < 20 }
     {
         match self {
             Event::Started => 0,
@@ -132,6 +135,7 @@ impl Event {
             Event::Stopped => 16,
             Event::MessageTooLong => 17,
             Event::ReportMissing => 18,
+            Event::LimitLow => 19,
         }
     }
 
@@ -157,6 +161,7 @@ impl Event {
             Event::Stopped => "stopped",
             Event::MessageTooLong => "message_too_long",
             Event::ReportMissing => "report_missing",
+            Event::LimitLow => "limit_low",
         }
     }
 

@@ -6,6 +6,7 @@ use std::alloc::{AllocError, Global};
 use std::io;
 use std::net::TcpStream;
 use std::time::Clock;
+use ucd_category::{GeneralCategory, GeneralCategoryGroup};
 
 /// A value of a line.
 #[derive(Clone, Copy)]
@@ -137,7 +138,7 @@ fn is_plain(value: &str) -> bool {
     !value.is_empty() && value.len() <= LONGEST_VALUE && !value.as_bytes().iter().any(is_quoted)
 }
 
-// Appends a character of a quoted text. Control characters are escaped.
+// Appends a character of a quoted text. One that isn't seen is escaped.
 fn put_character(text: &mut String, character: char) -> Result<(), AllocError> {
     match character {
         '"' | '\\' => {
@@ -147,10 +148,22 @@ fn put_character(text: &mut String, character: char) -> Result<(), AllocError> {
         '\n' => text.push_str("\\n"),
         '\r' => text.push_str("\\r"),
         '\t' => text.push_str("\\t"),
-        _ if character.is_control() => {
+        _ if is_unseen(character) => {
             let number = u32::from(character);
             write!(text, "\\u{{{number:x}}}")
         }
         _ => text.push(character),
     }
+}
+
+// Whether a character isn't seen, as a control character, or changes how others are: one that turns
+// the direction of a text, or that a terminal may take for the end of a line (Unicode's general
+// categories C, Zl and Zp).
+fn is_unseen(character: char) -> bool {
+    let category = GeneralCategory::for_char(character);
+    GeneralCategoryGroup::Other.contains(category)
+        || matches!(
+            category,
+            GeneralCategory::LineSeparator | GeneralCategory::ParagraphSeparator
+        )
 }

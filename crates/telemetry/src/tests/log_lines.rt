@@ -59,7 +59,7 @@ fn a_line_of_no_node(rt: HostRuntime) -> Result<(), Fail> {
 }
 
 // Values, and how they stand in a line. What isn't seen can't end a line or reach a terminal.
-const VALUES: [(&[u8], &str); 9] = [
+const VALUES: [(&[u8], &str); 14] = [
     (b"Europe/Berlin", "Europe/Berlin"),
     (b"", "\"\""),
     (b"a b", "\"a b\""),
@@ -69,6 +69,11 @@ const VALUES: [(&[u8], &str); 9] = [
     (b"\x1b[2J\x7f", "\"\\u{1b}[2J\\u{7f}\""),
     (b"caf\xc3\xa9\xc2\x9b", "\"caf\u{e9}\\u{9b}\""),
     (b"a\xffb", "\"a\u{fffd}b\""),
+    (b"a\xe2\x80\xaeb", "\"a\\u{202e}b\""),
+    (b"a\xe2\x80\xa8b", "\"a\\u{2028}b\""),
+    (b"a\xe2\x80\xa9b", "\"a\\u{2029}b\""),
+    (b"a\xe2\x80\x8bb", "\"a\\u{200b}b\""),
+    (b"e\xcc\x81", "\"e\u{301}\""),
 ];
 
 #[test]

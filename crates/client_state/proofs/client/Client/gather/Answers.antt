@@ -16,6 +16,4 @@ invariant_of-self c = (
     length-text c.args.frame.now,
   ),
   c.self.invariant.1,
-  c.self.invariant.2,
-  c.self.invariant.3,
 )

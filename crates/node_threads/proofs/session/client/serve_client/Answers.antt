@@ -7,8 +7,7 @@ pub returns-in_default : goal.returns-in_default
 returns-in_default g c = record {
   balanced = join_moves c.args.database c.args.secret c.args.kind _ _ _ _ _
       c.in_default.ensures.counted;
-  served = client_refused _ _ _ _ _ _ _ _ _ c.args.database c.args.secret c.args.kind c.join.result
-      c.args.cutter.now.bytes _ _ c.in_default.not-Ok c.join.ensures.counted c.refuse.ensures.said;
+  served = client_refused _ _ _ _ _ _ c.join.result c.args.cutter.now.bytes _ _ c.in_default.not-Ok c.join.ensures.counted c.refuse.ensures.said;
 }
 
 pub returns : goal.returns
@@ -18,8 +17,7 @@ returns g c = record {
       (moves_on a_pass a_pass nothing _ _ _
       (moves_beside a_pass nothing nothing _ _ c.serve_pass-end.ensures.balanced)
       c.leave.ensures.moves);
-  served = client_served _ _ _ _ _ _ _ _ _ _ c.args.database c.args.secret c.args.kind c.in-Ok.pass
-      c.serve_pass-end.result c.as_slice.result.now c.args.cutter.now.bytes _ _ _ _ _
+  served = client_served _ _ _ _ _ _ _ c.in-Ok.pass c.serve_pass-end.result c.as_slice.result.now c.args.cutter.now.bytes _ _ _ _ _
       c.write_whole.result
       c.in-Ok.ensures.counted c.serve_pass-end.ensures.stays c.leave.ensures.moves
       c.as_slice.ensures c.write_whole.ensures.whole c.write_whole.ensures.stopped;

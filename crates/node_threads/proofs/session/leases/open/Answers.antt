@@ -10,7 +10,7 @@ returns-in-Ok-clause-logged_in g c =
     of_lease _ _ _ _
     (λ lease at link key. (
       c.in-Ok.opened.key,
-      same_link _ _ _ _ _ c.in-Ok.opened.key lease.details.at c.details.result.at lease.stream
+      same_link _ c.in-Ok.opened.key lease.details.at c.details.result.at lease.stream
           c.in-Ok.opened.link (at ∙ sym is_permit) link c.in-Ok.ensures.logged_in,
       key,
     ))
@@ -19,17 +19,18 @@ returns-in-Ok-clause-logged_in g c =
 pub returns-in-Ok-clause-opened : goal.returns-in-Ok-clause-opened
 returns-in-Ok-clause-opened g c =
     opened_by _ _ c.args.permit c.put_up.result _ _
-    (is_login _ _ _ _ _ _ _ c.in-Ok.opened.key _
+    (is_login _ _ _ c.in-Ok.opened.key _
     (ap (λ (p : PermitRecord). p.at.database) c.details.ensures) c.in-Ok.ensures.logged_in)
     c.put_up.ensures.opened
 
-pub returns-in-Lost-clause-moves : goal.returns-in-Lost-clause-moves
-returns-in-Lost-clause-moves g c =
+pub returns-then-is_lost-clause-moves : goal.returns-then-is_lost-clause-moves
+returns-then-is_lost-clause-moves g c =
     up_failed_moves c.args.permit _ _ _ _ _ c.up_failed-reply.ensures.counted
 
-pub returns-in-Memory-clause-moves : goal.returns-in-Memory-clause-moves
-returns-in-Memory-clause-moves g c =
+pub returns-else-is_lost-clause-moves : goal.returns-else-is_lost-clause-moves
+returns-else-is_lost-clause-moves g c =
     up_failed_moves c.args.permit _ _ _ _ _ c.up_failed-reply.ensures.counted
 
-pub returns-in-Lost-clause-opened : goal.returns-in-Lost-clause-opened
-returns-in-Lost-clause-opened g c = inr (inr ((_, c.up_failed-reply.ensures.counted), refl))
+pub returns-then-is_lost-clause-opened : goal.returns-then-is_lost-clause-opened
+returns-then-is_lost-clause-opened g c =
+    inr (inr ((_, c.up_failed-reply.ensures.counted), refl))

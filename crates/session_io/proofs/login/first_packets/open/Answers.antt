@@ -1,76 +1,85 @@
-use Rattle.std.proofs.Common.{refl, false, Ok, Err, subst, ap, ◌∙◌, drop}
+use Rattle.std.proofs.Common.{false, Ok, Err, subst}
 use Rattle.startup.specs.FirstPacket.{Answers}
-use Rattle.session_io.proofs.OpeningLemmas.{underway_start, underway_wants, underway_read, underway_asked, refused_for, ends_refused, ends_lost, opens_over, opens_cancel, opens_session}
+use Rattle.startup.specs.Wanted.{Wants, LacksLast}
+use Rattle.startup.specs.declared.wanted.Wanted.TheVariants as wanted
+use Rattle.session_io.specs.Opening.{Arriving, Looks}
+use Rattle.session_io.proofs.OpeningLemmas.{underway_wants, underway_read, underway_asked, refused_for, ends_refused, opens_over, opens_looked, opens_session, no_cancel}
 use Rattle.session_io.proofs.login.first_packets.open.Goals as goal
 
-pub loop-init : goal.loop-init
-loop-init g c =
-    (c.requires, underway_start _ _ _ _ _ c.new-opening.ensures c.new-text.ensures.items, refl)
-
-pub returns-in-Err-clause-opens : goal.returns-in-Err-clause-opens
-returns-in-Err-clause-opens g c =
+pub returns-in-Err : goal.returns-in-Err
+returns-in-Err g c =
     let found = subst (λ text. Answers c.loop.opening text false (Err c.in-Err.error))
     c.as_slice.ensures c.in-Err.ensures.found in
-    opens_over _ _ _ _ _ c.loop.opening c.loop.text.items c.loop.cutter.bytes c.loop.invariant.1
-    (ends_refused _ _ _ _ c.loop.opening c.loop.text.items c.in-Err.error
-    (refused_for c.loop.opening c.loop.text.items false c.in-Err.error found)
-    c.refuse_first.ensures)
+    record {
+      opens = opens_over _ _ _ _ c.loop.opening c.loop.text.items c.loop.invariant
+          (ends_refused _ _ _ c.loop.opening c.loop.text.items c.in-Err.error
+          (refused_for c.loop.opening c.loop.text.items false c.in-Err.error found)
+          c.refuse_first.ensures);
+    }
 
-pub returns-in-Startup-clause-opens : goal.returns-in-Startup-clause-opens
-returns-in-Startup-clause-opens g c =
+pub returns-in-Startup : goal.returns-in-Startup
+returns-in-Startup g c =
     let found = subst (λ text. Answers c.loop.opening text false (Ok c.in-Ok.first))
     c.as_slice.ensures c.in-Ok.ensures.found in
     let answer = subst (λ first. Answers c.loop.opening c.loop.text.items false (Ok first))
     c.in-Startup.is found in
-    opens_session _ _ _ _ _ c.loop.opening c.loop.text.items c.split_at.result.1.now
-    c.begin.new.cutter.bytes c.in-Startup.kind c.in-Startup.user c.in-Startup.database
-    c.in-Startup.used
-    c.begin.result c.loop.invariant.1 answer
-    (c.split_at.ensures.back ∙ ap (drop c.in-Startup.used) c.as_slice-in-Startup.ensures)
-    c.begin.ensures.begins c.begin.ensures.same
+    record {
+      opens = opens_session _ _ _ c.loop.opening c.loop.text.items c.in-Startup.kind
+          c.in-Startup.user c.in-Startup.database c.in-Startup.used c.loop.invariant answer;
+    }
 
-pub returns-in-Cancel-clause-opens : goal.returns-in-Cancel-clause-opens
-returns-in-Cancel-clause-opens g c =
+pub unreachable-requires : goal.unreachable-requires
+unreachable-requires g c =
+    let means : Arriving g.row.C.Denot = record {
+      wrote = g.C.WriteCalls.wrote;
+      gave = g.C.ReadCalls.gave;
+      saw = g.C.Requester.saw;
+      refused = g.C.Arrival.refused;
+    } in
     let found = subst (λ text. Answers c.loop.opening text false (Ok c.in-Ok.first))
     c.as_slice.ensures c.in-Ok.ensures.found in
     let answer = subst (λ first. Answers c.loop.opening c.loop.text.items false (Ok first))
     c.in-Cancel.is found in
-    opens_cancel _ _ _ _ c.loop.opening c.loop.text.items c.loop.cutter.bytes c.in-Cancel.key
-    c.loop.invariant.1 answer
-
-pub returns-then-not-decline-clause-opens : goal.returns-then-not-decline-clause-opens
-returns-then-not-decline-clause-opens g c =
-    opens_over _ _ _ _ _ c.loop.opening c.loop.text.items c.loop.cutter.bytes c.loop.invariant.1
-    (ends_lost _ _ _ _ c.loop.opening c.loop.text.items
-    (c.decline.ensures.lost c.if-not-decline.true))
+    no_cancel means c.args.client.now c.loop.client c.loop.opening c.loop.text.items
+    c.in-Cancel.key c.loop.invariant answer
 
 pub loop-preserved-else-not-decline : goal.loop-preserved-else-not-decline
 loop-preserved-else-not-decline g c =
     let found = subst (λ text. Answers c.loop.opening text false (Ok c.in-Ok.first))
-    c.as_slice.ensures c.in-Ok.ensures.found in (
-      c.loop.invariant.0,
-      underway_asked _ _ _ _ _ c.loop.opening c.read.new.self c.loop.text.items
-          c.decline.new.text.items c.in-Ok.first c.loop.invariant.1 c.in-Ssl.is found
-          c.in-Ok.ensures.seen c.decline.ensures.text
-          (c.decline.ensures.declined c.if-not-decline.false),
-      c.loop.invariant.2,
-    )
-
-pub returns-then-not-read_more-clause-opens : goal.returns-then-not-read_more-clause-opens
-returns-then-not-read_more-clause-opens g c =
-    opens_over _ _ _ _ _ c.read.new.self c.loop.text.items c.loop.cutter.bytes
-    (underway_wants _ _ _ _ c.loop.opening c.read.new.self c.loop.text.items c.in-Ok.first
-    c.loop.invariant.1 c.in-More.is c.in-Ok.ensures.seen)
-    (c.read_more.ensures.over c.if-not-read_more.true)
+    c.as_slice.ensures c.in-Ok.ensures.found in
+    underway_asked _ _ _ _ c.loop.opening c.read.new.self c.loop.text.items
+    c.decline.new.text.items c.in-Ok.first c.loop.invariant c.in-Ssl.is found
+    c.in-Ok.ensures.seen c.decline.ensures.text
+    (c.decline.ensures.declined c.if-not-decline.false)
 
 pub loop-preserved : goal.loop-preserved
-loop-preserved g c = (
-  c.loop.invariant.0,
-  underway_read _ _ _ _ _ c.read.new.self c.read_more.new.opening c.loop.text.items
-      c.read_more.new.text.items
-      (underway_wants _ _ _ _ c.loop.opening c.read.new.self c.loop.text.items c.in-Ok.first
-      c.loop.invariant.1 c.in-More.is c.in-Ok.ensures.seen)
-      (c.read_more.ensures.seen c.if-not-read_more.false)
-      (c.read_more.ensures.more c.if-not-read_more.false),
-  c.loop.invariant.2,
-)
+loop-preserved g c =
+    let wants = subst (λ text. Wants text (wanted.Read c.in-Read.count)) c.as_slice-in-More.ensures
+    (subst (λ w. Wants c.as_slice-in-More.result.now w) c.in-Read.is c.after.ensures) in
+    underway_read _ _ _ _ c.read.new.self c.read_more.new.opening c.loop.text.items
+    c.read_more.new.text.items c.in-Read.count
+    (underway_wants _ _ _ c.loop.opening c.read.new.self c.loop.text.items c.in-Ok.first
+    c.loop.invariant c.in-More.is c.in-Ok.ensures.seen) wants
+    (c.read_more.ensures.seen c.if-not-read_more.false)
+    (c.read_more.ensures.more c.if-not-read_more.false)
+
+pub returns-in-Look : goal.returns-in-Look
+returns-in-Look g c =
+    let means : Arriving g.row.C.Denot = record {
+      wrote = g.C.WriteCalls.wrote;
+      gave = g.C.ReadCalls.gave;
+      saw = g.C.Requester.saw;
+      refused = g.C.Arrival.refused;
+    } in
+    let lacks = subst LacksLast c.as_slice-in-More.ensures
+    (subst (λ w. Wants c.as_slice-in-More.result.now w) c.in-Look.is c.after.ensures) in
+    let looks = subst
+    (λ text. Looks means c.read.new.self text c.loop.client c.look.result c.look.new.client)
+    c.as_slice-in-Look.ensures c.look.ensures.looks in
+    record {
+      opens = opens_looked means c.args.client.now c.loop.client c.look.new.client c.read.new.self
+          c.loop.text.items c.look.result
+          (underway_wants means c.args.client.now c.loop.client c.loop.opening c.read.new.self
+          c.loop.text.items c.in-Ok.first c.loop.invariant c.in-More.is c.in-Ok.ensures.seen)
+          lacks looks;
+    }

@@ -16,3 +16,14 @@ returns-in-Done-clause-takes c limit stream come =
     come)
     (subst (λ (m : Mark). Handed c.loop-piece.flow m new) (sym c.of-mark.ensures)
     (handed_piece c.loop-piece.flow new c.in-Some.piece hands))
+
+pub returns-in-Stopped-clause-takes : goal.returns-in-Stopped-clause-takes
+returns-in-Stopped-clause-takes c limit stream come =
+    let new = c.next.follows.lender-at-none in
+    let hands =
+    subst (λ (found : Option Piece). Hands c.loop-piece.flow found new) c.in-Some.is
+    c.next.follows.holds-at-none in
+    c.in-Stopped.ensures.takes limit stream c.loop-piece.flow (c.loop-piece.invariant.0 limit stream
+    come)
+    (subst (λ (m : Mark). Handed c.loop-piece.flow m new) (sym c.of-mark.ensures)
+    (handed_piece c.loop-piece.flow new c.in-Some.piece hands))

@@ -3,8 +3,8 @@ use Rattle.session_io.specs.Progress.{HandedOut}
 use Rattle.session_io.proofs.session.replies.hand_out.Given as goal
 
 -- what was handed out so far, and the session as it was
-abbrev pub invariant-loop-piece : goal.invariant-loop-piece
-invariant-loop-piece l = ((limit : ℕ) (stream written : List ℕ)
+abbrev pub invariant-loop-status : goal.invariant-loop-status
+invariant-loop-status l = ((limit : ℕ) (stream written : List ℕ)
     → HandedOut limit stream written l.fn.place l.fn.flow
     → HandedOut limit stream written l.place l.flow)
     × (l.session ≡ l.fn.session)
@@ -14,5 +14,5 @@ in_frame None = 0
 in_frame (Some left) = 1
 
 -- a head and a part take bytes, and a tail ends a frame
-abbrev pub decreases-loop-piece : goal.decreases-loop-piece
-decreases-loop-piece l = 2 * length l.flow.bytes + in_frame l.flow.left
+abbrev pub decreases-loop-status : goal.decreases-loop-status
+decreases-loop-status l = 2 * length l.flow.bytes + in_frame l.flow.left

@@ -39,10 +39,10 @@ returns-then-is_some-clause-ends g c =
       ),
     )
 
-pub returns-then-read_link-clause-more : goal.returns-then-read_link-clause-more
-returns-then-read_link-clause-more g c _ =
+pub returns-then-read_more-clause-more : goal.returns-then-read_more-clause-more
+returns-then-read_more-clause-more g c _ =
     let told = c.if-not-pass_on.ensures.told refl in
-    let read = c.if-read_link.ensures.more refl in (
+    let read = c.if-read_more.ensures.more refl in (
       read.0,
       read.1,
       (
@@ -61,8 +61,8 @@ returns-then-read_link-clause-more g c _ =
       ),
     )
 
-pub returns-then-read_link-clause-sound : goal.returns-then-read_link-clause-sound
-returns-then-read_link-clause-sound g c _ =
+pub returns-then-read_more-clause-sound : goal.returns-then-read_more-clause-sound
+returns-then-read_more-clause-sound g c _ =
     let has = subst (λ (p : Passage). HasFault p.limit (after p) c.fault.result)
     c.pass_on.ensures.flow
     c.fault.ensures in
@@ -73,7 +73,7 @@ returns-then-read_link-clause-sound g c _ =
 pub returns-in-Inside-clause-ends : goal.returns-in-Inside-clause-ends
 returns-in-Inside-clause-ends g c =
     let told = c.if-not-pass_on.ensures.told refl in
-    let read = c.if-read_link.ensures.none refl in (
+    let read = c.if-read_more.ensures.none refl in (
       _,
       read.1,
       (
@@ -89,7 +89,7 @@ returns-in-Inside-clause-ends g c =
 pub returns-in_default-clause-ends : goal.returns-in_default-clause-ends
 returns-in_default-clause-ends g c =
     let told = c.if-not-pass_on.ensures.told refl in
-    let read = c.if-read_link.ensures.none refl in
+    let read = c.if-read_more.ensures.none refl in
     let has = subst (λ (p : Passage). HasFault p.limit (after p) c.fault.result)
     c.pass_on.ensures.flow
     c.fault.ensures in (

@@ -1,8 +1,16 @@
-use Rattle.std.proofs.Common.{◌∙◌, ◌++◌, ℕ, Ok, sym, ap, subst}
+use Rattle.std.proofs.Common.{◌∙◌, ◌++◌, ◌<◌, ℕ, Ok, refl, sym, ap, subst, length, arith}
+use Rattle.pg_frames.proofs.TextLemmas.{no_frame-short}
 use Rattle.pg_frames.specs.FrameText.{text, BeginsNoFrame}
 use Rattle.session_io.specs.declared.session.requests.Found.TheVariants.{More, Request, End}
 use Rattle.session_io.proofs.FindingLemmas.{finds_more, finds_request, finds_end, gathered_on, some_text, asked_in, ended_in, frame_at}
 use Rattle.session_io.proofs.session.requests.cut_request.Goals as goal
+
+pub returns-then-len-eq0-clause-finds : goal.returns-then-len-eq0-clause-finds
+returns-then-len-eq0-clause-finds c =
+    let short : length c.args.cutter.now.bytes < 5 =
+    omega (arith, c.if-len-eq0.true, ap length c.pending-len.ensures) in
+    finds_more _ c.args.session.now c.args.cutter.now.bytes _ c.requires.session
+    (no_frame-short _ c.args.cutter.now.bytes short) refl
 
 pub returns-in_default-found-clause-finds : goal.returns-in_default-found-clause-finds
 returns-in_default-found-clause-finds c =

@@ -1,7 +1,8 @@
-use Rattle.std.proofs.Common.{refl, inl, inr, [], arith}
-use Rattle.session_io.proofs.CallLists.{Read-nothing, ReadToEnd-failed}
+use Rattle.std.proofs.Common.{◌≡◌, ◌∙◌, ℕ, List, refl, ap, inr, [], ◌∷◌, append-nil, arith}
+use Rattle.pg_frames.specs.Pending.{Pending, with_piece}
+use Rattle.session_io.proofs.CallLists.{Read-nothing, one_read, no_read, reads_nothing}
 use Rattle.session_io.proofs.FaultLemmas.{fault_here}
-use Rattle.session_io.proofs.AskingLemmas.{quits_faulty}
+use Rattle.session_io.proofs.AskingLemmas.{quits_faulty, quits_at_end}
 use Rattle.session_io.proofs.session.requests.read_more.Goals as goal
 
 pub returns-in-Some-clause-ends : goal.returns-in-Some-clause-ends
@@ -14,22 +15,32 @@ returns-in-Some-clause-ends g c = (
 
 pub returns-then-count-eq0-clause-ends : goal.returns-then-count-eq0-clause-ends
 returns-then-count-eq0-clause-ends g c =
-    let call = c.read_into-count.ensures.none c.if-count-eq0.true in (
-      _,
+    let call =
+    no_read g.C.WriteCalls.wrote g.C.ReadCalls.gave c.args.client.now c.read_from.new.stream
+    c.in-Ok.count (λ (piece : List ℕ). c.read_from.new.self ≡ with_piece c.args.cutter.now piece)
+    c.in-Ok.ensures.ok c.if-count-eq0.true in
+    let nothing = reads_nothing g.C.ReadCalls.gave c.args.client.now c.read_from.new.stream
+    c.in-Ok.count (λ (piece : List ℕ). c.read_from.new.self ≡ with_piece c.args.cutter.now piece)
+    c.in-Ok.ensures.ok c.if-count-eq0.true in (
+      call.0 ∷ [],
       call.1,
-      inr (inl (
-        ReadToEnd-failed call.0 call.2,
-        fault_here _ c.args.cutter.now.bytes _ c.requires.none c.in_default.ensures.stands,
-        refl,
-        c.nothing-then-count-eq0.ensures,
-      )),
+      quits_at_end _ c.args.cutter.now.bytes call.0 _ _ call.2
+          (fault_here _ c.args.cutter.now.bytes _ c.requires.none c.in_default.ensures.stands)
+          (ap (λ (p : Pending). p.bytes) nothing ∙ append-nil c.args.cutter.now.bytes)
+          c.nothing-then-count-eq0.ensures,
     )
 
-pub returns-clause-ends : goal.returns-clause-ends
-returns-clause-ends g c =
-    let call = c.read_into-count.ensures.some (omega (arith, c.if-count-eq0.false)) in
-    (_, call.1, inr (inr (_, call.2, c.nothing-in-Err.ensures)))
+pub returns-clause-more : goal.returns-clause-more
+returns-clause-more g c none =
+    let read =
+    one_read g.C.WriteCalls.wrote g.C.ReadCalls.gave c.args.client.now c.read_from.new.stream
+    c.in-Ok.count (λ (piece : List ℕ). c.read_from.new.self ≡ with_piece c.args.cutter.now piece)
+    c.in-Ok.ensures.ok (omega (arith, c.if-count-eq0.false)) in
+    (read.0 ∷ [], read.1, (read.2, read.3, read.4))
 
-pub returns-then-is_empty-clause-ends : goal.returns-then-is_empty-clause-ends
-returns-then-is_empty-clause-ends g c =
-    ([], refl, inr (inr ([], Read-nothing, c.nothing.ensures)))
+pub returns-in_default-read_from-clause-ends : goal.returns-in_default-read_from-clause-ends
+returns-in_default-read_from-clause-ends g c = (
+  [],
+  c.in_default-read_from.ensures.unread,
+  inr (inr ([], Read-nothing, c.nothing.ensures)),
+)
