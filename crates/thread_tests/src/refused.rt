@@ -73,13 +73,17 @@ const CARRIED: u32 = 2;
 // How long a request is.
 const REQUEST_LENGTH: usize = 16;
 
-// What a server sends: the login, and the answers to a client's requests, for each client.
+// What a server sends: the login, and the answers to a client's requests.
 const ANSWERS: &[&[u8]] = &[
-    LOGIN, GROUP_DONE, IDLE, BEGUN, OPEN, ROW, OPEN, COMMITTED, IDLE, GROUP_DONE, IDLE, BEGUN,
-    OPEN, ROW, OPEN, COMMITTED, IDLE, GROUP_DONE, IDLE, BEGUN, OPEN, ROW, OPEN, COMMITTED, IDLE,
+    LOGIN, GROUP_DONE, IDLE, BEGUN, OPEN, ROW, OPEN, COMMITTED, IDLE,
 ];
 
-// A server or a peer, which is read in these pieces to its end, and takes everything.
+// Where the answers to a client's requests begin.
+const FIRST_ANSWER: usize = 1;
+
+// A server or a peer, which is read in these pieces to its end, and takes everything. Each client's
+// first request is a group, so that a Parse begins the answers again: a client that is refused
+// memory between two requests leaves its server connection to the next one.
 #[derive(Drop)]
 pub(crate) struct Server {
     pieces: &'static [&'static [u8]],
@@ -111,6 +115,9 @@ impl Read for Server {
 impl Write for Server {
     fn write(&mut self, bytes: &[u8]) -> io::Result<usize> {
         self.taken = self.taken.saturating_add(bytes.len());
+        if bytes.first() == Some(&b'P') {
+            self.given = FIRST_ANSWER;
+        }
         Ok(bytes.len())
     }
 
