@@ -7,3 +7,6 @@ pub mod SettingLemmas
 pub mod OptionLemmas
 pub mod ReportLemmas
 pub mod ReadingLemmas
+pub mod UpdateLemmas
+pub mod ServerLemmas
+pub mod ClientLemmas

@@ -8,3 +8,5 @@ pub mod Options
 pub mod Asked
 pub mod Reported
 pub mod StoredReports
+pub mod Server
+pub mod Client

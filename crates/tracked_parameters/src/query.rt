@@ -54,8 +54,8 @@ fn settings_text(
     Ok(text)
 }
 
-// Puts the setting of the parameter at this place at the end, if it differs.
-fn push_difference(
+/// Puts the setting of the parameter at this place at the end, if it differs.
+pub(crate) fn push_difference(
     text: &mut Vec<u8>,
     names: &TrackedNames,
     wanted: &Values,
@@ -100,8 +100,8 @@ fn push_setting(text: &mut Vec<u8>, setting: Setting<'_>) -> Result<(), AllocErr
     text.extend_from_slice(b"'")
 }
 
-// The Query message with this text.
-fn query(alloc: Global, text: &[u8]) -> Result<Vec<u8>, AllocError>
+/// The Query message with this text.
+pub(crate) fn query(alloc: Global, text: &[u8]) -> Result<Vec<u8>, AllocError>
     ensures message { IfOk result (λ bytes. bytes.items ≡ query text.now) }
     ensures fits { OnOk result (5 + length text.now < 2 ^ 32) }
 {

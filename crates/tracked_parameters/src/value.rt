@@ -38,6 +38,13 @@ impl Value {
         Ok(())
     }
 
+    /// Of which nothing is known from then on.
+    pub fn forget(&mut self)
+        ensures { kept self.new ≡ None }
+    {
+        self.known = false;
+    }
+
     /// The value, if it is known.
     pub fn get(&self) -> Option<&[u8]>
         ensures { option_map (λ value. value.now) result ≡ kept self.now }

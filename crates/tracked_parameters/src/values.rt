@@ -1,10 +1,11 @@
 //! Values of the parameters that are tracked.
-ghost use Rattle.std.specs.Prelude.{◌≡◌, ◌<◌, ◌↔◌, ℕ, length, get_or, replicate, slice_set, Some, None, IfSome, IfOk, OnOk, OnErr, IsTrue};
+ghost use Rattle.std.specs.Prelude.{◌≡◌, ◌<◌, ◌↔◌, ℕ, length, get_or, replicate, slice_set, Some, None, IfSome, IfOk, IsOk, OnOk, OnErr, IsTrue};
 ghost use Rattle.std.specs.Option.{option_map};
 ghost use Rattle.startup.specs.StartupMessage.{HasNoZero};
 ghost use Rattle.tracked_parameters.specs.Values.{Fit, Agree, AreTexts, no_values, value_of, noted, adopted, adopted_one, adopted_first};
 ghost use Rattle.tracked_parameters.specs.Status.{told};
 ghost use Rattle.tracked_parameters.specs.Stored.{all_kept, kept, is_there};
+ghost use Rattle.tracked_parameters.specs.Client.{updated, updated_one, updated_first};
 
 use crate::names::TrackedNames;
 use crate::setting::Setting;
@@ -56,14 +57,66 @@ impl Values {
         self.set(place, setting.value)
     }
 
-    // Puts a value at a place.
-    fn set(&mut self, place: usize, value: &[u8]) -> Result<(), AllocError>
+    /// Puts a value at a place.
+    pub(crate) fn set(&mut self, place: usize, value: &[u8]) -> Result<(), AllocError>
         requires within { place < length self.old }
         requires text { HasNoZero value.now }
         ensures ok { OnOk result (self.new ≡ slice_set self.old place (Some value.now)) }
         ensures err { OnErr result (self.new ≡ self.old) }
     {
         self.values[place].set(value)
+    }
+
+    /// Nothing is known of the parameter at this place from then on.
+    pub(crate) fn forget(&mut self, place: usize)
+        requires { place < length self.old }
+        ensures { self.new ≡ slice_set self.old place None }
+    {
+        self.values[place].forget();
+    }
+
+    /// The same values once more.
+    pub(crate) fn copy(&self, alloc: Global) -> Result<Values, AllocError>
+        ensures { IfOk result (λ values. values ≡ self.now) }
+    {
+        let mut values = Values {
+            values: unknown(alloc, self.len())?,
+        };
+        values.update(self)?;
+        Ok(values)
+    }
+
+    /// Takes over the others, where they are known. Where nothing differs it takes no memory. An `Err`
+    /// leaves some taken over, and the rest as they were.
+    pub(crate) fn update(&mut self, others: &Values) -> Result<(), AllocError>
+        requires { length self.old ≡ length others.now }
+        ensures ok { OnOk result (self.new ≡ updated self.old others.now) }
+        ensures err { OnErr result ((count : ℕ)
+            × (self.new ≡ updated_first count self.old others.now)) }
+        ensures same { Agree others.now self.old → IsOk result }
+        ensures length { length self.new ≡ length self.old }
+    {
+        if agrees(others, self) {
+            return Ok(());
+        }
+        for place in 0..others.len() {
+            self.update_at(place, others)?;
+        }
+        Ok(())
+    }
+
+    // The same at one place. An `Err` changes nothing.
+    fn update_at(&mut self, place: usize, others: &Values) -> Result<(), AllocError>
+        requires within { place < length self.old }
+        requires same { length self.old ≡ length others.now }
+        ensures ok { OnOk result (self.new ≡ slice_set self.old place
+            (updated_one (get_or self.old place None) (get_or others.now place None))) }
+        ensures err { OnErr result (self.new ≡ self.old) }
+    {
+        let Some(value) = others.at(place) else {
+            return Ok(());
+        };
+        self.set(place, value)
     }
 
     /// The value of a parameter, if it is tracked and its value is known.
