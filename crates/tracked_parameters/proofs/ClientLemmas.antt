@@ -54,46 +54,7 @@ followed_has (own ∷ owns) (login ∷ logins) [] a b = absurd (omega arith)
 followed_has (own ∷ owns) (login ∷ logins) (None ∷ current) a b = (tt, followed_has owns logins current (omega arith) (omega arith))
 followed_has (own ∷ owns) (login ∷ logins) (Some there ∷ current) a b = (refl, followed_has owns logins current (omega arith) (omega arith))
 
-lent : (found : Option (Bor (List ℕ))) (value : Option (List ℕ)) → option_map (λ v. v.now) found ≡ value → is_some value ≡ is_some found
-lent None value is = ap is_some (sym is)
-lent (Some found) value is = ap is_some (sym is)
-
-nothing_set : (name text : List ℕ) (own login there : Option (List ℕ)) → is_some there ≡ false → text ≡ joined text (difference name (wanted_one own login there) there)
-nothing_set name text own login None none = refl
-nothing_set name text own login (Some there) none = absurd (true≢false none)
-
-is_login : (own login there : Option (List ℕ)) → is_some own ≡ false → is_some there ≡ true → wanted_one own login there ≡ login
-is_login own login None none some = absurd (false≢true some)
-is_login None login (Some there) none some = refl
-is_login (Some own) login (Some there) none some = absurd (true≢false none)
-
-is_own : (own login there : Option (List ℕ)) → is_some own ≡ true → is_some there ≡ true → wanted_one own login there ≡ own
-is_own own login None some there = absurd (false≢true there)
-is_own None login (Some there) some is = absurd (false≢true some)
-is_own (Some own) login (Some there) some is = refl
-
--- a parameter that the server doesn't report
-pub sets_nothing : (name text : List ℕ) (own login there : Option (List ℕ)) (found : Option (Bor (List ℕ))) → option_map (λ v. v.now) found ≡ there → is_some found ≡ false → text ≡ joined text (difference name (wanted_one own login there) there)
-sets_nothing name text own login there found is none = nothing_set name text own login there (lent found there is ∙ none)
-
-set_to : {E : Type 0} (result : Result Unit E) (name new old : List ℕ) (value wanted there : Option (List ℕ)) → wanted ≡ value → OnOk result (new ≡ joined old (difference name value there)) → OnOk result (new ≡ joined old (difference name wanted there))
-set_to (Err e) name new old value wanted there same made = tt
-set_to (Ok x) name new old value wanted there same made =
-    made ∙ sym (ap (λ (v : Option (List ℕ)). joined old (difference name v there)) same)
-
--- a parameter of which the client has no value
-pub sets_login : {E : Type 0} (result : Result Unit E) (name new old : List ℕ) (own login there : Option (List ℕ)) (mine found : Option (Bor (List ℕ))) → option_map (λ v. v.now) mine ≡ own → option_map (λ v. v.now) found ≡ there → is_some mine ≡ false → is_some found ≡ true
-    → OnOk result (new ≡ joined old (difference name login there)) → OnOk result (new ≡ joined old (difference name (wanted_one own login there) there))
-sets_login result name new old own login there mine found a b none some made =
-    set_to result name new old login _ there (is_login own login there (lent mine own a ∙ none) (lent found there b ∙ some)) made
-
--- a parameter of which the client has a value
-pub sets_own : {E : Type 0} (result : Result Unit E) (name new old : List ℕ) (own login there : Option (List ℕ)) (mine found : Option (Bor (List ℕ))) → option_map (λ v. v.now) mine ≡ own → option_map (λ v. v.now) found ≡ there → is_some mine ≡ true → is_some found ≡ true
-    → OnOk result (new ≡ joined old (difference name own there)) → OnOk result (new ≡ joined old (difference name (wanted_one own login there) there))
-sets_own result name new old own login there mine found a b is some made =
-    set_to result name new old own _ there (is_own own login there (lent mine own a ∙ is) (lent found there b ∙ some)) made
-
--- the same of a client that took over what is there
+-- the same of a client whose values are those that it took over
 pub follows : {E : Type 0} (result : Result Unit E) (new own login current there : List (Option (List ℕ))) → there ≡ current → length login ≡ length current → length own ≡ length current → OnOk result (new ≡ updated own there) → OnOk result (Agree (wanted_values new login current) current)
 follows (Err e) new own login current there is a b made = tt
 follows (Ok x) new own login current there is a b made =

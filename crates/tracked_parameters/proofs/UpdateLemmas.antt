@@ -65,9 +65,9 @@ update_unknown (None ∷ values) = ap (λ (vs : List (Option (List ℕ))). None 
 update_unknown (Some value ∷ values) = ap (λ (vs : List (Option (List ℕ))). Some value ∷ vs) (update_unknown values)
 
 -- a copy
-pub copied : (values from unknown new : List (Option (List ℕ))) (count : ℕ) → count ≡ length values → from ≡ unknown → unknown ≡ replicate count None → new ≡ updated from values → new ≡ values
-copied values from unknown new count is same none made =
-    made ∙ ap (λ (vs : List (Option (List ℕ))). updated vs values) (same ∙ none ∙ ap (λ (n : ℕ). replicate n None) is) ∙ update_unknown values
+pub copied : (values unknown new : List (Option (List ℕ))) (count : ℕ) → count ≡ length values → unknown ≡ replicate count None → new ≡ updated unknown values → new ≡ values
+copied values unknown new count is none made =
+    made ∙ ap (λ (vs : List (Option (List ℕ))). updated vs values) (none ∙ ap (λ (n : ℕ). replicate n None) is) ∙ update_unknown values
 
 -- a place at which nothing is taken over
 pub update_unreported : (values others : List (Option (List ℕ))) (place : ℕ) (there : Option (Bor (List ℕ))) → option_map (λ v. v.now) there ≡ get_or others place None → there ≡ None → values ≡ set values place (updated_one (get_or values place None) (get_or others place None))

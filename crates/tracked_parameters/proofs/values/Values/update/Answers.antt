@@ -1,7 +1,10 @@
 use Rattle.std.proofs.Common.{◌∙◌, arith}
 use Rattle.tracked_parameters.proofs.ValueLemmas.{length-set_at}
-use Rattle.tracked_parameters.proofs.UpdateLemmas.{update_step, update_all}
+use Rattle.tracked_parameters.proofs.UpdateLemmas.{update_step, update_all, update_none}
 use Rattle.tracked_parameters.proofs.values.Values.update.Goals as goal
+
+pub returns-then-agrees-clause-ok : goal.returns-then-agrees-clause-ok
+returns-then-agrees-clause-ok c = update_none c.args.self.now c.args.others.now c.requires (c.agrees.ensures.0 c.if-agrees.true)
 
 pub loop-place-preserved : goal.loop-place-preserved
 loop-place-preserved c = record {
