@@ -12,7 +12,8 @@ try {
     $connection->executeStatement('delete from written');
     $connection->executeStatement('insert into written (value) values (?)', ['a\\b']);
     $connection->transactional(fn($it) => $it->executeStatement('insert into written (value) values (?)', ["it's"]));
-    echo implode(' ', $connection->fetchFirstColumn('select value from written where value <> ? order by value', [''])), "\n";
+    $rows = $connection->fetchFirstColumn('select value from written where value <> ? order by value', ['']);
+    echo implode(' ', $rows), "\n";
 } catch (Throwable $error) {
     echo 'error ', preg_replace('/\s+/', ' ', $error->getMessage()), "\n";
 }

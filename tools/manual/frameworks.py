@@ -124,7 +124,8 @@ def rails(t):
         server.ask("delete from spans where name <> 'first'")
         came, opened = count_opened(server, lambda: by("by_rails.rb", at))
         written = server.ask("select name, encode(bytes, 'hex') from spans where name <> 'first'")
-        t.check(came == [span] * 3 + ["written"] and written == rows, name, f"{came}, {written}, {opened} server connections")
+        t.check(came == [span] * 3 + ["written"] and written == rows, name,
+                f"{came}, {written}, {opened} server connections")
 
     server = with_tables(t, {"TimeZone": "UTC"})
     plain = start(t, server)
@@ -162,6 +163,18 @@ def dates(t):
         t.check(came == [right] * 3, f"ALTER DATABASE, reported, {driver}", came)
 
 
+@part("quoting", needs="python3-psycopg2")
+def quoting(t):
+    """a backslash and bytes by psycopg2, without --report, and after the workaround"""
+    server = Postgres(t)
+    plain = start(t, server, words=())
+    for name, at, what, wanted in (("the server", server, "quoting", "a\\b 3"), ("without --report", plain, "quoting", "a\\\\b 8"),
+                                   ("after the workaround", plain, "workaround", "a\\b 3"),
+                                   ("with --report", start(t, server), "quoting", "a\\b 3")):
+        came = by("by_python.py", at, what)
+        t.check(came == [wanted], name, came)
+
+
 @part("doctrine", needs="php-doctrine-dbal")
 def doctrine(t):
     """Doctrine DBAL's drivers pdo_pgsql and pgsql"""
@@ -169,7 +182,8 @@ def doctrine(t):
     plain, unit = start(t, server, words=()), start(t, server)
     right, wrong = [("a\\b",), ("it's",)], [("a\\\\b",), ("it's",)]
     cases = ((server, "the server", ("pgsql",), right), (Bouncer(t, server), "PgBouncer", ("pgsql",), right),
-             (plain, "without --report", ("pdo_pgsql",), right), (plain, "without --report", ("pdo_pgsql", "emulate"), wrong),
+             (plain, "without --report", ("pdo_pgsql",), right),
+             (plain, "without --report", ("pdo_pgsql", "emulate"), wrong),
              (plain, "without --report", ("pgsql",), []), (unit, "with it", ("pdo_pgsql",), right),
              (unit, "with it", ("pdo_pgsql", "emulate"), right), (unit, "with it", ("pgsql",), []))
     for at, name, words, found in cases:
@@ -183,7 +197,8 @@ def doctrine(t):
 def powerdns(t):
     """PowerDNS with gpgsql, with and without prepared statements"""
     server = Postgres(t)
-    subprocess.run(["psql", "-Xq", "-h", "127.0.0.1", "-p", str(server.port), "-U", "app", "-f", SCHEMA, "shop"], check=True)
+    making = ["psql", "-Xq", "-h", "127.0.0.1", "-p", str(server.port), "-U", "app", "-f", SCHEMA, "shop"]
+    subprocess.run(making, check=True)
     for name, at in (("PgBouncer", Bouncer(t, server)), ("pgpeer", start(t, server))):
         for prepared in ("yes", "no"):
             server.ask("delete from domains")

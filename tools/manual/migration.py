@@ -21,32 +21,35 @@ def check(t):
     """what check --all reports of settings of PgBouncer, and the lists of addresses that it doesn't find"""
     path, port, front = f"{t.folder}/pgbouncer.ini", t.port(), t.port()
 
-    def reported(*words):
+    def check_file():
         with open(path, "w") as file:
             file.write("\n".join(["[databases]", *databases, "[pgbouncer]", *settings, "[peers]", ""]))
-        done = run(t.options.program, "check", "--all", path)
-        lines = [line.removeprefix(path + ":").split(":")[0] for line in done.stdout.split("\n") if line.startswith(path)]
-        return lines or [done.stdout.strip()]
+        return run(t.options.program, "check", "--all", path).stdout.strip()
 
-    databases = ["shop = host=127.0.0.1 port=5432 user=app pool_size=20", "crm-old = dbname=crm", "* = host=127.0.0.1"]
+    def lines_of(said):
+        return [line.removeprefix(path + ":").split(":")[0] for line in said.split("\n") if line.startswith(path)]
+
+    databases = ["shop = host=127.0.0.1 port=5432 user=app", "crm-old = dbname=crm", "* = host=127.0.0.1"]
     removed = ["auth_file = users.txt", "query_wait_timeout = 60", "server_reset_query = DISCARD ALL",
                "unix_socket_dir = /run/postgresql", "logfile = pgbouncer.log", "client_tls_sslmode = prefer",
                "%include more.ini"]
-    settings = ["listen_addr = *", "auth_type = md5", "pool_mode = session", *removed, f"listen_port = {port}", "peer_id = 1"]
-    found = reported()
+    others = [f"listen_port = {port}", "peer_id = 1"]
+    settings = ["listen_addr = *", "auth_type = md5", "pool_mode = session", *removed, *others]
+    found = lines_of(check_file())
     t.check(found == ["3", "4", *(str(line) for line in range(6, 16))], "the lines to change or remove", found)
     databases[1:] = ["crm_old = dbname=crm"]
-    settings = ["listen_addr = 127.0.0.1", "auth_type = trust", "pool_mode = transaction", *settings[-2:]]
-    found = reported()
+    settings = ["listen_addr = 127.0.0.1", "auth_type = trust", "pool_mode = transaction", *others]
+    found = lines_of(check_file())
     t.check(found == ["3"], "an error that appears when others are corrected", found)
 
     databases[1:] = []
-    for change, line in ((settings, "listen_addr = 127.0.0.1,::1"), (databases, "shop = host=127.0.0.1,127.0.0.2 port=5432 user=app")):
+    for change, line in ((settings, "listen_addr = 127.0.0.1,::1"),
+                         (databases, "shop = host=127.0.0.1,127.0.0.2 port=5432 user=app")):
         kept, change[0] = change[0], line
-        found = reported()
-        t.check(found == ["group of 1 nodes"], f"check: {line}", found)
-        serving = subprocess.Popen([t.options.program, "serve", "--front", str(front), "--seed", "0" * 64, path], text=True,
-                                   stdout=subprocess.PIPE, stderr=subprocess.STDOUT)
+        said = check_file()
+        t.check("group of 1 nodes" in said, f"check: {line}", said)
+        serving = subprocess.Popen([t.options.program, "serve", "--front", str(front), "--seed", "0" * 64, path],
+                                   text=True, stdout=subprocess.PIPE, stderr=subprocess.STDOUT)
         PROCESSES.append(serving)
         wait_until(lambda: serving.poll() is not None, 1)
         if change is settings:
@@ -69,8 +72,8 @@ def entries(t):
         t.check(came == ["postgres", "plain"], f"the roles of {user} at two entries", came)
         came = pooler.client(database="pgbouncer", user=user).query("show links")
         t.check(len(came) == 2, f"the console of {user}", f"{len(came)} server connections")
-    done = run("psql", "-X", "-h", "127.0.0.1", "-p", str(pooler.port), "-U", "ann", "-d", "admin", "-Atc", "show is_superuser",
-               env={**os.environ, "PGPASSWORD": "wrong"})
+    words = ["-X", "-h", "127.0.0.1", "-p", str(pooler.port), "-U", "ann", "-d", "admin", "-Atc", "show is_superuser"]
+    done = run("psql", *words, env={**os.environ, "PGPASSWORD": "wrong"})
     t.check(done.stdout == "on\n", "with a password: is_superuser", done.stdout.strip())
 
 

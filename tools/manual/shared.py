@@ -7,7 +7,7 @@ import subprocess
 import time
 
 from hard.trial import Pooler, Postgres, as_owner, bind_to_parent
-from hard.wire import Client, outcome, wait_until
+from hard.wire import Client, frame, outcome, wait_until
 
 HOME = os.path.realpath(os.path.join(os.path.dirname(__file__), "../.."))
 PARTS, PROCESSES = {}, []
@@ -141,7 +141,7 @@ def state(t):
         "PREPARE": ("prepare one as select 'prepared'", "execute one", "prepared"),
         "DECLARE WITH HOLD": ("declare c cursor with hold for select 'held'", "fetch c", "held"),
         "an advisory lock": ("select pg_advisory_lock(7)",
-                             "select count(*) from pg_locks where locktype = 'advisory' and pid = pg_backend_pid()", "1"),
+                             "select count(*) from pg_locks where locktype = 'advisory'", "1"),
     }
     for words, (leave, ask, found) in leaves.items():
         pooler = start(t, server, pool=1)
@@ -165,13 +165,31 @@ def state(t):
         pooler.stop()
 
 
+@part("unnamed")
+def unnamed(t):
+    """the unnamed statement, parsed in one request and bound in the next, while another client parses its own"""
+    server = Postgres(t)
+
+    def parse(client, text):
+        client.send(frame(b"P", b"\0" + text + b"\0\0\0") + frame(b"S"))
+        client.read_reply()
+
+    for name, at in (("pgpeer", start(t, server, pool=1)), ("PgBouncer", Bouncer(t, server, pool=1))):
+        one, other = at.client(), at.client()
+        parse(one, b"select 'mine'")
+        parse(other, b"select 'not mine'")
+        one.send(frame(b"B", bytes(8)) + frame(b"E", bytes(5)) + frame(b"S"))
+        came = one.read_reply()
+        t.check(came == [("not mine",)], f"{name}: the first client", came)
+
+
 @part("startup")
 def startup(t):
     """start-up parameters other than user and database are ignored, replication is refused"""
     server = Postgres(t)
     pooler, bouncer = start(t, server), Bouncer(t, server)
-    asked = {"application_name": "mine", "client_encoding": "LATIN1", "DateStyle": "SQL, DMY", "TimeZone": "Asia/Tokyo",
-             "search_path": "mine", "options": "-c statement_timeout=7s"}
+    asked = {"application_name": "mine", "client_encoding": "LATIN1", "DateStyle": "SQL, DMY",
+             "TimeZone": "Asia/Tokyo", "search_path": "mine", "options": "-c statement_timeout=7s"}
     shows = {**{name: name for name in asked if name != "options"}, "options": "statement_timeout"}
     for name, value in asked.items():
         plain = server.client().value(f"show {shows[name]}")
@@ -196,7 +214,8 @@ def encoding(t):
     came = outcome(lambda: pooler.client().value("select 1"))
     wait_until(lambda: pooler.log_lines("link_login_failed"), 2)
     t.check(came == LOST, "with a --report: a query", came)
-    t.check("reported=LATIN1" in pooler.log_lines("link_login_failed")[0], "the log", " ".join(pooler.log_lines("link_login_failed")[0]))
+    line = " ".join(pooler.log_lines("link_login_failed")[0])
+    t.check("reported=LATIN1" in line, "the log", line)
     came = outcome(lambda: start(t, server, words=()).client().value("select 1"))
     t.check(came == "ok:1", "without: a query", came)
 
@@ -258,7 +277,8 @@ def restore(t):
     dump = f"{t.folder}/dump"
     program = t.options.postgres
     words = ["-h", "127.0.0.1", "-U", "app"]
-    subprocess.run([f"{program}/pg_dump", *words, "-p", str(server.port), "--inserts", "-a", "-Fc", "-f", dump, "shop"], check=True)
+    dumping = [f"{program}/pg_dump", *words, "-p", str(server.port), "--inserts", "-a", "-Fc", "-f", dump, "shop"]
+    subprocess.run(dumping, check=True)
     for name, at in (("pgpeer", start(t, server, pool=1)), ("PgBouncer", Bouncer(t, server, pool=1))):
         other = at.client()
         before = outcome(other.value, "select count(*) from things")
