@@ -168,9 +168,11 @@ def quoting(t):
     """a backslash and bytes by psycopg2, without --report, and after the workaround"""
     server = Postgres(t)
     plain = start(t, server, words=())
-    for name, at, what, wanted in (("the server", server, "quoting", "a\\b 3"), ("without --report", plain, "quoting", "a\\\\b 8"),
-                                   ("after the workaround", plain, "workaround", "a\\b 3"),
-                                   ("with --report", start(t, server), "quoting", "a\\b 3")):
+    right, wrong = "a\\b 3", "a\\\\b 8"
+    for name, at, what, wanted in (("the server", server, "quoting", right),
+                                   ("without --report", plain, "quoting", wrong),
+                                   ("after the workaround", plain, "workaround", right),
+                                   ("with --report", start(t, server), "quoting", right)):
         came = by("by_python.py", at, what)
         t.check(came == [wanted], name, came)
 

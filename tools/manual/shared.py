@@ -242,7 +242,7 @@ def listen(t):
     server.ask("notify channel, 'one'")
     t.check(not listener.has_reply(1), "the listener", "gets nothing")
     other = pooler.client()
-    t.check(pid(other) != listener_pid, "after the notification another client's query", "has another server connection")
+    t.check(pid(other) != listener_pid, "after the notification another client", "has another server connection")
 
     listener.query("listen channel")
     before = pid(other)
@@ -294,6 +294,29 @@ def restore(t):
             at.start()
             again = outcome(lambda at=at: at.client().value("select count(*) from things"))
             t.check(again.startswith("ok"), "after a restart of pgpeer", again)
+
+
+@part("left")
+def left(t):
+    """clients that leave during a query: outside a transaction block it is committed, within one rolled back"""
+    for interval, kept in (("0", {"outside"}), ("100ms", set())):
+        server = Postgres(t, {"client_connection_check_interval": interval})
+        server.ask("create table written (name text)")
+        pooler = start(t, server)
+        for name in ("outside", "within"):
+            client = pooler.client()
+            if name == "within":
+                client.query("begin")
+            text = f"insert into written select '{name}' from pg_sleep(1)"
+            client.start(text)
+            wait_until(lambda text=text: server.is_running(text.replace("'", "''")), 5)
+            client.vanish()
+            gone = wait_until(lambda: not pooler.show("LINKS"), 2)
+            t.check(gone is not None, f"{name} a transaction block: its server connection is closed",
+                    f"after {gone:.1f} s")
+            wait_until(lambda text=text: not server.is_running(text.replace("'", "''")), 5)
+        found = {row[0] for row in server.ask("select name from written")}
+        t.check(found == kept, f"client_connection_check_interval {interval}: rows", found)
 
 
 @part("leftovers")
