@@ -9,7 +9,7 @@ import time
 
 import django
 from django.conf import settings
-from django.db import close_old_connections, connection, models
+from django.db import connection, models
 
 port, what, count, *more = sys.argv[1:]
 settings.configure(USE_TZ=True, TIME_ZONE="UTC", DATABASES={"default": {
