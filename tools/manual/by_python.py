@@ -9,7 +9,7 @@ port, what = sys.argv[1:]
 if what == "psqlodbc":
     import pyodbc
 
-    where = f"DRIVER={{PostgreSQL Unicode}};SERVER=127.0.0.1;PORT={port};DATABASE=shop;UID=app;UseServerSidePrepare=0"
+    where = f"DRIVER={{psqlodbc}};SERVER=127.0.0.1;PORT={port};DATABASE=shop;UID=app;UseServerSidePrepare=0"
 else:
     import psycopg2
 

@@ -1,5 +1,6 @@
 """What the manual says of drivers and applications."""
 import collections
+import glob
 import os
 import shlex
 import socket
@@ -147,6 +148,10 @@ def rails(t):
 @part("dates", needs="odbc-postgresql")
 def dates(t):
     """psqlodbc and psycopg2 where the server's DateStyle isn't ISO"""
+    # Debian's settings have it write a log to /tmp.
+    with open(f"{t.folder}/odbcinst.ini", "w") as file:
+        file.write(f"[psqlodbc]\nDriver = {glob.glob('/usr/lib/*/odbc/psqlodbcw.so')[0]}\nCommLog = 0\n")
+    os.environ["ODBCSYSINI"] = t.folder
     right = "2024-06-30T12:00:00"
     wrong = {"psqlodbc": time.strftime("%Y-%m-%dT00:00:00"), "psycopg2": "error unable to parse date"}
     server = with_tables(t, {"DateStyle": "SQL, DMY", "TimeZone": "UTC"})
