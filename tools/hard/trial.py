@@ -191,7 +191,8 @@ def write_settings(number, port, databases, peers, pool, clients):
     lines = ["[pgbouncer]", "pool_mode = transaction", "auth_type = trust", "listen_addr = 127.0.0.1",
              f"listen_port = {port}", f"peer_id = {number}", f"default_pool_size = {pool}",
              f"max_client_conn = {clients}", "[databases]"]
-    lines += [f"{name} = host=127.0.0.1 port={at} user=app dbname=shop" for name, at in databases.items()]
+    for name, at in databases.items():
+        lines.append(f"{name} = " + (at if isinstance(at, str) else f"host=127.0.0.1 port={at} user=app dbname=shop"))
     lines += ["[peers]"]
     lines += [f"{peer} = host=127.0.0.1 port={at}" for peer, at in peers.items() if peer != number]
     return "\n".join(lines) + "\n"
@@ -200,6 +201,7 @@ def write_settings(number, port, databases, peers, pool, clients):
 class Pooler:
     """A process of pgpeer, with one node or more.
 
+    `databases` are the servers' ports by the names of the entries, or the whole text of an entry.
     `ports` are those of its nodes by their numbers, `peers` those of nodes elsewhere. `limits` are
     limits of the process by their names (`NOFILE`, ..), `closed` are descriptors that it doesn't get,
     `stdin` is its standard input, `words` are more arguments of `serve`. With `boot` 0 it gets no boot

@@ -37,8 +37,9 @@ def query_frame(text):
     return frame(b"Q", text.encode() + b"\0")
 
 
-def startup(database, user="ann", code=STARTUP):
-    body = struct.pack("!I", code) + f"user\0{user}\0database\0{database}\0\0".encode()
+def startup(database, user="ann", code=STARTUP, parameters=()):
+    words = ["user", user, "database", database, *(word for pair in parameters for word in pair), "", ""]
+    body = struct.pack("!I", code) + "\0".join(words).encode()
     return struct.pack("!I", 4 + len(body)) + body
 
 
@@ -128,14 +129,15 @@ class Reader:
 
 
 class Client:
-    """A client that is logged in. `asides` are the kinds of messages that no query of it asked for."""
+    """A client that is logged in, with further start-up parameters in pairs. `asides` are the kinds of
+    messages that no query of it asked for."""
 
-    def __init__(self, port, database="shop", user="ann", code=STARTUP, timeout=10.0):
+    def __init__(self, port, database="shop", user="ann", code=STARTUP, timeout=10.0, parameters=()):
         self.port, self.key, self.status, self.asides = port, b"", b"", []
         self.stream = connect(port, timeout)
         self.reader = Reader(self.stream)
         try:
-            self.send(startup(database, user, code))
+            self.send(startup(database, user, code, parameters))
             self.read_reply(timeout)
         except Exception:
             self.stream.close()
