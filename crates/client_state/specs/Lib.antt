@@ -1,6 +1,7 @@
 pub mod Acts
 pub mod ClientMessage
 pub mod LinkMessage
+pub mod Refusal
 pub mod Request
 pub mod Session
 pub mod Stages

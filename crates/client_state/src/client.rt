@@ -2,12 +2,13 @@
 ghost use Rattle.std.specs.Prelude.{◌≡◌, ◌⊎◌, ◌↔◌, ◌≤◌, ◌<◌, ◌+◌, true, false, [], ◌++◌, length, take, vec_len, IsTrue, IfSome};
 ghost use Rattle.pg_frames.specs.FrameText.{text};
 ghost use Rattle.startup.specs.declared.error_code.ErrorCode.TheVariants.{ProtocolViolation, ConnectionFailure};
+ghost use Rattle.client_state.specs.Refusal.{IsAbove};
 ghost use Rattle.client_state.specs.Request.{IsRequest};
 ghost use Rattle.client_state.specs.Acts.{start, over, ends, fatal, ActsOn, ActsOnClient, EndsWith, head_act, after_head, act_on_head, session_at, IsHeadAct, ready_act, after_ready, IsReadyAct};
 
-use crate::client_message::{ClientMessage, group_above, is_request};
+use crate::client_message::{ClientMessage, is_request};
 use crate::link_message::{LinkMessage, Status};
-use crate::{Act, DatabaseNo, HeadAct, Reply, Request};
+use crate::{Act, DatabaseNo, HeadAct, Refusal, Reply, Request};
 use pg_frames::{Frame, MAX_MESSAGE, MessageLimit, put_frame_within};
 use startup::{ErrorCode, Severity};
 use std::alloc::Global;
@@ -26,8 +27,8 @@ pub struct Client {
     database: DatabaseNo,
     stage: Stage,
     gathered: Vec<u8>,
-    // How many bytes a group of messages had that ended it.
-    refused: Option<usize>,
+    // Why it ended with an error.
+    refusal: Option<Refusal>,
 }
 
 // A request is outstanding only on a lease, and one at most, since the next is read after its
@@ -40,7 +41,8 @@ enum Stage {
 }
 
 impl Model for Client {
-    ghost use Rattle.std.specs.Prelude.{◌≤◌, ◌<◌, length, IfSome};
+    ghost use Rattle.std.specs.Prelude.{◌≤◌, length, IfSome};
+    ghost use Rattle.client_state.specs.Refusal.{IsAbove};
     ghost use Rattle.client_state.specs.Session.{Session};
 
     ghost Value = { Session };
@@ -56,7 +58,7 @@ impl Model for Client {
     } };
 
     ghost invariant = { λ c. (length c.gathered.items ≤ c.limit)
-        × IfSome c.refused (λ bytes. c.limit < bytes) };
+        × IfSome c.refusal (IsAbove c.limit) };
 }
 
 impl Client {
@@ -79,7 +81,7 @@ impl Client {
             database,
             stage: Stage::NoLease,
             gathered: Vec::new(alloc),
-            refused: None,
+            refusal: None,
         }
     }
 
@@ -137,12 +139,12 @@ impl Client {
         }
     }
 
-    /// How many bytes the messages of an extended query had that ended the session by their length.
-    /// The contract says only that this is above the limit.
-    pub fn refused_group(&self) -> Option<usize>
-        ensures { IfSome result (λ bytes. self.now.limit < bytes) }
+    /// Why the session ended with an error of its own. The contract says only that messages which are
+    /// together too long are above the limit.
+    pub fn refusal(&self) -> Option<Refusal>
+        ensures { IfSome result (IsAbove self.now.limit) }
     {
-        self.refused
+        self.refusal
     }
 
     /// What to do where the client's stream isn't cut into frames: it violates the protocol.
@@ -150,7 +152,7 @@ impl Client {
         ensures act { EndsWith self.old.leased ProtocolViolation result }
         ensures state { self.new ≡ over self.old }
     {
-        self.end_with(ErrorCode::ProtocolViolation)
+        self.end_with(Refusal::Malformed, ErrorCode::ProtocolViolation)
     }
 
     /// What to do with the link's next frame, by its type and its length field, which counts
@@ -163,7 +165,7 @@ impl Client {
         match LinkMessage::of(kind, length) {
             LinkMessage::PassOn => HeadAct::PassOn,
             LinkMessage::Ready => self.on_ready_head(),
-            LinkMessage::Refused(code) => self.close(code),
+            LinkMessage::Refused(code) => self.close(Refusal::of_link(kind, length), code),
         }
     }
 
@@ -174,7 +176,7 @@ impl Client {
         ensures state { self.new ≡ after_ready self.old status }
     {
         if self.may_read() {
-            return self.on_link_fault();
+            return self.lose(Refusal::OutOfPlace);
         }
         match Status::of(status) {
             Status::Idle => {
@@ -185,7 +187,7 @@ impl Client {
                 self.stage = Stage::Leased;
                 Act::ToClient(Reply::ready(status))
             }
-            Status::Unknown => self.on_link_fault(),
+            Status::Unknown => self.lose(Refusal::LinkMessage),
         }
     }
 
@@ -195,7 +197,7 @@ impl Client {
         ensures act { EndsWith true ConnectionFailure result }
         ensures state { self.new ≡ over self.old }
     {
-        self.end_with(ErrorCode::ConnectionFailure)
+        self.lose(Refusal::LinkLost)
     }
 
     /// Forgets the request that `Need` handed out, for which no link was acquired. It takes no
@@ -280,8 +282,9 @@ impl Client {
     fn refuse(&mut self, frame: &Frame, code: ErrorCode) -> Act
         ensures { ActsOn (ClientMessage.Refused code) self.old frame.now result self.new }
     {
-        self.refused = group_above(self.limit, self.gathered.len(), frame);
-        self.end_with(code)
+        let body = frame.body.as_slice();
+        let refusal = Refusal::of_client(self.limit, self.gathered.len(), frame.kind, body);
+        self.end_with(refusal, code)
     }
 
     // Ends the session, and closes the link where one is held.
@@ -298,11 +301,23 @@ impl Client {
         }
     }
 
-    // Ends the session with this error, and without it where memory for it is refused.
-    fn end_with(&mut self, code: ErrorCode) -> Act
+    // Ends the session whose link is lost, for this reason.
+    fn lose(&mut self, refusal: Refusal) -> Act
+        requires leased { IsTrue self.old.leased }
+        requires above { IsAbove self.old.limit refusal }
+        ensures act { EndsWith true ConnectionFailure result }
+        ensures state { self.new ≡ over self.old }
+    {
+        self.end_with(refusal, ErrorCode::ConnectionFailure)
+    }
+
+    // Ends the session for this reason with this error, and without it where memory for it is refused.
+    fn end_with(&mut self, refusal: Refusal, code: ErrorCode) -> Act
+        requires { IsAbove self.old.limit refusal }
         ensures act { EndsWith self.old.leased code result }
         ensures state { self.new ≡ over self.old }
     {
+        self.refusal = Some(refusal);
         let error = self.error(code);
         self.end(error)
     }
@@ -314,17 +329,19 @@ impl Client {
             ≡ session_at (act_on_head LinkMessage.Ready self.old.outstanding) self.old }
     {
         if self.may_read() {
-            self.close(ErrorCode::ConnectionFailure)
+            self.close(Refusal::OutOfPlace, ErrorCode::ConnectionFailure)
         } else {
             HeadAct::Ready
         }
     }
 
-    // Closes the link with this error.
-    fn close(&mut self, code: ErrorCode) -> HeadAct
+    // Closes the link for this reason with this error.
+    fn close(&mut self, refusal: Refusal, code: ErrorCode) -> HeadAct
+        requires { IsAbove self.old.limit refusal }
         ensures act { (result ≡ HeadAct.Close (fatal code)) ⊎ (result ≡ HeadAct.Close []) }
         ensures state { self.new ≡ over self.old }
     {
+        self.refusal = Some(refusal);
         let error = self.error(code);
         self.drop_request();
         HeadAct::Close(error)

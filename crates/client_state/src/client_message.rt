@@ -1,7 +1,7 @@
 //! What a client's message asks for.
-ghost use Rattle.std.specs.Prelude.{◌≡◌, ◌+◌, ◌<◌, ◌≤◌, ◌&&◌, IfSome, IsTrue, None, codes, drop, length, nat_le, take};
+ghost use Rattle.std.specs.Prelude.{◌≡◌, ◌+◌, ◌≤◌, ◌&&◌, IsTrue, drop, length, nat_le, take};
 ghost use Rattle.std.specs.List.{count_by, list_all};
-ghost use Rattle.client_state.specs.Text.{is_one_of, is_one_string, is_zero};
+ghost use Rattle.client_state.specs.Text.{is_one_string, is_zero};
 ghost use Rattle.client_state.specs.ClientMessage.{by_kind, by_names, by_target, client_message};
 ghost use Rattle.client_state.specs.Request.{IsRequest};
 
@@ -11,8 +11,8 @@ use startup::ErrorCode;
 // How many bytes the length field takes. It counts them.
 const FIELD_LEN: usize = 4;
 
-// The type and the length field, which a message has apart from its body.
-const HEADER_LEN: usize = 5;
+/// The type and the length field, which a message has apart from its body.
+pub const HEADER_LEN: usize = 5;
 
 /// What a client's message asks for.
 #[derive(Clone, Copy)]
@@ -61,24 +61,6 @@ impl ClientMessage {
             b'H' | b'F' | b'd' | b'c' | b'f' => LEFT_OUT,
             _ => VIOLATION,
         }
-    }
-}
-
-/// How many bytes messages of an extended query have together with this one, after messages with
-/// `gathered` bytes, if they are more than the limit.
-pub fn group_above(limit: MessageLimit, gathered: usize, frame: &Frame) -> Option<usize>
-    requires { gathered ≤ limit }
-    ensures some { IfSome result (λ bytes. (limit < bytes)
-        × (bytes ≡ gathered + (5 + length frame.now.body))
-        × IsTrue (is_one_of (codes "PBDEC") frame.now.kind)) }
-    ensures none { result ≡ None → IsTrue (is_one_of (codes "PBDEC") frame.now.kind)
-        → gathered + (5 + length frame.now.body) ≤ limit }
-{
-    let limit = limit.get() as usize;
-    let bytes = gathered + (HEADER_LEN + frame.body.as_slice().len());
-    match frame.kind {
-        b'P' | b'B' | b'D' | b'E' | b'C' if bytes > limit => Some(bytes),
-        _ => None,
     }
 }
 
@@ -195,8 +177,8 @@ fn all_zero(bytes: &[u8]) -> bool
     bytes.iter().all(|byte| *byte == 0)
 }
 
-// How many zero bytes there are.
-fn zeros(body: &[u8]) -> usize
+/// How many zero bytes there are.
+pub fn zeros(body: &[u8]) -> usize
     ensures { result ≡ count_by is_zero body.now }
 {
     body.iter().filter(|byte| **byte == 0).count()

@@ -5,6 +5,7 @@ mod act;
 mod client;
 mod client_message;
 mod link_message;
+mod refusal;
 mod reply;
 mod request;
 
@@ -13,5 +14,6 @@ pub use client::Client;
 pub use client_message::is_request;
 pub use link_message::is_passed_on;
 pub use pg_ids::DatabaseNo;
+pub use refusal::Refusal;
 pub use reply::Reply;
 pub use request::Request;

@@ -1,5 +1,6 @@
 //! What a session writes to its client of its own.
-ghost use Rattle.std.specs.Prelude.{◌≡◌, [], IfOk};
+ghost use Rattle.std.specs.Prelude.{◌≡◌, ◌⊎◌, ℕ, [], IfOk, MatchOption};
+ghost use Rattle.startup.specs.declared.error_code.Severity.{Severity as SeverityOf};
 ghost use Rattle.client_state.specs.Acts.{error_text, ready_text};
 
 use startup::{ErrorCode, Severity, write_error};
@@ -17,16 +18,19 @@ pub struct Reply {
 enum Text {
     Nothing,
     Ready([u8; 6]),
-    Error(Vec<u8>),
+    // With its code.
+    Error(ErrorCode, Vec<u8>),
 }
 
 impl Model for Reply {
     ghost use Rattle.std.specs.Prelude.{ℕ, List};
-    ghost use Rattle.client_state.specs.Texts.{bytes_of};
+    ghost use Rattle.client_state.specs.Texts.{IsText, bytes_of};
 
     ghost Value = { List ℕ };
 
     ghost view = { λ r. bytes_of r.text };
+
+    ghost invariant = { λ r. IsText r.text };
 }
 
 impl Reply {
@@ -55,7 +59,7 @@ impl Reply {
         let mut text = Vec::new(alloc);
         match write_error(severity, code.code(), code.message(), &mut text) {
             Ok(()) => Ok(Reply {
-                text: Text::Error(text),
+                text: Text::Error(code, text),
             }),
             Err(_) => Err(AllocError),
         }
@@ -68,7 +72,19 @@ impl Reply {
         match &self.text {
             Text::Nothing => &[],
             Text::Ready(text) => text,
-            Text::Error(text) => text.as_slice(),
+            Text::Error(_, text) => text.as_slice(),
+        }
+    }
+
+    /// The code of an error, none where it is no error.
+    pub fn error_code(&self) -> Option<ErrorCode>
+        ensures { MatchOption result
+            ((self.now ≡ []) ⊎ ((status : ℕ) × (self.now ≡ ready_text status)))
+            (λ code. (severity : SeverityOf) × (self.now ≡ error_text severity code)) }
+    {
+        match &self.text {
+            Text::Nothing | Text::Ready(_) => None,
+            Text::Error(code, _) => Some(*code),
         }
     }
 }

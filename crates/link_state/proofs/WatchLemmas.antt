@@ -156,11 +156,11 @@ seen_whole all now old new next false before piece going is h comes five enough 
     (whole_seen all old new next before piece h comes five enough least starts)
 seen_whole all now old new next true before piece going is h comes five enough least starts = absurd (cc)
 
-none_left : (rest : List ℕ) (left : ℕ) → left ≡ 5 → left + length rest ≡ 5 → rest ≡ []
+pub none_left : (rest : List ℕ) (left : ℕ) → left ≡ 5 → left + length rest ≡ 5 → rest ≡ []
 none_left [] left is awaits = refl
 none_left (x ∷ xs) left is awaits = absurd (omega (arith, is, awaits))
 
-other_kind : (kind : ℕ) → kind ≢ 83 → kind == 83 ≡ false
+pub other_kind : (kind : ℕ) → kind ≢ 83 → kind == 83 ≡ false
 other_kind kind other =
     elim (eqb_tells kind 83) [
       | inl same ↦ absurd (other same.1)
@@ -168,7 +168,7 @@ other_kind kind other =
     ]
 
 -- a whole message at the front of bytes
-front_whole : (limit count : ℕ) (bytes piece after : List ℕ) → AreBytes bytes → bytes ≡ piece ++ after → length piece ≡ count → 4 ≤ length_in bytes → count ≡ 1 + length_in bytes → IsWhole limit (take limit piece) piece
+pub front_whole : (limit count : ℕ) (bytes piece after : List ℕ) → AreBytes bytes → bytes ≡ piece ++ after → length piece ≡ count → 4 ≤ length_in bytes → count ≡ 1 + length_in bytes → IsWhole limit (take limit piece) piece
 front_whole limit count bytes piece after each parts long low measured =
     let head : 5 ≤ length piece = omega (arith, long, low, measured) in
     let same : length_in bytes ≡ length_in piece = ap length_in parts ∙ length_stays piece after head in

@@ -20,6 +20,7 @@ mod watched_list;
 pub use act::{LinkAct, LoginHead};
 pub use difference::Difference;
 pub use error::LinkError;
+pub use incoming::{HEAD, Incoming, Progress};
 pub use login::LinkLogin;
 pub use pg_ids::ServerKey;
 pub use server_errors::first_error;

@@ -1,11 +1,13 @@
 -- Where a fault stands in a stream, and where none does.
-use Rattle.std.proofs.Common.{◌≡◌, ℕ, ◌+◌, List, [], ◌∷◌, ◌++◌, length, Option, None, refl, ap, ◌∙◌, arith, append_assoc, length-append}
+use Rattle.std.proofs.Common.{◌≡◌, ℕ, ◌+◌, List, [], ◌∷◌, ◌++◌, length, drop, Option, None, refl, sym, ap, ◌∙◌, subst, arith, unwrap_or, append_assoc, length-append}
+use Rattle.std.proofs.lemmas.List.{drop_all}
 use Rattle.std.specs.List.{AllByRecursion}
 use Rattle.byteorder.specs.Endian.{big_bytes, big_number}
 use Rattle.pg_frames.specs.declared.frame.Frame.{Frame}
 use Rattle.pg_frames.specs.declared.error.FrameError.{FrameError}
 use Rattle.pg_frames.specs.FrameText.{text, texts, IsFrame, BeginsNoFrame, fault_at, HasFault}
-use Rattle.pg_frames.specs.Passage.{IsHead, head_text, BeginsNoHead}
+use Rattle.pg_frames.specs.Passage.{Passage, IsHead, head_text, after, BeginsNoHead}
+use Rattle.pg_frames.proofs.FlowLemmas.{has_none}
 use Rattle.pg_frames.proofs.TextLemmas.{fault_at_header}
 use Rattle.session_io.proofs.HandingLemmas.{text_is}
 
@@ -38,6 +40,14 @@ no_frame-nothing limit frame more is e = cc
 pub fault_at-nothing : (limit : ℕ) → fault_at limit [] ≡ None
 unfolding fault_at
 fault_at-nothing limit = refl
+
+-- where nothing is there, no fault stands behind it
+pub no_fault_behind : (passage : Passage) → passage.bytes ≡ []
+    → HasFault passage.limit (after passage) None
+no_fault_behind passage none =
+    let nothing : drop (unwrap_or passage.left 0) passage.bytes ≡ [] =
+    drop_all (unwrap_or passage.left 0) passage.bytes (omega (arith, ap length none)) in
+    subst (λ (xs : List ℕ). HasFault passage.limit xs None) (sym nothing) (has_none passage.limit)
 
 -- nor at a head of the format
 pub no_fault-head : (limit kind size : ℕ) (more : List ℕ) → IsHead limit kind size

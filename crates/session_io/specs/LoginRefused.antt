@@ -8,6 +8,7 @@ use Rattle.peer_forward.specs.Calls.{Call, Effect}
 use Rattle.pg_frames.specs.declared.frame.Frame.{Frame}
 use Rattle.pg_frames.specs.FrameText.{texts, IsFrame}
 use Rattle.pg_frames.specs.Passage.{Passage, IsHead, head_text}
+use Rattle.startup.specs.Fields.{HasField}
 use Rattle.startup.specs.StartupMessage.{startup_request}
 use Rattle.link_state.specs.Login.{GoOn}
 use Rattle.session_io.specs.declared.login.place.Stop.{Stop}
@@ -52,6 +53,12 @@ pub record SaysError (limit : ℕ) (text bytes : List ℕ) : Type 0 where
 abbrev pub Says : ℕ → LoginRefusal → List ℕ → Type 0
 Says limit (Error text) bytes = SaysError limit text.items bytes
 Says limit (Asks code) bytes = SaysAsks limit code bytes
+
+-- this is the first field of this type in what is kept of the error's body; an authentication
+-- request has none
+abbrev pub HasText : LoginRefusal → ℕ → List ℕ → Type 0
+HasText (Error body) kind text = HasField body.items kind text
+HasText (Asks code) kind text = ⊥
 
 -- the calls wrote the StartupMessage whole, and after that read this answer
 pub record IsRefused (limit : ℕ) (user database : List ℕ) (refusal : LoginRefusal)

@@ -11,6 +11,7 @@ mod first_frames;
 mod groups;
 mod link_frames;
 mod other_limits;
+mod refusals;
 mod session_ends;
 mod transcripts;
 mod whole_requests;

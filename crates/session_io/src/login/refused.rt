@@ -5,6 +5,7 @@ ghost use Rattle.session_io.specs.LoginRefused.{ReadsAfter};
 
 use crate::stream::read_some;
 use peer_forward::{ReadCalls, WriteCalls};
+use startup::error_field;
 use std::alloc::{AllocError, Global};
 
 // How long the length field of a message is, which counts itself.
@@ -23,6 +24,38 @@ pub enum LoginRefusal {
     Error(Vec<u8>),
     /// It sent an authentication request with this code, which isn't 0.
     Asks(u32),
+}
+
+impl LoginRefusal {
+    ghost use Rattle.std.specs.Prelude.{IfNone, IfSome};
+    ghost use Rattle.session_io.specs.LoginRefused.{HasText};
+
+    /// The error's code, if it came whole.
+    pub fn code(&self) -> Option<&[u8]>
+        ensures found { IfSome result (λ text. HasText self.now 67 text.now) }
+        ensures none { IfNone result ((text : List ℕ) → HasText self.now 67 text → ⊥) }
+    {
+        self.field(b'C')
+    }
+
+    /// The error's text for a person, if it came whole.
+    pub fn message(&self) -> Option<&[u8]>
+        ensures found { IfSome result (λ text. HasText self.now 77 text.now) }
+        ensures none { IfNone result ((text : List ℕ) → HasText self.now 77 text → ⊥) }
+    {
+        self.field(b'M')
+    }
+
+    // The error's first field of this type.
+    fn field(&self, kind: u8) -> Option<&[u8]>
+        ensures found { IfSome result (λ text. HasText self.now kind text.now) }
+        ensures none { IfNone result ((text : List ℕ) → HasText self.now kind text → ⊥) }
+    {
+        match self {
+            LoginRefusal::Error(body) => error_field(body.as_slice(), kind),
+            LoginRefusal::Asks(_) => None,
+        }
+    }
 }
 
 /// What hears of a login over a stream while it goes on.

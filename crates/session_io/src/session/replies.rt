@@ -19,7 +19,7 @@ use crate::session::channel::{Channel, read_more};
 use crate::session::place::{Handed, Place};
 use client_state::{Act, Client, HeadAct, Reply, is_passed_on};
 use peer_forward::{ReadCalls, WriteCalls, write_whole};
-use pg_frames::{Flow, Header, MessageLimit, Piece, whole_head_of};
+use pg_frames::{Flow, FrameError, Header, MessageLimit, Piece, whole_head_of};
 use std::sync::Wait;
 
 // How many bytes a ReadyForQuery takes.
@@ -219,6 +219,9 @@ fn pass_on<C: WriteCalls + ReadCalls>(client: &mut C, flow: &mut Flow, withheld:
 {
     let passed = flow.passed();
     let count = passed.len() - withheld;
+    if count == 0 {
+        return true;
+    }
     let told = write_whole(client, passed.split_at(count).0);
     flow.forget(count);
     told
@@ -257,7 +260,7 @@ fn read_on<C: WriteCalls + ReadCalls, L: WriteCalls + ReadCalls>(
     if !pass_on(client, &mut link.flow, place.withheld()) {
         return Some(Stayed::End(Reply::nothing()));
     }
-    if link.flow.fault().is_some() {
+    if fault_of(&link.flow).is_some() {
         return Some(Stayed::End(lost(session)));
     }
     if read_more(link) {
@@ -266,6 +269,18 @@ fn read_on<C: WriteCalls + ReadCalls, L: WriteCalls + ReadCalls>(
     match place {
         Place::Inside => Some(Stayed::End(Reply::nothing())),
         _ => Some(Stayed::End(lost(session))),
+    }
+}
+
+// The fault at the front of the rest of what was read.
+fn fault_of(flow: &Flow) -> Option<FrameError>
+    ensures { HasFault flow.now.limit (after flow.now) result }
+{
+    // Mostly nothing was read: this is before a reply.
+    if flow.pending().is_empty() {
+        None
+    } else {
+        flow.fault()
     }
 }
 

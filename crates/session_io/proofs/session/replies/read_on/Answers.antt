@@ -23,9 +23,9 @@ returns-then-not-pass_on-clause-ends g c =
 pub returns-then-is_some-clause-ends : goal.returns-then-is_some-clause-ends
 returns-then-is_some-clause-ends g c =
     let told = c.if-not-pass_on.ensures.told refl in
-    let has = subst (λ (p : Passage). HasFault p.limit (after p) c.fault.result)
+    let has = subst (λ (p : Passage). HasFault p.limit (after p) c.fault_of.result)
     c.pass_on.ensures.flow
-    c.fault.ensures in (
+    c.fault_of.ensures in (
       [],
       refl,
       (
@@ -33,7 +33,7 @@ returns-then-is_some-clause-ends g c =
         told.1,
         λ limit stream written out. faulty_ends limit stream written c.args.place
             c.args.link.now.flow
-            c.fault.result _ told.0 _ _ c.withheld.ensures
+            c.fault_of.result _ told.0 _ _ c.withheld.ensures
             (sym c.is_some.ensures ∙ c.if-is_some.true) c.requires.dry has told.2 c.lost.ensures
             refl out,
       ),
@@ -63,12 +63,12 @@ returns-then-read_more-clause-more g c _ =
 
 pub returns-then-read_more-clause-sound : goal.returns-then-read_more-clause-sound
 returns-then-read_more-clause-sound g c _ =
-    let has = subst (λ (p : Passage). HasFault p.limit (after p) c.fault.result)
+    let has = subst (λ (p : Passage). HasFault p.limit (after p) c.fault_of.result)
     c.pass_on.ensures.flow
-    c.fault.ensures in
+    c.fault_of.ensures in
     subst (λ (f : Option FrameError). HasFault c.args.link.now.flow.limit
     (after c.args.link.now.flow) f)
-    (none_found c.fault.result (sym c.is_some.ensures ∙ c.if-is_some.false)) has
+    (none_found c.fault_of.result (sym c.is_some.ensures ∙ c.if-is_some.false)) has
 
 pub returns-in-Inside-clause-ends : goal.returns-in-Inside-clause-ends
 returns-in-Inside-clause-ends g c =
@@ -90,16 +90,16 @@ pub returns-in_default-clause-ends : goal.returns-in_default-clause-ends
 returns-in_default-clause-ends g c =
     let told = c.if-not-pass_on.ensures.told refl in
     let read = c.if-read_more.ensures.none refl in
-    let has = subst (λ (p : Passage). HasFault p.limit (after p) c.fault.result)
+    let has = subst (λ (p : Passage). HasFault p.limit (after p) c.fault_of.result)
     c.pass_on.ensures.flow
-    c.fault.ensures in (
+    c.fault_of.ensures in (
       _,
       read.1,
       (
         told.0,
         told.1,
         λ limit stream written out. lost_ends limit stream written c.args.place c.args.link.now.flow
-            c.fault.result _ read.0 told.0 _ _ c.in_default.not-Inside c.withheld.ensures
+            c.fault_of.result _ read.0 told.0 _ _ c.in_default.not-Inside c.withheld.ensures
             (sym c.is_some.ensures ∙ c.if-is_some.false) has c.requires.dry told.2 read.2
             c.lost-in_default.ensures refl out,
       ),
