@@ -29,7 +29,7 @@ pub record Meaning (T : Type 0) : Type 1 where
   pub reports : List Report
 
 -- what the parts of a service mean, with the streams that its opener returns
-abbrev pub meaning_of : {R O G T : Type 0} → Opener.Ghosts O T → WriteCalls.Ghosts T
+abbrev pub meaning_of : {R O G T V : Type 0} → Opener.Ghosts O T V → WriteCalls.Ghosts T
     → ReadCalls.Ghosts T → Service R (Link T) O G → Meaning T
 meaning_of opener writes reads service = record {
   limit = service.limit.now;

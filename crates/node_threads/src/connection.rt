@@ -11,8 +11,8 @@ ghost use Rattle.node_threads.specs.Meaning.{meaning_of, moment};
 ghost use Rattle.node_threads.specs.Connection.{place_of, ServesAt, ServesConnection};
 
 use crate::{
-    CONSOLE, Calling, CancelOpener, Context, Gate, Link, Node, Opened, Opener, Service, SingleUse,
-    open, serve_cancel, serve_client, serve_console,
+    CONSOLE, Calling, CancelOpener, Context, Gate, Link, Node, Observer, Opened, Opener, Service,
+    SingleUse, open, serve_cancel, serve_client, serve_console,
 };
 use locked_node::Caller;
 use peer_forward::{Arrival, Asks, ReadCalls, Requester, WriteCalls};
@@ -26,7 +26,8 @@ use std::sync::Wait;
 /// Serves a connection from its first packet to its end: a client's session on the database that it
 /// asks for or on the console, or a cancel request, where the connection is admitted for that. A
 /// database that isn't in the settings is refused. A cancel request for which no seat at the board is
-/// free is given up without an order: its connection is reset.
+/// free is given up without an order: its connection is reset. The opener's observer is notified of
+/// what happens.
 pub fn serve_connection<R, O, G, C>(
     context: Context<'_, R, G>,
     alloc: Global,
@@ -71,7 +72,9 @@ where
             let mut cutter = Cutter::with_limit(alloc, *limit);
             if name == CONSOLE {
                 if client.admits(Asks::Console) {
-                    serve_console(context.rt, alloc, reports, calling, client, &mut cutter);
+                    let rt = context.rt;
+                    let observer = opener.observer();
+                    serve_console(rt, alloc, observer, reports, calling, client, &mut cutter);
                 }
             } else if client.admits(Asks::Session) {
                 let node: &Node<O::Stream> = &calling.node;
@@ -82,8 +85,9 @@ where
         }
         Opened::Cancel(key) => {
             if client.admits(Asks::Cancel) {
+                let observer = opener.observer();
                 let opener = SingleUse { opener };
-                serve_cancel_connection(context, opener, calling, client, key);
+                serve_cancel_connection(context, observer, opener, calling, client, key);
             }
         }
         Opened::Over => {}
@@ -117,6 +121,8 @@ where
 {
     let Some(database) = service.settings.find_database(name) else {
         refuse(service.alloc, client, ErrorCode::InvalidCatalogName);
+        let observer = service.opener.observer();
+        observer.login_refused(ErrorCode::InvalidCatalogName);
         return;
     };
     let secret = node.secret();
@@ -126,8 +132,9 @@ where
 // Serves a cancel request with this key. A client that waits to ask for a link asks first, so that
 // the request finds it waiting.
 #[inline(never)]
-fn serve_cancel_connection<R, S, O, G, C>(
+fn serve_cancel_connection<R, S, O, G, C, V>(
     context: Context<'_, R, G>,
+    observer: &V,
     opener: O,
     calling: &mut Calling<S>,
     client: &mut C,
@@ -139,6 +146,7 @@ where
     O: CancelOpener,
     G: Gate,
     C: WriteCalls + Requester,
+    V: Observer<O::Stream>,
     ensures balanced { Balanced calling.old.caller calling.new.caller }
     ensures served { (C.resets client.old client.new × (calling.new.caller ≡ calling.old.caller))
         ⊎ ((seat next : SeatView) × ServesCancel
@@ -150,10 +158,12 @@ where
         (λ verdict. Finishes ⟦<C as WriteCalls>⟧.wrote C.takes client.old verdict client.new)) }
 {
     let rt = context.rt;
+    observer.cancel_asked(key.peer(), key.slot());
     let is_own = key.peer() == calling.node.settings().peer_id();
     let to = calling.node.destination(rt, key, is_own);
     let Some(mut seat) = calling.node.seats.take(rt, key, to) else {
         client.give_up();
+        observer.cancel_unserved();
         return;
     };
     if is_own {
@@ -161,6 +171,7 @@ where
     }
     serve_cancel(
         context,
+        observer,
         &calling.node.shared,
         &mut calling.caller,
         seat.counting(),

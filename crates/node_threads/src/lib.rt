@@ -7,6 +7,7 @@ mod connection;
 mod desk;
 mod gate;
 mod node;
+mod observer;
 mod opener;
 mod service;
 mod session;
@@ -21,6 +22,7 @@ pub use gate::{Gate, Open, Point};
 pub use node::{
     Calling, ClientCensus, Front, LinkCensus, Node, NodePlace, PoolCensus, Secrets, restart,
 };
+pub use observer::{CancelOrder, NoObserver, Observer, SessionEnd};
 pub use opener::{Listening, Opener, Sender};
 pub use service::{Context, Service};
 pub use session::{CONSOLE, serve_client, serve_console, turn};

@@ -2,9 +2,10 @@
 ghost use Rattle.std.specs.Prelude.{ℕ, Result};
 ghost use Rattle.std.specs.declared.io.Error.{Error};
 
+use crate::Observer;
 use peer_forward::{ReadCalls, WriteCalls};
 use pg_ids::{DatabaseNo, PeerNo};
-use session_io::{LoginListener, LoginRefusal};
+use session_io::LoginListener;
 use std::io;
 use std::sync::Wait;
 
@@ -18,11 +19,15 @@ pub enum Sender {
 }
 
 /// What connects a client's connection to the servers of a node's databases and to its peers, and
-/// knows how the client and a link do. There is one for each connection.
+/// knows how the client and a link do. There is one for each connection, with the connection's
+/// observer.
 pub trait Opener {
     /// A connection, known by its calls: any reader and writer of std is one. It is closed when it
     /// is dropped.
     type Stream: WriteCalls + ReadCalls + Drop;
+
+    /// What is notified of what happens on the connection.
+    type Observer: Observer<Self::Stream>;
 
     /// What may come of connecting to the server of a database, for a link.
     ghost connects: { Self → ℕ → Result Self.Stream Error → Type 0 };
@@ -32,6 +37,9 @@ pub trait Opener {
 
     /// What may come of connecting to a peer, for a cancel request.
     ghost reaches: { Self → ℕ → Result Self.Stream Error → Type 0 };
+
+    /// The connection's observer.
+    fn observer(&self) -> &Self::Observer;
 
     /// Connects to the server of this database, for a link.
     fn server<R: Wait>(&self, rt: &R, database: DatabaseNo) -> io::Result<Self::Stream>
@@ -57,33 +65,13 @@ pub trait Opener {
         true
     }
 
-    /// The client has this link from now on. A read of it fails once the client is gone.
-    fn attach(&self, _stream: &Self::Stream) {}
-
-    /// The client has no link from now on.
-    fn detach(&self) {}
-
-    /// The client is about to wait for a link. Once it has, `is_gone` is called.
-    fn begin_wait(&self) {}
-
     /// Whether the client is gone. It doesn't wait.
     fn is_gone(&self) -> bool {
         false
     }
-
-    /// The server of a database refuses a login on this stream by an error. What follows is read of
-    /// it, as far as it comes, and then `refuse_login` is called.
-    fn begin_refusal(&self, _stream: &Self::Stream) {}
-
-    /// The server of this database refused the login of a link with these words.
-    fn refuse_login(&self, _database: DatabaseNo, _refusal: &LoginRefusal) {}
-
-    /// On this database a message has this length field, or a client's messages of an extended
-    /// query have this many bytes together, more than the limit.
-    fn refuse_message(&self, _database: DatabaseNo, _from: Sender, _bytes: usize, _limit: u32) {}
 }
 
-/// Hears of logins for an opener.
+/// Hears of logins for an opener's observer.
 #[derive(Drop)]
 pub struct Listening<'a, O> {
     /// The opener.
@@ -92,6 +80,6 @@ pub struct Listening<'a, O> {
 
 impl<O: Opener> LoginListener<O::Stream> for Listening<'_, O> {
     fn error_begins(&self, stream: &O::Stream) {
-        self.opener.begin_refusal(stream);
+        self.opener.observer().link_refusal_begun(stream);
     }
 }

@@ -7,7 +7,9 @@ use crate::stage::Stage;
 use crate::story::{Story, Trait};
 use ini_config::{Group, Settings, read_settings};
 use node_core::RestartReply;
-use node_threads::{Calling, Context, Gate, NodePlace, Opener, Point, Sender, serve_connection};
+use node_threads::{
+    Calling, Context, Gate, NodePlace, Observer, Opener, Point, Sender, serve_connection,
+};
 use pg_frames::MessageLimit;
 use pg_ids::{Boot, DatabaseNo, PeerNo};
 use startup::Reports;
@@ -17,7 +19,7 @@ use std::io;
 use std::io::ErrorKind;
 use std::sync::{Arc, Wait};
 
-// What connects a client to servers and peers.
+// What connects a client to servers and peers, and is told of its links.
 #[derive(Drop)]
 struct Dials<'a> {
     stage: &'a Arc<Stage, Global>,
@@ -40,16 +42,22 @@ impl Dials<'_> {
     }
 }
 
-impl Opener for Dials<'_> {
+impl<'a> Opener for Dials<'a> {
     ghost use Rattle.std.specs.Prelude.{⊤};
 
     type Stream = Line;
+
+    type Observer = Dials<'a>;
 
     ghost connects = { λ _ _ _. ⊤ };
 
     ghost cancels = { λ _ _ _. ⊤ };
 
     ghost reaches = { λ _ _ _. ⊤ };
+
+    fn observer(&self) -> &Dials<'a> {
+        self
+    }
 
     fn server<R: Wait>(&self, _rt: &R, database: DatabaseNo) -> io::Result<Line> {
         self.dial("connects to database", u16::from(database.get()))
@@ -68,19 +76,21 @@ impl Opener for Dials<'_> {
         !self.stage.story.is(stream.name, Trait::Changed)
     }
 
-    fn attach(&self, stream: &Line) {
-        self.stage.say_of_two(self.client, "has", stream.name);
-    }
-
-    fn detach(&self) {
-        self.stage.say_of(self.client, "has no link");
-    }
-
     fn is_gone(&self) -> bool {
         self.stage.story.is(self.client, Trait::Gone)
     }
+}
 
-    fn refuse_message(&self, _database: DatabaseNo, from: Sender, bytes: usize, _limit: u32) {
+impl Observer<Line> for Dials<'_> {
+    fn link_given(&self, stream: &Line) {
+        self.stage.say_of_two(self.client, "has", stream.name);
+    }
+
+    fn link_returned(&self) {
+        self.stage.say_of(self.client, "has no link");
+    }
+
+    fn message_refused(&self, _database: DatabaseNo, from: Sender, bytes: usize, _limit: u32) {
         self.stage
             .say_refused(self.client, from == Sender::Client, bytes);
     }

@@ -1,7 +1,10 @@
 //! Cancel connections at a real node that get no order, over streams that log what happens to them.
+use crate::heard::{Heard, HeardBy, Notice, assert_heard};
 use crate::log::{Dialer, Event, Log, Marks, Reply, Wire, assert_logged};
 use crate::node::{Asked, Node};
-use node_core::ReleaseReply;
+use cancel_router::RouteRefusal;
+use node_core::{CancelRefusal, ReleaseReply};
+use peer_forward::Verdict;
 use pg_ids::AnyKey;
 use std::alloc::Global;
 use std::process::Abort;
@@ -11,32 +14,59 @@ use std::test::Fail;
 // The key of the second client.
 const SECOND: [u8; 8] = [0, 8, 0, 4, 0, 0, 0, 0x17];
 
-// A cancel connection with this key is served. Nothing is connected or written for it, and its last
-// byte is taken.
-fn expect_nothing<R: Wait + Abort>(rt: &R, alloc: Global, node: &mut Node, asked: [u8; 8]) {
-    let log = Log::new(alloc);
-    let mut requester = Wire::new(&log, 16, Reply::End);
-    let opener = Dialer {
-        log: &log,
+// A cancel connection with this key is served, and heard.
+fn cancel_heard<R: Wait>(rt: &R, node: &mut Node, log: &Log, heard: &Heard, key: AnyKey) {
+    let mut requester = Wire::new(log, 16, Reply::End);
+    let dialer = Dialer {
+        log,
         reply: Reply::End,
     };
-    let key = AnyKey::from_short_bytes(asked);
-    node.cancel(rt, &opener, &Marks(&log), &mut requester, key);
+    let opener = HeardBy {
+        opener: &dialer,
+        heard,
+        is_gone: false,
+    };
+    node.cancel(rt, &opener, &Marks(log), &mut requester, key);
+}
+
+// A cancel connection with this key is served. Nothing is connected or written for it, its last
+// byte is taken, and the observer hears this.
+fn expect_nothing<R: Wait + Abort>(
+    rt: &R,
+    alloc: Global,
+    node: &mut Node,
+    asked: [u8; 8],
+    notices: &[Notice],
+) {
+    let log = Log::new(alloc);
+    let heard = Heard::new(alloc);
+    cancel_heard(rt, node, &log, &heard, AnyKey::from_short_bytes(asked));
     assert_logged(rt, &log, &[Event::TakesSeen]);
+    assert_heard(rt, &heard, notices);
 }
 
 // Requests that go nowhere: with spent hops, with another secret, for a pooler that isn't listed,
 // and for a client without a link.
-const REFUSED: &[[u8; 8]] = &[
-    [0, 8, 0, 0, 0, 0, 0, 4],
-    [0, 8, 0, 0, 0, 0, 0, 11],
-    [0, 16, 0, 0, 0, 0, 0, 7],
-    SECOND,
+const REFUSED: &[([u8; 8], RouteRefusal)] = &[
+    ([0, 8, 0, 0, 0, 0, 0, 4], RouteRefusal::Spent),
+    ([0, 8, 0, 0, 0, 0, 0, 11], RouteRefusal::Unknown),
+    ([0, 16, 0, 0, 0, 0, 0, 7], RouteRefusal::NoPeer),
+    (SECOND, RouteRefusal::NoLink),
+];
+
+// What is heard of a request that ends a wait.
+const UNWAITS: &[Notice] = &[
+    Notice::CancelUnwaits,
+    Notice::CancelEnded(Verdict::Unwaited),
 ];
 
 fn expect_refused<R: Wait + Abort>(rt: &R, alloc: Global, node: &mut Node) {
-    for asked in REFUSED {
-        expect_nothing(rt, alloc, node, *asked);
+    for (asked, reason) in REFUSED {
+        let notices = [
+            Notice::CancelRefused(CancelRefusal::Route(*reason)),
+            Notice::CancelEnded(Verdict::Refused),
+        ];
+        expect_nothing(rt, alloc, node, *asked, &notices);
     }
 }
 
@@ -50,7 +80,7 @@ fn refused(rt: HostRuntime) -> Result<(), Fail> {
     let second = node.login(&rt, 5).expect(&rt, "a slot");
     expect_refused(&rt, rt.alloc(), &mut node);
     assert_eq!(rt; node.ask(&rt, &second), Asked::Waiting);
-    expect_nothing(&rt, rt.alloc(), &mut node, SECOND);
+    expect_nothing(&rt, rt.alloc(), &mut node, SECOND, UNWAITS);
     assert_eq!(rt; node.ask(&rt, &second), Asked::Cancelled);
     node.impoverish().expect(&rt, "parts of the seat");
     expect_refused(&rt, rt.alloc(), &mut node);

@@ -1,5 +1,6 @@
 //! Requests for another node that come at once, with one key, of which one finds no seat.
 use crate::calls::calls_of;
+use crate::heard::{Heard, HeardBy, Notice};
 use crate::messages::LOWERED;
 use crate::story::{NODE, SEED, calling, serve};
 use crate::talk::Turn;
@@ -9,7 +10,7 @@ use node_threads::{Calling, Gate, Open, Point};
 use pg_ids::Boot;
 use std::alloc::Global;
 use std::process::Abort;
-use std::sync::atomic::{AtomicU64, Ordering};
+use std::sync::atomic::{AtomicBool, AtomicU64, Ordering};
 use std::sync::{Arc, Wait};
 use std::test::Fail;
 use std::thread;
@@ -29,6 +30,8 @@ const PEER: &[Turn] = &[Turn::Takes(LOWERED)];
 struct Crowd<'a> {
     arrived: AtomicU64,
     may_go: AtomicU64,
+    // Whether the observer of the one that finds no seat heard that, and nothing else.
+    is_heard: AtomicBool,
     tracker: &'a Arc<Tracker, Global>,
 }
 
@@ -42,6 +45,9 @@ impl Gate for Crowd<'_> {
     }
 }
 
+// What is heard of a request with a key of peer 3 that finds no seat.
+const UNSERVED: &[Notice] = &[Notice::CancelAsked(3, 0), Notice::CancelUnserved];
+
 // A request for peer 3 is served, with this gate.
 fn forward<R: Wait, G: Gate>(
     rt: &R,
@@ -49,20 +55,27 @@ fn forward<R: Wait, G: Gate>(
     calling: &mut Calling<Talk>,
     tracker: &Arc<Tracker, Global>,
     gate: &G,
+    heard: &Heard,
 ) {
     let dialer = Dialer {
         tracker,
         turns: PEER,
     };
+    let opener = HeardBy {
+        opener: &dialer,
+        heard,
+        is_gone: false,
+    };
     if let Ok(mut client) = Talk::new(tracker, FORWARDS) {
-        serve(rt, alloc, calling, &dialer, gate, &mut client);
+        serve(rt, alloc, calling, &opener, gate, &mut client);
     }
 }
 
 impl Crowd<'_> {
     // Sends a request that is held.
     fn come_first<R: Wait>(&self, rt: &R, alloc: Global, calling: &mut Calling<Talk>) {
-        forward(rt, alloc, calling, self.tracker, self);
+        let heard = Heard::new(alloc);
+        forward(rt, alloc, calling, self.tracker, self, &heard);
     }
 
     // Waits until all are there, sends a further request, and lets all go.
@@ -76,7 +89,9 @@ impl Crowd<'_> {
             self.arrived
                 .park_timeout(rt, (arrived % (1 << 32)) as u32, limit);
         }
-        forward(rt, alloc, calling, self.tracker, &Open);
+        let heard = Heard::new(alloc);
+        forward(rt, alloc, calling, self.tracker, &Open, &heard);
+        self.is_heard.store(heard.is(UNSERVED), Ordering::SeqCst);
         self.may_go.store(1, Ordering::SeqCst);
         self.may_go.wake_all();
     }
@@ -135,6 +150,7 @@ fn assert_closed<R: Threads + Wait + Sync + Abort>(
     let ends = crowd.tracker.ends();
     assert_eq!(rt; (ends.made, ends.done, ends.strayed), (65, 65, 0));
     assert_eq!(rt; ends.given_up, 1);
+    assert!(rt; crowd.is_heard.load(Ordering::SeqCst));
 }
 
 #[test]
@@ -143,6 +159,7 @@ fn no_seat(rt: HostRuntime) -> Result<(), Fail> {
     let crowd = Crowd {
         arrived: AtomicU64::new(0),
         may_go: AtomicU64::new(0),
+        is_heard: AtomicBool::new(false),
         tracker: &tracker,
     };
     assert_closed(&rt, rt.alloc(), &crowd, callings(rt.alloc())?);

@@ -14,6 +14,8 @@ mod crowd;
 #[cfg(test)]
 mod gates;
 #[cfg(test)]
+mod heard;
+#[cfg(test)]
 mod held;
 #[cfg(test)]
 mod linked;
@@ -25,6 +27,12 @@ mod login_refusals;
 mod messages;
 #[cfg(test)]
 mod node;
+#[cfg(test)]
+mod observers;
+#[cfg(test)]
+mod observers_beside;
+#[cfg(test)]
+mod observers_of_links;
 #[cfg(test)]
 mod owner;
 #[cfg(test)]

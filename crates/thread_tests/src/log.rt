@@ -1,7 +1,7 @@
 //! What happens on the way of a request, one after the other: streams, a desk, an opener and a gate
 //! that log it.
 use lease::{Lease, Ticket};
-use node_threads::{Desk, Gate, Opener, Point};
+use node_threads::{Desk, Gate, NoObserver, Opener, Point};
 use peer_forward::Requester;
 use pg_ids::{DatabaseNo, PeerNo};
 use startup::Packet;
@@ -223,11 +223,17 @@ impl<'a> Opener for Dialer<'a> {
 
     type Stream = Wire<'a>;
 
+    type Observer = NoObserver;
+
     ghost connects = { λ _ _ _. ⊤ };
 
     ghost cancels = { λ _ _ _. ⊤ };
 
     ghost reaches = { λ _ _ _. ⊤ };
+
+    fn observer(&self) -> &NoObserver {
+        &NoObserver
+    }
 
     fn server<R: Wait>(&self, _rt: &R, database: DatabaseNo) -> io::Result<Wire<'a>> {
         self.log.add(Event::Server(database.get()));

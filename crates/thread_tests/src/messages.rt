@@ -50,6 +50,9 @@ pub(crate) const LOGIN: &[u8] = b"R\0\0\0\x08\0\0\0\0\
     K\0\0\0\x0c\x21\x22\x23\x24\x25\x26\x27\x28\
     Z\0\0\0\x05I";
 
+// The number of the server's process in it.
+pub(crate) const PROCESS: u32 = 0x2122_2324;
+
 // CancelRequest with the key of the owner's link, and with that of peer 3, secret 1, and two hops.
 const CANCEL: &[u8] = b"\0\0\0\x10\x04\xd2\x16\x2e\x11\x12\x13\x14\x15\x16\x17\x18";
 

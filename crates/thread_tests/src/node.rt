@@ -126,10 +126,12 @@ impl Node {
         key: AnyKey,
     ) {
         let context = Context { rt, gate };
+        let observer = opener.observer();
         let opener = SingleUse { opener };
         let (caller, counting) = (&mut self.caller, &mut self.counting);
         serve_cancel(
             context,
+            observer,
             &self.shared,
             caller,
             counting,

@@ -2,6 +2,7 @@
 //! `tools/refused_memory` does it: what each gets then, and that nothing stays held. A connection
 //! that is refused memory gets less than all, and no other does.
 use crate::calls::{assert_spent, calls_of};
+use crate::heard::Counts;
 use crate::messages::{
     BEGIN, BEGUN, COMMIT, COMMITTED, IDLE, LOGIN, OPEN, QUERY, ROW, STARTUP, TERMINATE, WELCOME,
 };
@@ -130,18 +131,21 @@ impl Write for Server {
 #[derive(Drop)]
 pub(crate) struct Servers {
     ended: Arc<Cell<u32>, Global>,
+    counts: Counts,
 }
 
 impl Servers {
     pub(crate) fn new(alloc: Global) -> Result<Servers, AllocError> {
         let ended = Arc::new(alloc, Cell::new(0))?;
-        Ok(Servers { ended })
+        let counts = Counts::new();
+        Ok(Servers { ended, counts })
     }
 
-    // The same.
+    // The same, with counts of its own.
     fn again(&self) -> Result<Servers, AllocError> {
         let ended = Arc::try_clone(&self.ended)?;
-        Ok(Servers { ended })
+        let counts = Counts::new();
+        Ok(Servers { ended, counts })
     }
 
     // How many requests have ended cleanly.
@@ -165,11 +169,17 @@ impl Opener for Servers {
 
     type Stream = Server;
 
+    type Observer = Counts;
+
     ghost connects = { λ _ _ _. ⊤ };
 
     ghost cancels = { λ _ _ _. ⊤ };
 
     ghost reaches = { λ _ _ _. ⊤ };
+
+    fn observer(&self) -> &Counts {
+        &self.counts
+    }
 
     fn server<R: Wait>(&self, _rt: &R, _database: DatabaseNo) -> io::Result<Server> {
         self.connect(ANSWERS)
@@ -444,6 +454,8 @@ fn assert_served<R: Wait + Abort>(
     assert_eq!(rt; gate.other.get(), 0);
     assert_closed(rt, calling.caller(), whole);
     assert_spent(rt, calling.caller());
+    servers.counts.assert_even(rt);
+    gate.servers.counts.assert_even(rt);
     let requests = gate.into_calling();
     assert_reported(rt, requests.caller(), servers.ended());
     assert_spent(rt, requests.caller());

@@ -1,10 +1,13 @@
 //! Requests that are carried and reported, over streams that log what happens to them.
 ghost use Rattle.std.specs.Prelude.{◌≡◌, ◌+◌, ◌<◌};
 
+use crate::heard::{Heard, Notice, assert_heard};
 use crate::log::{Event, Log, LoggedDesk, Marks, Reply, Wire, assert_logged};
 use lease::{Lease, LinkPlace, LinkRecord, Permit, PermitRecord, Ticket, TicketRecord};
-use node_threads::{Context, Desk, DeskCall, ListDesk, Open, Point, Requested, relay, report};
-use peer_forward::Outcome;
+use node_threads::{
+    Context, Desk, DeskCall, ListDesk, NoObserver, Open, Point, Requested, relay, report,
+};
+use peer_forward::{Outcome, Verdict};
 use pg_ids::{DatabaseNo, LinkNo, PeerNo};
 use startup::Packet;
 use std::alloc::Global;
@@ -92,6 +95,7 @@ fn happens(
 
 fn assert_reported(
     rt: &(impl Abort + Wait),
+    alloc: Global,
     log: &Log,
     peer: PeerNo,
     room: usize,
@@ -106,14 +110,21 @@ fn assert_reported(
     let mut server = Wire::new(log, room, reply);
     let ticket = Ticket::new(ticket_record(peer));
     let gate = Marks(log);
+    let heard = Heard::new(alloc);
     let outcome = report(
         Context { rt, gate: &gate },
+        &heard,
         &mut desk,
         &mut server,
         ticket,
         PACKET,
     );
     assert_eq!(rt; outcome, expected);
+    assert_heard(
+        rt,
+        &heard,
+        &[Notice::CancelEnded(Verdict::Carried(outcome))],
+    );
 }
 
 // Each request is reported by its own ticket, after it was carried and before the requester learns
@@ -123,7 +134,7 @@ fn reports(rt: HostRuntime) -> Result<(), Fail> {
     let peer = PeerNo::new(2).ok_or("no peer 2")?;
     for (room, reply, outcome, written) in STREAMS {
         let log = Log::new(rt.alloc());
-        assert_reported(&rt, &log, peer, room, reply, outcome);
+        assert_reported(&rt, rt.alloc(), &log, peer, room, reply, outcome);
         let between = [Event::Passed(Point::Carried), told(outcome)];
         let events = happens(rt.alloc(), written, &between, outcome)?;
         assert_logged(&rt, &log, events.as_slice());
@@ -131,17 +142,31 @@ fn reports(rt: HostRuntime) -> Result<(), Fail> {
     Ok(())
 }
 
-fn assert_relayed(rt: &impl Abort, log: &Log, room: usize, reply: Reply, expected: Outcome) {
+fn assert_relayed(
+    rt: &impl Abort,
+    alloc: Global,
+    log: &Log,
+    room: usize,
+    reply: Reply,
+    expected: Outcome,
+) {
+    let heard = Heard::new(alloc);
     let mut requester = Wire::new(log, 16, Reply::End);
     let mut peer = Wire::new(log, room, reply);
-    assert_eq!(rt; relay(&mut requester, &mut peer, PACKET), expected);
+    let outcome = relay(&heard, &mut requester, &mut peer, PACKET);
+    assert_eq!(rt; outcome, expected);
+    assert_heard(
+        rt,
+        &heard,
+        &[Notice::CancelEnded(Verdict::Carried(outcome))],
+    );
 }
 
 #[test]
 fn relays(rt: HostRuntime) -> Result<(), Fail> {
     for (room, reply, outcome, written) in STREAMS {
         let log = Log::new(rt.alloc());
-        assert_relayed(&rt, &log, room, reply, outcome);
+        assert_relayed(&rt, rt.alloc(), &log, room, reply, outcome);
         let events = happens(rt.alloc(), written, &[], outcome)?;
         assert_logged(&rt, &log, events.as_slice());
     }
@@ -164,6 +189,7 @@ fn report_failed<R: Wait + Abort>(
     let mut server = Wire::new(log, 16, Reply::Fails);
     let outcome = report(
         Context { rt, gate: &Open },
+        &NoObserver,
         &mut desk,
         &mut server,
         Ticket::new(ticket_record(peer)),

@@ -8,7 +8,8 @@ use link_pool::Claim;
 use locked_node::{Caller as LockCaller, Journal, Shared};
 use node_core::NodeCore;
 use node_threads::{
-    Admission, Context, Counting, Gate, Link, Service, SingleUse, serve_cancel, serve_client,
+    Admission, Context, Counting, Gate, Link, Opener, Service, SingleUse, serve_cancel,
+    serve_client,
 };
 use pg_frames::{Cutter, MessageLimit};
 use pg_ids::{AnyKey, Boot, DatabaseNo, Kind, PeerNo, Secret};
@@ -98,6 +99,23 @@ impl Node {
         requires database { 0 < length caller.old.start.view.pools }
         ensures { (caller.new.lock ≡ caller.old.lock) × (caller.new.start ≡ caller.old.start) }
     {
+        self.serve_over(rt, caller, gate, &visit.dialer(), visit.secret, client);
+    }
+
+    // The same over the links of this opener, with this secret.
+    pub(crate) fn serve_over<R: Wait, G: Gate, O: Opener<Stream = Talk>, C: Read + Write>(
+        &self,
+        rt: &R,
+        caller: &mut Caller,
+        gate: &G,
+        opener: &O,
+        secret: Secret,
+        client: &mut C,
+    )
+        requires own { caller.old.lock ≡ self.now.lock }
+        requires database { 0 < length caller.old.start.view.pools }
+        ensures { (caller.new.lock ≡ caller.old.lock) × (caller.new.start ≡ caller.old.start) }
+    {
         let alloc = self.alloc;
         let mut cutter = Cutter::new(alloc);
         let service = Service {
@@ -108,10 +126,10 @@ impl Node {
             reports: &Reports::new(alloc),
             limit: &MessageLimit::DEFAULT,
             admission: &self.admission,
-            opener: &visit.dialer(),
+            opener,
             gate,
         };
-        let (secret, kind) = (visit.secret, Kind::Short);
+        let kind = Kind::Short;
         serve_client(service, caller, client, &mut cutter, PLAIN, secret, kind);
     }
 
@@ -137,6 +155,7 @@ impl Node {
         let key = AnyKey::from_short_bytes(key);
         serve_cancel(
             context,
+            dialer.observer(),
             &self.lock,
             caller,
             &mut counting,

@@ -70,7 +70,26 @@ where
     G: Gate,
     C: WriteCalls + ReadCalls + Requester + Arrival,
 {
-    let (context, reports) = (Context { rt, gate }, Reports::new(alloc));
     let limit = MessageLimit::DEFAULT;
-    serve_connection(context, alloc, calling, opener, &reports, &limit, client);
+    serve_within(rt, alloc, calling, opener, gate, client, &limit);
+}
+
+// The same with this limit of a message.
+pub(crate) fn serve_within<R, O, G, C>(
+    rt: &R,
+    alloc: Global,
+    calling: &mut Calling<O::Stream>,
+    opener: &O,
+    gate: &G,
+    client: &mut C,
+    limit: &MessageLimit,
+)
+where
+    R: Wait,
+    O: Opener,
+    G: Gate,
+    C: WriteCalls + ReadCalls + Requester + Arrival,
+{
+    let (context, reports) = (Context { rt, gate }, Reports::new(alloc));
+    serve_connection(context, alloc, calling, opener, &reports, limit, client);
 }

@@ -1,17 +1,22 @@
 //! What a client reads whose login finds no memory.
 use crate::calls::{assert_calls, assert_spent};
+use crate::heard::{Heard, Notice, assert_heard};
 use crate::messages::{IDLE, STARTUP, Script, TERMINATE};
 use crate::refused::{Servers, behind_key, visit};
 use crate::scene::all_done;
 use crate::scene_node::{Node, Visit};
 use crate::story::{NODE, SEED, calling};
 use crate::talk::Turn;
-use crate::tracked::Tracker;
+use crate::tracked::{Talk, Tracker};
 use ini_config::read_settings;
 use locked_node::CallAnswer;
-use node_threads::{Admission, Open};
-use pg_ids::{Boot, Secret};
+use node_threads::{Admission, Open, Opener};
+use pg_ids::{Boot, DatabaseNo, PeerNo, Secret};
+use startup::ErrorCode;
 use std::alloc::AllocError;
+use std::io;
+use std::io::ErrorKind;
+use std::sync::Wait;
 use std::test::Fail;
 
 // The error of out of memory, by the manual's "Error and Notice Message Fields".
@@ -71,6 +76,42 @@ const TOLD: Script = Script {
     server: &[],
 };
 
+// An opener that connects to nothing, with this observer.
+#[derive(Drop)]
+struct Unconnected<'a> {
+    heard: &'a Heard,
+}
+
+impl Opener for Unconnected<'_> {
+    ghost use Rattle.std.specs.Prelude.{⊤};
+
+    type Stream = Talk;
+
+    type Observer = Heard;
+
+    ghost connects = { λ _ _ _. ⊤ };
+
+    ghost cancels = { λ _ _ _. ⊤ };
+
+    ghost reaches = { λ _ _ _. ⊤ };
+
+    fn observer(&self) -> &Heard {
+        self.heard
+    }
+
+    fn server<R: Wait>(&self, _rt: &R, _database: DatabaseNo) -> io::Result<Talk> {
+        Err(io::Error::from(ErrorKind::ConnectionRefused))
+    }
+
+    fn cancel<R: Wait>(&self, _rt: &R, _database: DatabaseNo) -> io::Result<Talk> {
+        Err(io::Error::from(ErrorKind::ConnectionRefused))
+    }
+
+    fn peer<R: Wait>(&self, _rt: &R, _peer: PeerNo) -> io::Result<Talk> {
+        Err(io::Error::from(ErrorKind::ConnectionRefused))
+    }
+}
+
 // With the semaphores of another node, among which there is none for its database, a session is
 // answered as if there were no memory for its state there. Its client reads the whole error, and
 // leaves.
@@ -89,7 +130,10 @@ fn a_client_is_told(rt: HostRuntime) -> Result<(), Fail> {
     let Some(mut client) = told.client() else {
         return Err(Fail::from(AllocError));
     };
-    node.serve(&rt, &mut caller, &Open, &told, &mut client);
+    let heard = Heard::new(rt.alloc());
+    let opener = Unconnected { heard: &heard };
+    node.serve_over(&rt, &mut caller, &Open, &opener, told.secret, &mut client);
+    assert_heard(&rt, &heard, &[Notice::LoginRefused(ErrorCode::OutOfMemory)]);
     drop(client);
     assert_eq!(rt; tracker.ends(), all_done(1));
     let calls = [(CallAnswer::Joined, 1), (CallAnswer::Left, 1)];

@@ -1,6 +1,6 @@
 //! A stream that plays one side of a conversation in any thread, and what becomes of such streams.
 use crate::talk::{Turn, is_error, is_out_of_memory};
-use node_threads::Opener;
+use node_threads::{NoObserver, Opener};
 use peer_forward::{Arrival, Asks, Requester};
 use pg_ids::{DatabaseNo, PeerNo};
 use startup::StartupError;
@@ -254,7 +254,7 @@ impl Write for Talk {
     }
 }
 
-// What connects to servers and poolers that take these turns.
+// What connects to servers and poolers that take these turns. Without turns it can't connect.
 #[derive(Drop)]
 pub(crate) struct Dialer<'a> {
     pub(crate) tracker: &'a Arc<Tracker, Global>,
@@ -263,6 +263,9 @@ pub(crate) struct Dialer<'a> {
 
 impl Dialer<'_> {
     fn dial(&self) -> io::Result<Talk> {
+        if self.turns.is_empty() {
+            return Err(io::Error::from(ErrorKind::ConnectionRefused));
+        }
         Ok(Talk::new(self.tracker, self.turns)?)
     }
 }
@@ -272,11 +275,17 @@ impl Opener for Dialer<'_> {
 
     type Stream = Talk;
 
+    type Observer = NoObserver;
+
     ghost connects = { λ _ _ _. ⊤ };
 
     ghost cancels = { λ _ _ _. ⊤ };
 
     ghost reaches = { λ _ _ _. ⊤ };
+
+    fn observer(&self) -> &NoObserver {
+        &NoObserver
+    }
 
     fn server<R: Wait>(&self, _rt: &R, _database: DatabaseNo) -> io::Result<Talk> {
         self.dial()

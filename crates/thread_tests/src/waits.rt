@@ -3,6 +3,7 @@ ghost use Rattle.std.specs.Thread.{IsSync};
 
 use crate::calls::calls_of;
 use crate::gates::{Asking, Marks, sees};
+use crate::heard::{Heard, HeardBy, Notice};
 use crate::messages::{IDLE, LOGIN, QUERY, ROW, SERVES_ONE, STARTUP, TERMINATE, WELCOME, asks};
 use crate::shown::{CONSOLE, SHOW_CLIENTS};
 use crate::story::{SEED, TWO_SLOTS, calling, serve};
@@ -15,7 +16,7 @@ use pg_ids::Boot;
 use std::alloc::Global;
 use std::io::{Read, Write};
 use std::process::Abort;
-use std::sync::atomic::Ordering;
+use std::sync::atomic::{AtomicU64, Ordering};
 use std::sync::{Arc, Wait};
 use std::test::Fail;
 use std::thread::Threads;
@@ -84,9 +85,12 @@ struct Scene<'a> {
     tracker: &'a Arc<Tracker, Global>,
     marks: &'a Marks,
     server: &'static [Turn],
-    // The client that waits, and whether it is cancelled.
+    // The client that waits, what its observer hears after its waits, and whether it is cancelled.
     waits: &'static [Turn],
+    heard: &'static [Notice],
     is_cancelled: bool,
+    // How many waits it heard of.
+    heard_waits: &'a AtomicU64,
 }
 
 impl Scene<'_> {
@@ -122,13 +126,47 @@ fn keep<R: Wait>(rt: &R, scene: Scene<'_>, mut calling: Calling<Talk>) -> Callin
     calling
 }
 
+// The turns of a server that isn't there.
+const NO_SERVER: &[Turn] = &[];
+
+// A client is served whose links can't be opened, and heard.
+fn serve_heard<R: Wait>(
+    rt: &R,
+    alloc: Global,
+    calling: &mut Calling<Talk>,
+    tracker: &Arc<Tracker, Global>,
+    client: &mut Asking<'_>,
+    heard: &Heard,
+) {
+    let dialer = Dialer {
+        tracker,
+        turns: NO_SERVER,
+    };
+    let opener = HeardBy {
+        opener: &dialer,
+        heard,
+        is_gone: false,
+    };
+    serve(rt, alloc, calling, &opener, &Open, client);
+}
+
 // The client that waits.
 fn wait<R: Wait>(rt: &R, scene: Scene<'_>, mut calling: Calling<Talk>) -> Calling<Talk> {
     let _has_link = sees(&scene.marks.has_link);
     if let Ok(talk) = Talk::new(scene.tracker, scene.waits) {
         let mut client = Asking::new(talk, scene.marks);
-        let dialer = scene.dialer(&[]);
-        serve(rt, scene.alloc, &mut calling, &dialer, &Open, &mut client);
+        let heard = Heard::new(scene.alloc);
+        serve_heard(
+            rt,
+            scene.alloc,
+            &mut calling,
+            scene.tracker,
+            &mut client,
+            &heard,
+        );
+        if let Some(waits) = heard.waits(1, scene.heard) {
+            scene.heard_waits.store(waits as u64, Ordering::SeqCst);
+        }
     }
     calling
 }
@@ -226,6 +264,12 @@ fn assert_done(rt: &impl Abort, tracker: &Tracker) {
     );
 }
 
+// The client's observer heard that it waited before it asked, and then in the node's queue.
+#[track_caller]
+fn assert_two_waits(rt: &impl Abort, waits: &AtomicU64) {
+    assert!(rt; waits.load(Ordering::SeqCst) >= 2);
+}
+
 // A client that waits is cancelled. Returns how many requests came before it waited.
 fn cancel_one<R: Threads + Wait + Clock + Sync + Abort>(
     rt: &R,
@@ -233,17 +277,21 @@ fn cancel_one<R: Threads + Wait + Clock + Sync + Abort>(
 ) -> Result<u128, Fail> {
     let tracker = Tracker::new(alloc)?;
     let marks = Marks::new();
+    let heard_waits = AtomicU64::new(0);
     let scene = Scene {
         alloc,
         tracker: &tracker,
         marks: &marks,
         server: SERVES_ONE,
         waits: IS_CANCELLED,
+        heard: &[Notice::SessionEnded(None, None)],
         is_cancelled: true,
+        heard_waits: &heard_waits,
     };
     let first = calling(alloc, TWO_SLOTS, SEED, Boot(9))?;
     let early = cancelled_of(rt, scene, first);
     assert_done(rt, &tracker);
+    assert_two_waits(rt, &heard_waits);
     Ok(early)
 }
 
@@ -300,16 +348,24 @@ fn come_later<R: Threads + Wait + Clock + Sync + Abort>(
 fn others_are_let_in_after_a_queue(rt: HostRuntime) -> Result<(), Fail> {
     let tracker = Tracker::new(rt.alloc())?;
     let marks = Marks::new();
+    let heard_waits = AtomicU64::new(0);
     let scene = Scene {
         alloc: rt.alloc(),
         tracker: &tracker,
         marks: &marks,
         server: TWO,
         waits: IS_SERVED,
+        heard: &[
+            Notice::LinkGiven,
+            Notice::LinkReturned,
+            Notice::SessionEnded(None, None),
+        ],
         is_cancelled: false,
+        heard_waits: &heard_waits,
     };
     let first = calling(rt.alloc(), TWO_SLOTS, SEED, Boot(9))?;
     come_later(&rt, scene, first);
     assert_done(&rt, &tracker);
+    assert_two_waits(&rt, &heard_waits);
     Ok(())
 }

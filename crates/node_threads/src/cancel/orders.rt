@@ -12,7 +12,11 @@ ghost use Rattle.node_threads.specs.Cancelling.{Tries, CountsAll, words_of_refus
 ghost use Rattle.node_threads.specs.Balance.{Balanced, CancelsAtMostOnce};
 
 use crate::cancel::report_unconnected;
-use crate::{CancelOpener, Context, Counting, Gate, LockDesk, Point, Requested, relay, report};
+use crate::observer::process_of;
+use crate::{
+    CancelOpener, CancelOrder, Context, Counting, Gate, LockDesk, Observer, Point, Requested,
+    relay, report,
+};
 use cancel_router::RouteRefusal;
 use lease::Ticket;
 use locked_node::{Caller, Shared};
@@ -26,9 +30,11 @@ use std::sync::Wait;
 /// Serves a cancel connection, once its key was read, to its end: the node gives its order, which
 /// is carried out over a connection of its own and reported, and the connection that the request
 /// came on is finished. What has a word on the board is counted; a seat without allowance counts
-/// nothing. No second connection can be opened: connecting consumes the opener.
-pub fn serve_cancel<R, S, O, G, Q>(
+/// nothing. No second connection can be opened: connecting consumes the opener. The observer is
+/// notified of the order, and of the verdict once the requester's connection is finished.
+pub fn serve_cancel<R, S, O, G, Q, V>(
     context: Context<'_, R, G>,
+    observer: &V,
     shared: &Shared<S>,
     caller: &mut Caller<S>,
     counting: &mut Counting,
@@ -42,6 +48,7 @@ where
     O: CancelOpener,
     G: Gate,
     Q: WriteCalls + Requester,
+    V: Observer<O::Stream>,
     requires own { caller.old.lock ≡ shared.now }
     // One order for this key, which is carried out over a connection that was opened for it,
     // reported if it has a ticket, and counted. The requester's connection is finished by its
@@ -60,6 +67,7 @@ where
 {
     match shared.cancel(context.rt, caller, key) {
         Order::Serve(ticket, database, server) => {
+            observer.cancel_ordered(CancelOrder::Server(database, process_of(server)));
             counting.count(Counter::Sent);
             let packet = server_request(server);
             let request = Request {
@@ -67,17 +75,26 @@ where
                 database,
                 packet,
             };
-            let outcome = serve(context, shared, caller, opener, requester, request);
+            let outcome = serve(
+                context, observer, shared, caller, opener, requester, request,
+            );
             count_outcome(counting, outcome);
         }
         Order::Forward(peer, packet) => {
+            observer.cancel_ordered(CancelOrder::Peer(peer));
             counting.count(Counter::Forwarded);
-            let _outcome = forward(context, opener, requester, peer, packet);
+            let _outcome = forward(context, observer, opener, requester, peer, packet);
         }
-        Order::Unwait(_) => finish(requester, Verdict::Unwaited),
+        Order::Unwait(_) => {
+            observer.cancel_ordered(CancelOrder::Unwait);
+            finish(requester, Verdict::Unwaited);
+            observer.cancel_ended(Verdict::Unwaited);
+        }
         Order::Refused(refusal) => {
+            observer.cancel_ordered(CancelOrder::Refused(refusal));
             count_refusal(counting, refusal);
             finish(requester, Verdict::Refused);
+            observer.cancel_ended(Verdict::Refused);
         }
     }
 }
@@ -91,8 +108,9 @@ struct Request {
 
 // Carries a request to the server of its database, and reports to the node how that ended: as
 // failed if the server can't be connected to.
-fn serve<R, S, O, G, Q>(
+fn serve<R, S, O, G, Q, V>(
     context: Context<'_, R, G>,
+    observer: &V,
     shared: &Shared<S>,
     caller: &mut Caller<S>,
     opener: O,
@@ -105,6 +123,7 @@ where
     O: CancelOpener,
     G: Gate,
     Q: WriteCalls + Requester,
+    V: Observer<O::Stream>,
     requires own { caller.old.lock ≡ shared.now }
     ensures told { Tells (reported result request.ticket) caller.old caller.new }
     ensures finished { FinishesCarried
@@ -119,10 +138,13 @@ where
     } = request;
     context.gate.pass(context.rt, Point::Ordered);
     let Ok(mut server) = opener.cancel(context.rt, database) else {
-        return fail_at_lock(context, shared, caller, requester, ticket);
+        let outcome = fail_at_lock(context, shared, caller, requester, ticket);
+        observer.cancel_ended(Verdict::NoConnect);
+        return outcome;
     };
     report_at_lock(
         context,
+        observer,
         shared,
         caller,
         requester,
@@ -156,8 +178,9 @@ where
 }
 
 // Carries the request of a ticket to its server, and reports to the node how that ended.
-fn report_at_lock<R, S, G, Q, T>(
+fn report_at_lock<R, S, G, Q, T, V>(
     context: Context<'_, R, G>,
+    observer: &V,
     shared: &Shared<S>,
     caller: &mut Caller<S>,
     requester: &mut Q,
@@ -171,6 +194,7 @@ where
     G: Gate,
     Q: WriteCalls + Requester,
     T: WriteCalls + ReadCalls,
+    V: Observer<T>,
     requires own { caller.old.lock ≡ shared.now }
     ensures carried { Carried T.wrote T.gave server.old (packet_bytes request) result server.new }
     ensures told { Tells (reported result ticket) caller.old caller.new }
@@ -178,12 +202,13 @@ where
 {
     let desk = LockDesk { shared, caller };
     let mut desk = Requested { desk, requester };
-    report(context, &mut desk, server, ticket, request)
+    report(context, observer, &mut desk, server, ticket, request)
 }
 
 // Carries a request to a peer.
-fn forward<R, O, G, Q>(
+fn forward<R, O, G, Q, V>(
     context: Context<'_, R, G>,
+    observer: &V,
     opener: O,
     requester: &mut Q,
     peer: PeerNo,
@@ -194,6 +219,7 @@ where
     O: CancelOpener,
     G: Gate,
     Q: WriteCalls + Requester,
+    V: Observer<O::Stream>,
     ensures finished { FinishesCarried
         (IsCarried ⟦<O::Stream as WriteCalls>⟧.wrote ⟦<O::Stream as ReadCalls>⟧.gave
         (O.reaches opener) peer (packet_bytes packet))
@@ -202,9 +228,10 @@ where
     context.gate.pass(context.rt, Point::Ordered);
     let Ok(mut stream) = opener.peer(context.rt, peer) else {
         finish(requester, Verdict::NoConnect);
+        observer.cancel_ended(Verdict::NoConnect);
         return Outcome::Failed;
     };
-    relay(requester, &mut stream, packet)
+    relay(observer, requester, &mut stream, packet)
 }
 
 // The CancelRequest that a server takes for a backend with this key.

@@ -7,17 +7,18 @@ ghost use Rattle.peer_forward.specs.declared.outcome.Outcome.TheVariants as outc
 ghost use Rattle.peer_forward.specs.declared.verdict.Verdict.TheVariants as verdict;
 ghost use Rattle.node_threads.specs.Desks.{reported};
 
-use crate::{Context, Gate, Point, RequestDesk};
+use crate::{Context, Gate, Observer, Point, RequestDesk};
 use lease::Ticket;
 use peer_forward::{Outcome, ReadCalls, Requester, Verdict, WriteCalls, carry, finish};
 use startup::Packet;
 use std::sync::Wait;
 
 /// Carries the request of a ticket to the link's server, reports to the desk how that ended, and
-/// finishes the connection that the request came on. The gate is passed at `Carried` before the
-/// desk is called.
-pub fn report<R, S, D, G, T>(
+/// finishes the connection that the request came on, of which the observer is notified. The gate is
+/// passed at `Carried` before the desk is called.
+pub fn report<R, S, D, G, T, V>(
     context: Context<'_, R, G>,
+    observer: &V,
     desk: &mut D,
     server: &mut T,
     ticket: Ticket,
@@ -28,6 +29,7 @@ where
     D: RequestDesk<S>,
     G: Gate,
     T: WriteCalls + ReadCalls,
+    V: Observer<T>,
     requires ready { D.ready desk.old }
     ensures carried { Carried T.wrote T.gave server.old (packet_bytes packet) result server.new }
     // One call, with the request's own ticket: it has ended exactly where the carrying has. After
@@ -43,6 +45,7 @@ where
         Outcome::Failed => desk.failed(rt, ticket),
     }
     desk.finish(Verdict::Carried(outcome));
+    observer.cancel_ended(Verdict::Carried(outcome));
     outcome
 }
 
@@ -70,15 +73,18 @@ where
     Outcome::Failed
 }
 
-/// Carries a request to another pooler, and finishes the connection that it came on.
-pub fn relay<Q, T>(requester: &mut Q, peer: &mut T, packet: Packet) -> Outcome
+/// Carries a request to another pooler, and finishes the connection that it came on, of which the
+/// observer is notified.
+pub fn relay<Q, T, V>(observer: &V, requester: &mut Q, peer: &mut T, packet: Packet) -> Outcome
 where
     Q: WriteCalls + Requester,
     T: WriteCalls + ReadCalls,
+    V: Observer<T>,
     ensures carried { Carried T.wrote T.gave peer.old (packet_bytes packet) result peer.new }
     ensures finished { Finishes Q.wrote Q.takes requester.old (verdict.Carried result) requester.new }
 {
     let outcome = carry(peer, packet);
     finish(requester, Verdict::Carried(outcome));
+    observer.cancel_ended(Verdict::Carried(outcome));
     outcome
 }

@@ -7,7 +7,7 @@ use lease::{Lease, Ticket};
 use std::sync::Wait;
 
 /// A node behind its lock, where a client's session hands its lease in. Where the next message on a
-/// link that is closed is above the limit, it reports that to the opener. The stream of a link is a
+/// link that is closed is above the limit, it notifies the opener's observer. The stream of a link is a
 /// type parameter without bounds that reads or writes, so no call is made on it here.
 #[derive(Drop)]
 pub(crate) struct SessionDesk<'a, O, L> {

@@ -7,7 +7,7 @@ ghost use Rattle.node_threads.specs.ConsoleSession.{Takes, TakesQuery, Queries, 
 
 use crate::session::admin_input::next_message;
 use crate::session::admin_replies::{query_of, reply, texts};
-use crate::{Calling, Link, Node};
+use crate::{Calling, Link, Node, Observer, SessionEnd};
 use locked_node::Caller;
 use peer_forward::{ReadCalls, WriteCalls, write_whole};
 use pg_frames::{Cutter, Frame};
@@ -22,9 +22,10 @@ pub const CONSOLE: &str = "pgbouncer";
 /// Serves a session on the console from its login to its end. Its client has no pass, and gets no
 /// key. It is answered by a copy of the node's state, and the node's steps aren't counted.
 #[inline(never)]
-pub fn serve_console<R: Wait, L: Drop, C: WriteCalls + ReadCalls>(
+pub fn serve_console<R: Wait, L: Drop, C: WriteCalls + ReadCalls, V: Observer<L>>(
     rt: &R,
     alloc: Global,
+    observer: &V,
     reports: &Reports,
     calling: &mut Calling<L>,
     client: &mut C,
@@ -39,19 +40,40 @@ pub fn serve_console<R: Wait, L: Drop, C: WriteCalls + ReadCalls>(
         cutter.old.limit reports.now settings calling.old.caller cutter.old.bytes calls
         cutter.new.bytes)) }
 {
-    if greet(alloc, reports, client) {
+    let mut code = None;
+    if greet(alloc, reports, client, &mut code) {
+        observer.console_logged_in();
         let node = &calling.node;
-        serve_queries(rt, alloc, node, &mut calling.caller, client, cutter);
+        serve_queries(
+            rt,
+            alloc,
+            node,
+            &mut calling.caller,
+            client,
+            cutter,
+            &mut code,
+        );
+        let refusal = None;
+        observer.session_ended(SessionEnd { code, refusal });
+    } else if let Some(code) = code {
+        observer.login_refused(code);
     }
 }
 
-// Writes the messages of a login. Returns whether the session goes on.
-fn greet<C: WriteCalls + ReadCalls>(alloc: Global, reports: &Reports, client: &mut C) -> bool
+// Writes the messages of a login. Returns whether the session goes on. The code of an error that
+// ends it is noted, here and below.
+fn greet<C: WriteCalls + ReadCalls>(
+    alloc: Global,
+    reports: &Reports,
+    client: &mut C,
+    code: &mut Option<ErrorCode>,
+) -> bool
     ensures { SomeCalls C.wrote C.gave client.old client.new (GreetsConsole reports.now result) }
 {
     let mut login = Vec::new(alloc);
     if write_login(None, reports, &mut login).is_err() {
         refuse(alloc, client, ErrorCode::OutOfMemory);
+        *code = Some(ErrorCode::OutOfMemory);
         return false;
     }
     write_whole(client, login.as_slice())
@@ -65,6 +87,7 @@ fn serve_queries<R: Wait, L: Drop, C: WriteCalls + ReadCalls>(
     caller: &mut Caller<Link<L>>,
     client: &mut C,
     cutter: &mut Cutter,
+    code: &mut Option<ErrorCode>,
 )
     requires own { caller.old.lock ≡ node.now.shared }
     ensures same { caller.new ≡ caller.old }
@@ -73,10 +96,10 @@ fn serve_queries<R: Wait, L: Drop, C: WriteCalls + ReadCalls>(
         caller.old cutter.old.bytes calls cutter.new.bytes)) }
 {
     for _ in rt.forever() {
-        let Some(message) = next_message(rt, alloc, client, cutter) else {
+        let Some(message) = next_message(rt, alloc, client, cutter, code) else {
             return;
         };
-        if !serve_message(rt, alloc, node, caller, client, &message) {
+        if !serve_message(rt, alloc, node, caller, client, &message, code) {
             return;
         }
     }
@@ -91,6 +114,7 @@ fn serve_message<R: Wait, L: Drop, C: WriteCalls + ReadCalls>(
     caller: &mut Caller<Link<L>>,
     client: &mut C,
     message: &Frame,
+    code: &mut Option<ErrorCode>,
 ) -> bool
     requires own { caller.old.lock ≡ node.now.shared }
     ensures same { caller.new ≡ caller.old }
@@ -99,10 +123,19 @@ fn serve_message<R: Wait, L: Drop, C: WriteCalls + ReadCalls>(
         (Takes settings caller.old message.now result)) }
 {
     match message.kind {
-        b'Q' => serve_query(rt, alloc, node, caller, client, message.body.as_slice()),
+        b'Q' => serve_query(
+            rt,
+            alloc,
+            node,
+            caller,
+            client,
+            message.body.as_slice(),
+            code,
+        ),
         b'X' => false,
         _ => {
             refuse(alloc, client, ErrorCode::FeatureNotSupported);
+            *code = Some(ErrorCode::FeatureNotSupported);
             false
         }
     }
@@ -116,6 +149,7 @@ fn serve_query<R: Wait, L: Drop, C: WriteCalls + ReadCalls>(
     caller: &mut Caller<Link<L>>,
     client: &mut C,
     body: &[u8],
+    code: &mut Option<ErrorCode>,
 ) -> bool
     requires own { caller.old.lock ≡ node.now.shared }
     ensures same { caller.new ≡ caller.old }
@@ -125,6 +159,7 @@ fn serve_query<R: Wait, L: Drop, C: WriteCalls + ReadCalls>(
 {
     let Some(query) = query_of(body) else {
         refuse(alloc, client, ErrorCode::ProtocolViolation);
+        *code = Some(ErrorCode::ProtocolViolation);
         return false;
     };
     let Ok(frames) = reply(rt, alloc, node, caller, query) else {

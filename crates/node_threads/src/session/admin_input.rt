@@ -15,12 +15,13 @@ use std::sync::Wait;
 const MAX_READ: usize = 4_096;
 
 /// Reads the client's next message. There is none where the session ends before that is whole; a
-/// client whose bytes are no message has been told so then.
+/// client whose bytes are no message has been told so then, and the code of that error is noted.
 pub(crate) fn next_message<R: Wait, C: WriteCalls + ReadCalls>(
     rt: &R,
     alloc: Global,
     client: &mut C,
     cutter: &mut Cutter,
+    code: &mut Option<ErrorCode>,
 ) -> Option<Frame>
     ensures awaits { SomeCalls C.wrote C.gave client.old client.new (λ calls. Awaits
         cutter.old.limit cutter.old.bytes calls result cutter.new.bytes) }
@@ -33,7 +34,7 @@ pub(crate) fn next_message<R: Wait, C: WriteCalls + ReadCalls>(
         if let Some(message) = found {
             return Some(message);
         }
-        if !read_more(alloc, client, cutter) {
+        if !read_more(alloc, client, cutter, code) {
             return None;
         }
     }
@@ -41,7 +42,12 @@ pub(crate) fn next_message<R: Wait, C: WriteCalls + ReadCalls>(
 }
 
 // Reads more of the client. Returns whether the session goes on.
-fn read_more<C: WriteCalls + ReadCalls>(alloc: Global, client: &mut C, cutter: &mut Cutter) -> bool
+fn read_more<C: WriteCalls + ReadCalls>(
+    alloc: Global,
+    client: &mut C,
+    cutter: &mut Cutter,
+    code: &mut Option<ErrorCode>,
+) -> bool
     requires none { BeginsNoFrame cutter.old.limit cutter.old.bytes }
     ensures more { result ≡ true → SomeCalls C.wrote C.gave client.old client.new (λ calls. ReadsOn
         cutter.old.limit cutter.old.bytes calls cutter.new.bytes) }
@@ -52,6 +58,7 @@ fn read_more<C: WriteCalls + ReadCalls>(alloc: Global, client: &mut C, cutter: &
 {
     if cutter.fault().is_some() {
         refuse(alloc, client, ErrorCode::ProtocolViolation);
+        *code = Some(ErrorCode::ProtocolViolation);
         return false;
     }
     let mut buffer = [0; MAX_READ];

@@ -16,8 +16,10 @@ ghost use Rattle.node_threads.specs.declared.session.leases.Acquired.{Acquired a
 use crate::desk::SessionDesk;
 use crate::session::above::tell_of_client;
 use crate::session::leases::{Acquired, acquire};
-use crate::{Entrance, Gate, Link, LockDesk, Opener, Point, Service, Stayed, turn};
-use client_state::{Client, Reply, Request};
+use crate::{
+    Entrance, Gate, Link, LockDesk, Observer, Opener, Point, Service, SessionEnd, Stayed, turn,
+};
+use client_state::{Client, Refusal, Reply, Request};
 use lease::{Lease, Pass};
 use locked_node::{Caller, Shared};
 use node_core::LeaveReply;
@@ -30,8 +32,8 @@ use std::alloc::Global;
 use std::sync::Wait;
 
 /// Serves a client's session on a database from its login to its end: its requests are carried over
-/// links of the node's pool, each lease for one transaction. What is written to it at the end is
-/// written once nothing is held.
+/// links of the node's pool, each lease for one transaction. Once nothing is held, the opener's
+/// observer is notified of the end, and what the client gets then is written.
 pub fn serve_client<R, O, G, C>(
     service: Service<'_, R, Link<O::Stream>, O, G>,
     caller: &mut Caller<Link<O::Stream>>,
@@ -60,16 +62,52 @@ where
     let shared = service.shared;
     let Ok(pass) = shared.join(service.rt, caller, database, secret, kind) else {
         refuse(service.alloc, client, ErrorCode::TooManyConnections);
+        let observer = service.opener.observer();
+        observer.login_refused(ErrorCode::TooManyConnections);
         return;
     };
-    let end = serve_pass(service, caller, client, cutter, database, &pass);
+    let mut ending = Ending {
+        is_logged_in: false,
+        refusal: None,
+    };
+    let end = serve_pass(
+        service,
+        caller,
+        client,
+        cutter,
+        database,
+        &pass,
+        &mut ending,
+    );
     service.admission.forget(service.rt, pass.key().slot());
     leave(service.rt, shared, caller, pass);
+    tell_end(service.opener, ending, &end);
     let _ = write_whole(client, end.as_slice());
 }
 
+// How a session ended, beside what is written to its client then.
+#[derive(Clone, Copy)]
+struct Ending {
+    // Whether its client got its whole login.
+    is_logged_in: bool,
+    refusal: Option<Refusal>,
+}
+
+// Notifies the observer of the end of a session, whose client is written this next.
+#[inline(never)]
+fn tell_end<O: Opener>(opener: &O, ending: Ending, end: &Reply) {
+    let code = end.error_code();
+    let observer = opener.observer();
+    if ending.is_logged_in {
+        let refusal = ending.refusal;
+        observer.session_ended(SessionEnd { code, refusal });
+    } else if let Some(code) = code {
+        observer.login_refused(code);
+    }
+}
+
 // Greets the client of a pass and serves its requests. Returns what is to be written to it at the
-// end.
+// end, and notes how it ended.
 fn serve_pass<R, O, G, C>(
     service: Service<'_, R, Link<O::Stream>, O, G>,
     caller: &mut Caller<Link<O::Stream>>,
@@ -77,6 +115,7 @@ fn serve_pass<R, O, G, C>(
     cutter: &mut Cutter,
     database: DatabaseNo,
     pass: &Pass,
+    ending: &mut Ending,
 ) -> Reply
 where
     R: Wait,
@@ -99,6 +138,8 @@ where
     if let Some(end) = greet(alloc, service.reports, client, pass) {
         return end;
     }
+    ending.is_logged_in = true;
+    service.opener.observer().logged_in(database, slot);
     let mut session = Client::with_limit(alloc, *service.limit, database);
     for _ in service.rt.forever() {
         let ended = serve_request(
@@ -111,6 +152,7 @@ where
             &mut session,
         );
         if let Some(end) = ended {
+            ending.refusal = session.refusal();
             tell_of_client(service.opener, &session, cutter);
             return end;
         }
@@ -260,9 +302,10 @@ where
         let _reply = service.shared.close(service.rt, caller, lease);
         return Some(lost(session));
     }
-    service.opener.attach(lease.stream().stream());
+    let observer = service.opener.observer();
+    observer.link_given(lease.stream().stream());
     let stayed = take_turn(service, caller, client, cutter, session, lease, request);
-    service.opener.detach();
+    observer.link_returned();
     match stayed {
         Stayed::Release | Stayed::Close => None,
         Stayed::End(end) => Some(end),

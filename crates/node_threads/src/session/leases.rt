@@ -9,8 +9,9 @@ ghost use Rattle.node_threads.specs.Meaning.{meaning_of, logins, IsLoggedIn, IsT
 ghost use Rattle.node_threads.specs.Leasing.{hand_of, hand_of_answer, OfLease, OfAnswer, IsAnswer, IsOpened, IsKept};
 ghost use Rattle.node_threads.specs.declared.session.leases.Acquired.{Acquired};
 
+use crate::observer::process_of;
 use crate::opener::Listening;
-use crate::{Entrance, Gate, Link, Opener, Point, Service};
+use crate::{Entrance, Gate, Link, Observer, Opener, Point, Service};
 use lease::{Lease, Pass, Permit};
 use link_pool::{AcquireReply, UpReply};
 use locked_node::Caller;
@@ -56,9 +57,13 @@ pub fn acquire<R: Wait, O: Opener, G: Gate>(
         pass.now result caller.old caller.new }
 {
     if !entrance.try_enter() {
-        service.opener.begin_wait();
-        if entrance.enter(service.rt) && service.opener.is_gone() {
-            return Acquired::Ended;
+        let observer = service.opener.observer();
+        observer.wait_begun();
+        if entrance.enter(service.rt) {
+            observer.waited();
+            if service.opener.is_gone() {
+                return Acquired::Ended;
+            }
         }
     }
     for _ in service.rt.forever() {
@@ -97,9 +102,11 @@ fn ask<R: Wait, O: Opener, G: Gate>(
             Some(unless_gone(service, caller, database, opened))
         }
         AcquireReply::Waiting => {
-            service.opener.begin_wait();
+            let observer = service.opener.observer();
+            observer.wait_begun();
             entrance.queue(service.rt);
             service.shared.wait_turn(service.rt, caller, pass);
+            observer.waited();
             if service.opener.is_gone() {
                 Some(Acquired::Ended)
             } else {
@@ -289,12 +296,24 @@ fn connect_once<R: Wait, O: Opener, G: Gate>(
                 entry.user,
                 entry.dbname,
             );
-            if let Err(LinkError::Refused(refusal)) = &logged {
-                service.opener.refuse_login(database, refusal);
-            }
+            tell_login(service.opener, database, &logged);
             logged
         }
         Err(error) => Err(cause_of(&error)),
+    }
+}
+
+// Tells the observer what came of a login at the server of a database.
+fn tell_login<O: Opener>(
+    opener: &O,
+    database: DatabaseNo,
+    logged: &Result<LoggedIn<O::Stream>, LinkError>,
+) {
+    let observer = opener.observer();
+    match logged {
+        Ok(opened) => observer.link_opened(opened.link.stream(), process_of(opened.key)),
+        Err(LinkError::Refused(refusal)) => observer.link_refused(database, refusal),
+        Err(LinkError::Lost | LinkError::Memory) => {}
     }
 }
 
