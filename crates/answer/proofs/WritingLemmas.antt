@@ -10,7 +10,7 @@ use Rattle.answer.specs.Answer.{IsAnswer, IsFault, WritesFault}
 use Rattle.answer.specs.Printing.{AppendsPart, Change}
 use Rattle.command_line.specs.Arguments.{Text}
 use Rattle.answer.specs.Files.{Folder}
-use Rattle.command_line.specs.Request.{Asked, Key, Decide, Check, CheckAll, World, Help, Version, asked}
+use Rattle.command_line.specs.Request.{Asked, Key, Decide, Check, CheckAll, World, Help, HelpOnHelp, Version, asked}
 
 -- one write more took the first of what was left
 pub takes_more : (a b c : Option (List ℕ)) (bytes rest : List ℕ) (taken count : ℕ)
@@ -41,6 +41,7 @@ memory_may_run_out folder (Some (Check files)) = tt
 memory_may_run_out folder (Some (CheckAll files)) = tt
 memory_may_run_out folder (Some (World file)) = tt
 memory_may_run_out folder (Some (Help topic)) = refl
+memory_may_run_out folder (Some HelpOnHelp) = refl
 memory_may_run_out folder (Some Version) = refl
 
 -- a fault was written, or that memory ran out

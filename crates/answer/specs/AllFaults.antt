@@ -1,7 +1,6 @@
 -- What `check --all` tells of (own): every fault of every file, in order, or that of the group where
 -- no file has one.
-use Rattle.std.specs.Prelude.{ℕ, ◌≡◌, ◌⊎◌, ◌<◌, List, [], Option, Contains, String, length, flat_map, string_bytes, ⊤}
-use Rattle.std.specs.List.{AllZip}
+use Rattle.std.specs.Prelude.{ℕ, ◌≡◌, ◌⊎◌, ◌<◌, List, [], Option, Contains, String, length, string_bytes, ⊤}
 use Rattle.std.specs.Str.Lines.{lines}
 use Rattle.ini_config.specs.Codes.{IsMemory}
 use Rattle.ini_config.specs.Faults.{LineFault, AreFaults}
@@ -9,7 +8,7 @@ use Rattle.ini_config.specs.declared.faults.WholeFault.{WholeFault}
 use Rattle.ini_config.specs.declared.fault.GroupError.{GroupError}
 use Rattle.answer.specs.declared.fault.Fault.{Fault}
 use Rattle.answer.specs.declared.fault.Fault.TheVariants as fault
-use Rattle.answer.specs.Explained.{faults_text, group_fault_text}
+use Rattle.answer.specs.Explained.{IsTold, TellsEach, TellsFile, group_fault_text}
 use Rattle.answer.specs.Files.{Folder, Holds, IsGroupFault, MakeNoGroup}
 use Rattle.ini_config.specs.Node.{NodeSettings}
 use Rattle.std.specs.declared.alloc.Global.{Global}
@@ -21,14 +20,11 @@ pub record TellsFaults (known : Option (List ℕ)) (file told : List ℕ) : Type
   pub in_lines : List LineFault
   pub whole : List WholeFault
   pub faults : AreFaults [] (lines text) in_lines whole
-  pub told_is : told ≡ faults_text file in_lines whole
+  pub tells : TellsFile file in_lines whole told
 
 -- the text tells of all faults of each file, in the order of the files
-pub record TellsAll (holds : List ℕ → Option (List ℕ)) (files : List (List ℕ)) (told : List ℕ)
-    : Type 0 where
-  pub parts : List (List ℕ)
-  pub each : AllZip (λ file part. TellsFaults (holds file) file part) files parts
-  pub told_is : told ≡ flat_map (λ part. part) parts
+abbrev pub TellsAll : (List ℕ → Option (List ℕ)) → List (List ℕ) → List ℕ → Type 0
+TellsAll holds files told = TellsEach (λ file. TellsFaults (holds file) file) files told
 
 -- memory ran out for the file with this name
 abbrev pub IsMemoryOf : List ℕ → Fault → Type 0
@@ -53,14 +49,14 @@ pub record TellsNoGroup (nodes : List NodeSettings) (why : Fault) : Type 0 where
   pub error : GroupError
   pub refused : IsGroupFault nodes error
   pub text : String Global
-  pub text_is : string_bytes text ≡ group_fault_text error
+  pub tells : IsTold (group_fault_text error) (string_bytes text)
   pub why_is : why ≡ fault.Explained text
 
 -- the text tells why files without faults make no group
 pub record TellsGroup (folder : Folder) (files : List (List ℕ)) (told : List ℕ) : Type 0 where
   pub error : GroupError
   pub fault : MakeNoGroup folder files error
-  pub told_is : told ≡ group_fault_text error
+  pub tells : IsTold (group_fault_text error) told
 
 -- Why files make no group, told whole: all faults of the files, of which there are some, or that of
 -- the group; or a file can't be read; or memory ran out.

@@ -15,7 +15,7 @@ use Rattle.node_core.specs.declared.exchange.Order.{Order}
 use Rattle.answer.specs.declared.fault.Fault.{Fault}
 use Rattle.answer.specs.declared.fault.Fault.TheVariants.{Usage, Packet, NotACancel, Memory}
 use Rattle.command_line.specs.Arguments.{Text}
-use Rattle.command_line.specs.Request.{Asked, Decision, Key, Decide, Check, CheckAll, World, Help, Version, asked}
+use Rattle.command_line.specs.Request.{Asked, Decision, Key, Decide, Check, CheckAll, World, Help, HelpOnHelp, Version, asked}
 use Rattle.answer.specs.Decision.{IsDecided}
 use Rattle.answer.specs.Printing.{Change, IsWritten}
 use Rattle.answer.specs.AllFaults.{IsWholeFault}
@@ -107,6 +107,7 @@ IsOutput folder (Some (Check files)) text = IsGroupLine folder.holds files text
 IsOutput folder (Some (CheckAll files)) text = IsGroupLine folder.holds files text
 IsOutput folder (Some (World file)) text = HasOutcome (folder.holds file) text
 IsOutput folder (Some (Help topic)) text = ⊤
+IsOutput folder (Some HelpOnHelp) text = ⊤
 IsOutput folder (Some Version) text = ⊤
 
 -- the arguments ask for nothing, in a free text, or memory ran out
@@ -124,6 +125,7 @@ IsFault folder (Some (Check files)) fault = IsCheckFault folder files fault
 IsFault folder (Some (CheckAll files)) fault = IsWholeFault folder files fault
 IsFault folder (Some (World file)) fault = IsWorldFault folder file fault
 IsFault folder (Some (Help topic)) fault = IsMemoryFault fault
+IsFault folder (Some HelpOnHelp) fault = IsMemoryFault fault
 IsFault folder (Some Version) fault = IsMemoryFault fault
 
 -- the fault was written, or where there was no memory for its text, that memory ran out

@@ -1,6 +1,9 @@
--- What `check --all` writes of each fault: the line of the fault and a sentence (own).
-use Rattle.std.specs.Prelude.{ℕ, List, ◌++◌, codes, flat_map}
+-- What `check --all` writes of each fault: the line of the fault and a sentence, and behind it
+-- lines of free words on its cause (own).
+use Rattle.std.specs.Prelude.{ℕ, ◌≡◌, List, ◌++◌, codes, flat_map}
 use Rattle.std.specs.Fmt.{decimal}
+use Rattle.std.specs.List.{AllZip}
+use Rattle.std.specs.Str.Lines.{lines}
 use Rattle.ini_config.specs.Codes.{ini_number, ini_name, group_number, group_name}
 use Rattle.ini_config.specs.Faults.{Subject, Line, SectionNamed, KeyNamed, EntryNamed, LineFault}
 use Rattle.ini_config.specs.declared.fault.IniCode.{IniCode}
@@ -71,11 +74,46 @@ line_text file fault = explained file fault.line fault.code (sentence fault.code
 abbrev pub whole_text : List ℕ → WholeFault → List ℕ
 whole_text file fault = explained file 0 (whole_code fault) (whole_sentence fault)
 
--- all faults of a file: those of its lines, and those of the whole
-abbrev pub faults_text : List ℕ → List LineFault → List WholeFault → List ℕ
-faults_text file lines faults = flat_map (line_text file) lines ++ flat_map (whole_text file) faults
-
 -- a fault of a group
 abbrev pub group_fault_text : GroupError → List ℕ
 group_fault_text error = decimal (group_number error) ++ codes " " ++ group_name error
     ++ codes ": " ++ group_sentence error ++ codes "\n"
+
+-- ---- with words on causes
+
+-- a line of words, behind two spaces
+abbrev pub note_text : List ℕ → List ℕ
+note_text line = codes "  " ++ line ++ codes "\n"
+
+-- all lines of words
+abbrev pub notes_text : List ℕ → List ℕ
+notes_text words = flat_map note_text (lines words)
+
+-- a fault's line, and words on its cause
+abbrev pub told_text : List ℕ → List ℕ → List ℕ
+told_text line words = line ++ notes_text words
+
+-- the text tells of a fault: it is the fault's line, and some words on its cause, or none
+pub record IsTold (line told : List ℕ) : Type 0 where
+  pub words : List ℕ
+  pub told_is : told ≡ told_text line words
+
+-- the text tells of each of these, in order
+pub record TellsEach {B : Type 0} (tells : B → List ℕ → Type 0) (items : List B) (told : List ℕ)
+    : Type 0 where
+  pub parts : List (List ℕ)
+  pub each : AllZip tells items parts
+  pub told_is : told ≡ flat_map (λ part. part) parts
+
+-- the text tells of all faults of a file: those of its lines, and those of the whole
+pub record TellsFile (file : List ℕ) (faults : List LineFault) (whole : List WholeFault)
+    (told : List ℕ) : Type 0 where
+  pub in_lines : List ℕ
+  pub lines_told : TellsEach (λ fault. IsTold (line_text file fault)) faults in_lines
+  pub in_whole : List ℕ
+  pub whole_told : TellsEach (λ fault. IsTold (whole_text file fault)) whole in_whole
+  pub told_is : told ≡ in_lines ++ in_whole
+
+-- a text grew by one that tells this
+abbrev pub GrowsBy : (List ℕ → Type 0) → List ℕ → List ℕ → Type 0
+GrowsBy Tells old new = (part : List ℕ) × Tells part × (new ≡ old ++ part)

@@ -18,7 +18,7 @@ use crate::fault::Fault;
 use crate::opener::Opener;
 use crate::outcome::outcome_text;
 use crate::output::{Output, is_interrupted};
-use command_line::{Request, Wrong, help, usage, version};
+use command_line::{Request, Wrong, help, help_on_help, usage, version};
 use pg_ids::{AnyKey, LongPart};
 use std::alloc::{AllocError, Global};
 use std::sync::Wait;
@@ -100,6 +100,7 @@ fn output_of<R: Wait, O: Opener>(
         Request::CheckAll(files) => Ok(check_all_line(alloc, opener, &files)?.into_bytes()),
         Request::World(file) => outcome_text(alloc, opener, file),
         Request::Help(topic) => Ok(help(alloc, topic)?.into_bytes()),
+        Request::HelpOnHelp => Ok(help_on_help(alloc)?.into_bytes()),
         Request::Version => Ok(version(alloc)?.into_bytes()),
     }
 }

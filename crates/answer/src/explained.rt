@@ -1,40 +1,61 @@
-//! The faults of settings files, each with a sentence.
-ghost use Rattle.std.specs.Prelude.{◌≡◌, ◌++◌, IfOk, codes, flat_map, string_bytes};
+//! The faults of settings files, each with a sentence and words on its cause.
+ghost use Rattle.std.specs.Prelude.{◌≡◌, ◌++◌, IfOk, codes, string_bytes};
 ghost use Rattle.std.specs.Fmt.{decimal};
 ghost use Rattle.ini_config.specs.Surveyed.{line_faults_seen, line_fault_seen, subject_seen};
-ghost use Rattle.answer.specs.Explained.{entry_words, explained, faults_text, group_fault_text, group_sentence, line_text, line_words, sentence, whole_code, whole_sentence, whole_text};
+ghost use Rattle.answer.specs.Explained.{GrowsBy, IsTold, TellsEach, TellsFile, entry_words, explained, group_fault_text, group_sentence, line_text, line_words, sentence, whole_code, whole_sentence, whole_text};
 
+use crate::causes::{Reading, line_cause, whole_cause};
+use crate::notes::{append_notes, append_told};
 use ini_config::{Faults, GroupError, IniCode, LineFault, Subject, WholeFault};
 use std::alloc::{AllocError, Global};
 
-/// Appends a line for each fault of a file.
+/// Appends a line for each fault of a file that has this text, and words on its cause.
 pub(crate) fn append_faults(
     alloc: Global,
     file: &str,
+    text: &str,
     faults: &Faults<'_>,
     report: &mut String,
 ) -> Result<(), AllocError>
-    ensures { IfOk result (λ _. string_bytes report.new ≡ string_bytes report.old
-        ++ faults_text file.now (line_faults_seen faults.now.lines.items) faults.now.whole.items) }
+    ensures { IfOk result (λ _. GrowsBy
+        (TellsFile file.now (line_faults_seen faults.now.lines.items) faults.now.whole.items)
+        (string_bytes report.old) (string_bytes report.new)) }
 {
-    append_lines(alloc, file, &faults.lines, report)?;
+    append_lines(alloc, file, text, &faults.lines, report)?;
     append_whole(alloc, file, &faults.whole, report)
 }
 
 fn append_lines(
     alloc: Global,
     file: &str,
+    text: &str,
     faults: &[LineFault<'_>],
     report: &mut String,
 ) -> Result<(), AllocError>
-    ensures { IfOk result (λ _. string_bytes report.new ≡ string_bytes report.old
-        ++ flat_map (line_text file.now) (line_faults_seen faults.now)) }
+    ensures { IfOk result (λ _. GrowsBy
+        (TellsEach (λ fault. IsTold (line_text file.now fault)) (line_faults_seen faults.now))
+        (string_bytes report.old) (string_bytes report.new)) }
 {
+    let mut reading = Reading::new(text);
     for fault in faults {
-        let text = line_text(alloc, file, fault)?;
-        report.push_str(text.as_str())?;
+        append_line(alloc, file, &mut reading, fault, report)?;
     }
     Ok(())
+}
+
+fn append_line(
+    alloc: Global,
+    file: &str,
+    reading: &mut Reading<'_>,
+    fault: &LineFault<'_>,
+    report: &mut String,
+) -> Result<(), AllocError>
+    ensures { IfOk result (λ _. GrowsBy (IsTold (line_text file.now (line_fault_seen fault.now)))
+        (string_bytes report.old) (string_bytes report.new)) }
+{
+    let words = line_cause(alloc, reading, fault)?;
+    let line = line_text(alloc, file, fault)?;
+    append_told(alloc, line.as_str(), words.as_str(), report)
 }
 
 fn append_whole(
@@ -43,18 +64,44 @@ fn append_whole(
     faults: &[WholeFault],
     report: &mut String,
 ) -> Result<(), AllocError>
-    ensures { IfOk result (λ _. string_bytes report.new ≡ string_bytes report.old
-        ++ flat_map (whole_text file.now) faults.now) }
+    ensures { IfOk result (λ _. GrowsBy
+        (TellsEach (λ fault. IsTold (whole_text file.now fault)) faults.now)
+        (string_bytes report.old) (string_bytes report.new)) }
 {
     for fault in faults {
-        let text = explained(alloc, file, 0, whole_code(*fault), whole_sentence(*fault))?;
-        report.push_str(text.as_str())?;
+        append_of_whole(alloc, file, *fault, report)?;
     }
     Ok(())
 }
 
-/// The fault of a group.
-pub(crate) fn group_fault_text(alloc: Global, error: GroupError) -> Result<String, AllocError>
+fn append_of_whole(
+    alloc: Global,
+    file: &str,
+    fault: WholeFault,
+    report: &mut String,
+) -> Result<(), AllocError>
+    ensures { IfOk result (λ _. GrowsBy (IsTold (whole_text file.now fault))
+        (string_bytes report.old) (string_bytes report.new)) }
+{
+    let line = whole_text(alloc, file, fault)?;
+    append_told(alloc, line.as_str(), whole_cause(fault), report)
+}
+
+/// The fault of a group, and words on its cause.
+pub(crate) fn group_told_text(
+    alloc: Global,
+    error: GroupError,
+    words: &str,
+) -> Result<String, AllocError>
+    ensures { IfOk result (λ text. IsTold (group_fault_text error) (string_bytes text)) }
+{
+    let mut text = group_fault_text(alloc, error)?;
+    append_notes(alloc, words, &mut text)?;
+    Ok(text)
+}
+
+// The fault of a group.
+fn group_fault_text(alloc: Global, error: GroupError) -> Result<String, AllocError>
     ensures { IfOk result (λ text. string_bytes text ≡ group_fault_text error) }
 {
     let start = group_start(alloc, error.number(), error.name())?;
@@ -73,6 +120,12 @@ fn line_text(alloc: Global, file: &str, fault: &LineFault<'_>) -> Result<String,
 {
     let words = sentence(alloc, fault.code, fault.subject)?;
     explained(alloc, file, fault.line, fault.code, words.as_str())
+}
+
+fn whole_text(alloc: Global, file: &str, fault: WholeFault) -> Result<String, AllocError>
+    ensures { IfOk result (λ text. string_bytes text ≡ whole_text file.now fault) }
+{
+    explained(alloc, file, 0, whole_code(fault), whole_sentence(fault))
 }
 
 fn explained(

@@ -2,17 +2,21 @@
 #![tactic(auto)]
 
 mod answers;
+mod causes;
 mod check;
 mod check_all;
 mod coming;
 mod decide;
 mod decision;
+mod entry_causes;
 mod explained;
 mod fault;
 mod file_text;
+mod group_causes;
 mod hand_back;
 mod held;
 mod input;
+mod notes;
 mod opener;
 mod outcome;
 mod output;

@@ -28,8 +28,8 @@ pub record Decision : Type 0 where
   pub packet : List ℕ
 
 -- a key's parts, by its bytes; a decision; whether files make a group, or else the first fault, or
--- all faults; what the events of a file's script bring about; help on a command or on the program;
--- the program's version
+-- all faults; what the events of a file's script bring about; help on a command, on the program or
+-- on `help`; the program's version
 pub data Asked : Type 0 where
   Key : (bytes : List ℕ) → Asked
   Decide : Decision → Asked
@@ -37,6 +37,7 @@ pub data Asked : Type 0 where
   CheckAll : (files : List Text) → Asked
   World : (file : Text) → Asked
   Help : Option CommandName → Asked
+  HelpOnHelp : Asked
   Version : Asked
 
 -- the commands, by their names
@@ -118,10 +119,15 @@ asked_of command.World given = world_asked given.plain
 asked_of command.Serve given = None
 asked_of command.Stub given = None
 
--- help on one command, or on the program
+-- help on `help`, or on the command of this name
+abbrev pub topic_named : Text → Option Asked
+topic_named name = if bytes_eq name (codes "help") then Some HelpOnHelp
+    else option_map (λ found. Help (Some found)) (command_named name)
+
+-- help on what is named, or on the program
 abbrev pub topic_of : List Text → Option Asked
 topic_of [] = Some (Help None)
-topic_of (name ∷ []) = option_map (λ found. Help (Some found)) (command_named name)
+topic_of (name ∷ []) = topic_named name
 topic_of (name ∷ another ∷ rest) = None
 
 abbrev pub asked_behind : FirstArgument → List Text → Option Asked
@@ -152,4 +158,5 @@ asked_in (request.Check files) = Check (map (λ file. file.now) files.items)
 asked_in (request.CheckAll files) = CheckAll (map (λ file. file.now) files.items)
 asked_in (request.World file) = World file.now
 asked_in (request.Help topic) = Help topic
+asked_in request.HelpOnHelp = HelpOnHelp
 asked_in request.Version = Version

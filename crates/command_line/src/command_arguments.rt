@@ -12,8 +12,6 @@ pub enum Form {
     Several,
     /// By its name, and then its value, which help calls so.
     Value(&'static str),
-    /// The same, but not beside the argument with this other name, which stands in its place.
-    ValueUnless(&'static str, &'static str),
     /// By its name, and then its value, any number of times.
     Repeated(&'static str),
     /// By its name alone.
@@ -54,10 +52,6 @@ pub fn parsed_argument<'a>(alloc: Global, argument: Argument) -> Result<Arg<'a>,
         Form::Plain => Ok(parsed),
         Form::Several => Ok(parsed.num_args(1..)),
         Form::Value(value) => Ok(parsed.long(argument.name).value_name(value)),
-        Form::ValueUnless(value, other) => parsed
-            .long(argument.name)
-            .value_name(value)
-            .conflicts_with(other),
         Form::Repeated(value) => Ok(
             parsed
                 .long(argument.name)
@@ -110,7 +104,7 @@ const CHECK: &[Argument] = &[
         name: "all",
         form: Form::Flag,
         required: false,
-        help: "Report every error, each with a sentence, instead of the first one",
+        help: "Report every error, each with its cause, instead of the first one",
     },
     Argument {
         name: "FILE",
@@ -138,8 +132,8 @@ The port of 127.0.0.1 that all poolers of this process share, 1 to
     },
     Argument {
         name: "seed",
-        form: Form::ValueUnless("HEX64", "seed-file"),
-        required: true,
+        form: Form::Value("HEX64"),
+        required: false,
         help: "\
 What the secrets of keys are drawn from, 32 bytes in 64 hexadecimal
 digits: give another one at each start, which nobody can guess. Every
@@ -211,8 +205,9 @@ Serve metrics for Prometheus over HTTP at this port of 127.0.0.1,
         required: false,
         help: "\
 Which lines of the log are written: 'warn' for those that somebody
-may have to look into, 'notice' for these and what the group does,
-'info' for these and each cancel. It is 'notice' where it isn't given",
+may have to look into, 'notice' for these, what the group does and
+the end of each cancel request, 'info' for these and each cancel
+request that is refused. It is 'notice' where it isn't given",
     },
     Argument {
         name: "until-eof",

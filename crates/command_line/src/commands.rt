@@ -1,7 +1,7 @@
 //! The program and its commands, as clap parses them.
 use crate::command_arguments::{arguments_of, parsed_argument};
 use crate::command_name::CommandName;
-use clap::Command;
+use clap::{ArgGroup, Command};
 use std::alloc::{AllocError, Global};
 
 const COMMANDS: [CommandName; 6] = [
@@ -55,7 +55,18 @@ pub fn command<'a>(
     for argument in arguments_of(name) {
         command = command.arg(parsed_argument(alloc, *argument)?)?;
     }
-    Ok(command)
+    match name {
+        CommandName::Serve => command.group(seeds(alloc)?),
+        _ => Ok(command),
+    }
+}
+
+// The arguments of `serve` of which one is needed, in the order in which an error names them.
+fn seeds<'a>(alloc: Global) -> Result<ArgGroup<'a>, AllocError> {
+    ArgGroup::new(alloc, "seeds")
+        .required(true)
+        .arg("seed-file")?
+        .arg("seed")
 }
 
 // A command without its arguments.
@@ -204,7 +215,8 @@ Examples:
 
   $ pgpeer check --all pgbouncer.ini
   pgbouncer.ini:8: 22 UnknownKey: server_idle_timeout is not in this profile
-  pgbouncer.ini:9: 27 NotInProfile: pool_mode asks for what is not in this profile";
+  pgbouncer.ini:9: 27 NotInProfile: pool_mode asks for what is not in this profile
+    'session' is refused; allowed: transaction";
 
 const AFTER_WORLD: &str = "\
 Output:

@@ -35,5 +35,5 @@ pub use running::Running;
 pub use seed::{SeedSource, counted_bytes, seed_held};
 pub use serve_request::ServeRequest;
 pub use stub_request::{StubMode, StubRequest};
-pub use texts::{help, longer_packet, usage, version};
+pub use texts::{help, help_on_help, longer_packet, usage, version};
 pub use wrong::{Place, Wrong};

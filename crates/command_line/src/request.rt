@@ -3,7 +3,7 @@ ghost use Rattle.std.specs.Prelude.{◌≡◌, Some, map};
 ghost use Rattle.pg_ids.specs.AnyKey.{any_key_bytes};
 ghost use Rattle.command_line.specs.Arguments.{given_in};
 ghost use Rattle.command_line.specs.Finds.{Finds, Reads};
-ghost use Rattle.command_line.specs.Request.{asked, asked_behind, asked_in, check_asked, decide_asked, key_asked, key_bytes_of, topic_of, world_asked};
+ghost use Rattle.command_line.specs.Request.{asked, asked_behind, asked_in, check_asked, decide_asked, key_asked, key_bytes_of, topic_named, topic_of, world_asked};
 ghost use Rattle.command_line.specs.declared.command_name.FirstArgument.TheVariants.{Command};
 
 use crate::arguments::{Given, ask_help};
@@ -32,6 +32,8 @@ pub enum Request<'a> {
     World(&'a str),
     /// Help on a command, or on the program.
     Help(Option<CommandName>),
+    /// Help on `help`.
+    HelpOnHelp,
     /// The program's version.
     Version,
 }
@@ -58,9 +60,19 @@ impl<'a> Request<'a> {
     fn topic(arguments: &[&'a str]) -> Result<Request<'a>, Wrong<'a>>
         ensures { Reads asked_in result (topic_of (map (λ argument. argument.now) arguments.now)) }
     {
-        let Some(name) = at_most_one(arguments)? else {
-            return Ok(Request::Help(None));
-        };
+        match at_most_one(arguments)? {
+            None => Ok(Request::Help(None)),
+            Some(name) => Request::topic_named(name),
+        }
+    }
+
+    // Help on what has this name.
+    fn topic_named(name: &'a str) -> Result<Request<'a>, Wrong<'a>>
+        ensures { Reads asked_in result (topic_named name.now) }
+    {
+        if name == "help" {
+            return Ok(Request::HelpOnHelp);
+        }
         match CommandName::read(name) {
             Some(name) => Ok(Request::Help(Some(name))),
             None => Err(Wrong::Form),

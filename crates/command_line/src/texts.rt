@@ -21,6 +21,11 @@ pub fn help(alloc: Global, topic: Option<CommandName>) -> Result<String, AllocEr
     }
 }
 
+/// Help on `help`.
+pub fn help_on_help(alloc: Global) -> Result<String, AllocError> {
+    help_text(alloc, &["help", "help"])
+}
+
 /// The program's version.
 pub fn version(alloc: Global) -> Result<String, AllocError> {
     help_text(alloc, &["--version"])
