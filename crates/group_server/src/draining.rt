@@ -73,7 +73,9 @@ pub fn write_end<H: Host>(
 ) {
     let count = ("connections", Value::Number(limit.open_count(host) as u64));
     match ended {
-        Ok(()) => log.write(host, None, Event::Stopped, &[count]),
+        Ok(()) => {
+            log.write(host, None, Event::Stopped, &[count]);
+        }
         Err(error) => {
             let error = ("error", Value::Text(error.text()));
             log.write(host, None, Event::Stopped, &[count, error]);

@@ -106,6 +106,7 @@ impl<H: Host> Listening<H> {
                     group,
                     counters,
                     log,
+                    started: host.since_1970().ok(),
                 };
                 Some(exporter_of(alloc, listener, options, &nodes, sources)?)
             }

@@ -127,17 +127,7 @@ impl<M: Machine> Serving<M> {
             client,
         );
         self.give_back(rt, calling);
-        self.finish(connection, client);
-    }
-
-    // Counts a connection that was served, and logs how its cancel request has ended.
-    #[inline(never)]
-    fn finish(&self, connection: &Connection, client: &ClientStream<'_, M>) {
-        connection.meter().finish(self.dialer.machine());
-        if let Some((end, millis)) = client.cancel_end() {
-            self.dialer
-                .tell_cancel_end(connection.target(), end, millis);
-        }
+        opener.finish(client.is_given_up());
     }
 
     /// Keeps a caller for the next connection, or for the next cancel request if none is kept for

@@ -1,15 +1,16 @@
 //! A node's side of connections to its server, without a session.
 use crate::group::ANY_PORT;
 use crate::host::TestHost;
-use crate::log_lines::{expect_line, expect_no_line};
+use crate::log_lines::{await_timed_line, expect_line, expect_no_line};
 use crate::reported::reports_of;
 use crate::settings::group;
-use group_server::Dialer;
-use node_threads::{Listening, Opener};
+use group_server::{ClientDialer, Dialer};
+use node_threads::{CancelOrder, Listening, Observer, Opener};
+use peer_forward::Verdict;
 use pg_frames::MessageLimit;
-use pg_ids::DatabaseNo;
+use pg_ids::{DatabaseNo, PeerNo, SlotNo};
 use session_io::{LinkError, log_in};
-use sockets::{CancelEnd, Connection, LinkStream, Target};
+use sockets::{Connection, LinkStream};
 use std::alloc::Global;
 use std::io::{Read, Write};
 use std::net::{TcpListener, TcpStream};
@@ -26,26 +27,35 @@ pub(crate) struct Caller<R: TestHost> {
     connection: Connection,
     // The client's side of it.
     client: TcpStream,
+    // Its address, as the log has it.
+    address: String,
 }
 
 impl<R: TestHost> Caller<R> {
-    // The server of its database `shop` is at this port, and clients get this.
+    // The server of its database `shop` is at this port, and clients get this. Its peer, node 2, is at
+    // port 2.
     pub(crate) fn new(rt: &R, server: u16, told: &[(&str, &str)]) -> Result<Caller<R>, Fail> {
-        let group = Arc::new(rt.alloc(), group(rt.alloc(), &[1], server, &[&[]])?)?;
+        let group = Arc::new(rt.alloc(), group(rt.alloc(), &[1, 2], server, &[&[0, 1]])?)?;
         let log = Arc::new(rt.alloc(), Log::new(rt.alloc(), Level::Info))?;
         let reports = Arc::new(rt.alloc(), reports_of(rt.alloc(), told)?)?;
         let theirs = Arc::try_clone(&log)?;
         let dialer = Dialer::new(*rt, rt.alloc(), group, 0, theirs, reports);
         let listener = TcpListener::bind(rt, ANY_PORT)?;
         let client = TcpStream::connect(rt, ("127.0.0.1", listener.local_addr()?.port()))?;
-        let (socket, _address) = listener.accept()?;
+        let (socket, address) = listener.accept()?;
         Ok(Caller {
             dialer,
             log,
             server,
             connection: Connection::new(socket),
             client,
+            address: format!(in rt.alloc(); "{address}")?,
         })
+    }
+
+    // The address of the client, as the log has it.
+    pub(crate) fn address(&self) -> &str {
+        self.address.as_str()
     }
 
     // A link to which a first message was written, and of which nothing was read.
@@ -64,7 +74,7 @@ impl<R: TestHost> Caller<R> {
         let limit = MessageLimit::DEFAULT;
         let logged = log_in(rt, rt.alloc(), &listener, limit, link, "plain", "plain");
         match &logged {
-            Err(LinkError::Refused(refusal)) => opener.refuse_login(DatabaseNo(0), refusal),
+            Err(LinkError::Refused(refusal)) => opener.link_refused(DatabaseNo(0), refusal),
             _ => return Err(Fail::from("a login that is refused")),
         }
         Ok(())
@@ -83,7 +93,7 @@ impl<R: TestHost> Caller<R> {
         let mut link = self.open(rt)?;
         let mut buffer = [0; 1_024];
         let _count = link.read(&mut buffer)?;
-        self.dialer.on_behalf(&self.connection).attach(&link);
+        self.dialer.on_behalf(&self.connection).link_given(&link);
         Ok(link)
     }
 
@@ -109,14 +119,47 @@ impl<R: TestHost> Caller<R> {
         expect_no_line(rt, &self.log)
     }
 
-    // Writes to the log that a cancel request has ended so that was sent there, in 3 milliseconds.
-    pub(crate) fn tell_cancel_end(&self, target: Option<Target>, end: CancelEnd) {
-        self.dialer.tell_cancel_end(target, end, 3);
+    // The client asks for a cancel, for slot 5 of node 1. Returns what the node tells of it.
+    fn ask_cancel(&self, rt: &R) -> Result<ClientDialer<'_, R>, Fail> {
+        self.connection.receive_cancel(rt);
+        let node = PeerNo::new(1).ok_or("no node")?;
+        let opener = self.dialer.on_behalf(&self.connection);
+        opener.cancel_asked(node, SlotNo(5));
+        Ok(opener)
     }
 
-    // The log has this line, and no other.
-    pub(crate) fn expect_whole_line(&self, rt: &R, line: &str) -> Result<(), Fail> {
-        expect_line(rt, &self.log, line)?;
+    // The client's cancel request gets this order, and is finished by this verdict.
+    pub(crate) fn cancel(&self, rt: &R, order: CancelOrder, verdict: Verdict) -> Result<(), Fail> {
+        let opener = self.ask_cancel(rt)?;
+        opener.cancel_ordered(order);
+        opener.cancel_ended(verdict);
+        Ok(())
+    }
+
+    // The client's cancel request gets no order, and is given up.
+    pub(crate) fn give_up_cancel(&self, rt: &R) -> Result<(), Fail> {
+        let opener = self.ask_cancel(rt)?;
+        opener.cancel_unserved();
+        opener.finish(true);
+        Ok(())
+    }
+
+    // The log has this line of an event of the client's cancel request: behind its slot it has these
+    // fields.
+    pub(crate) fn expect_cancel_line(&self, rt: &R, event: &str, fields: &str) -> Result<(), Fail> {
+        let client = self.address.as_str();
+        let line = format!(in rt.alloc(); "node=1 {event} client={client} slot=5 {fields}")?;
+        expect_line(rt, &self.log, line.as_str())
+    }
+
+    // The log has the line of the end of the client's cancel request, and no other: between its slot
+    // and the time that it took it has these fields.
+    pub(crate) fn expect_cancel_end(&self, rt: &R, fields: &str) -> Result<(), Fail> {
+        let client = self.address.as_str();
+        let line = format!(in rt.alloc();
+            "node=1 notice cancel_ended client={client} slot=5 {fields}"
+        )?;
+        await_timed_line(rt, &self.log, line.as_str())?;
         expect_no_line(rt, &self.log)
     }
 

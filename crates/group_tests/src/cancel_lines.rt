@@ -1,64 +1,115 @@
 //! The lines of the log about ends of cancel requests.
 use crate::caller::Caller;
-use crate::group::ANY_PORT;
+use crate::client::{Cancel, Client};
+use crate::gated::start_limited;
+use crate::group::{ANY_PORT, start_server};
 use crate::host::TestHost;
+use crate::log_lines::{await_line, await_timed_line, expect_no_line};
+use crate::messages::{BEGIN, OPEN, UNKNOWN_KEY};
+use group_server::MessageLimit;
+use node_threads::CancelOrder;
+use peer_forward::{Outcome, Verdict};
 use pg_ids::{DatabaseNo, PeerNo};
-use sockets::{CancelEnd, Target};
+use std::alloc::Global;
 use std::net::TcpListener;
+use std::sync::Arc;
 use std::test::Fail;
+use stub_server::Mode;
+use telemetry::Log;
 
-// The server of a database.
-const SERVER: Target = Target::Server(DatabaseNo(0));
+// The server of a database, for its process 4711.
+const SERVER: CancelOrder = CancelOrder::Server(DatabaseNo(0), 4_711);
 
-// A request of node 1 that was sent there, or nowhere, and has ended so has this line.
+// A request of node 1 that got this order, and has ended so, has this line.
 fn expect_end<R: TestHost>(
     rt: &R,
     caller: &Caller<R>,
-    target: Option<Target>,
-    end: CancelEnd,
+    order: CancelOrder,
+    verdict: Verdict,
     fields: &str,
 ) -> Result<(), Fail> {
-    caller.tell_cancel_end(target, end);
-    let line = format!(in rt.alloc(); "node=1 info cancel_ended {fields} millis=3")?;
-    caller.expect_whole_line(rt, line.as_str())
+    caller.cancel(rt, order, verdict)?;
+    caller.expect_cancel_end(rt, fields)
 }
 
 // The lines of requests, of which those that are sent go to the server at this port, or to a peer.
 fn expect_lines<R: TestHost>(rt: &R, server: u16) -> Result<(), Fail> {
     let caller = Caller::new(rt, server, &[])?;
-    let at_server = format!(in rt.alloc(); "database=shop server=127.0.0.1:{server}")?;
+    let peer = CancelOrder::Peer(PeerNo::new(2).ok_or("no peer")?);
+    let shop = format!(in rt.alloc(); "database=shop server=127.0.0.1:{server} pid=4711")?;
     let (settled, failed) = (
-        format!(in rt.alloc(); "{at_server} result=settled")?,
-        format!(in rt.alloc(); "{at_server} result=failed")?,
+        format!(in rt.alloc(); "{shop} result=settled")?,
+        format!(in rt.alloc(); "{shop} result=failed")?,
     );
-    let peer = Some(Target::Peer(PeerNo::new(2).ok_or("no peer")?));
-    expect_end(
-        rt,
-        &caller,
-        Some(SERVER),
-        CancelEnd::Settled,
-        settled.as_str(),
-    )?;
-    expect_end(
-        rt,
-        &caller,
-        Some(SERVER),
-        CancelEnd::Failed,
-        failed.as_str(),
-    )?;
-    expect_end(rt, &caller, peer, CancelEnd::Failed, "peer=2 result=failed")?;
-    expect_end(
-        rt,
-        &caller,
-        None,
-        CancelEnd::NothingSent,
-        "result=nothing_sent",
-    )?;
-    expect_end(rt, &caller, None, CancelEnd::NotServed, "result=not_served")
+    let at_peer = "peer=2 address=127.0.0.1:2 result=failed";
+    for (order, verdict, fields) in [
+        (SERVER, Verdict::Carried(Outcome::Ended), settled.as_str()),
+        (SERVER, Verdict::Carried(Outcome::Failed), failed.as_str()),
+        (SERVER, Verdict::NoConnect, failed.as_str()),
+        (peer, Verdict::Carried(Outcome::Failed), at_peer),
+        (
+            CancelOrder::Unwait,
+            Verdict::Unwaited,
+            "result=nothing_sent",
+        ),
+    ] {
+        expect_end(rt, &caller, order, verdict, fields)?;
+    }
+    caller.give_up_cancel(rt)?;
+    caller.expect_cancel_line(rt, "info cancel_refused", "reason=no_seat")?;
+    caller.expect_cancel_end(rt, "result=not_served")
 }
 
 #[test]
 fn ends_are_in_the_log(rt: HostRuntime) -> Result<(), Fail> {
     let server = TcpListener::bind(&rt, ANY_PORT)?;
     expect_lines(&rt, server.local_addr()?.port())
+}
+
+// A request with this key ends cleanly. Returns the requester's address, as the log has it.
+fn requested<R: TestHost>(rt: &R, port: u16, key: &[u8]) -> Result<String, Fail> {
+    let mut requester = Cancel::new(rt, port, key)?.send(rt)?;
+    requester.expect_end(rt, b"")?;
+    let own = requester.port()?;
+    Ok(format!(in rt.alloc(); "127.0.0.1:{own}")?)
+}
+
+// A node before a stand-in server, its log, and the port of the server.
+fn start_node<R: TestHost>(rt: &R) -> Result<(u16, Arc<Log, Global>, u16), Fail> {
+    let server = start_server(rt, TcpListener::bind(rt, ANY_PORT)?, Mode::Honest)?;
+    let (port, log) = start_limited(rt, server, MessageLimit::DEFAULT)?;
+    Ok((port, log, server))
+}
+
+// The line of a request names the address that it came from, not that of the client that it cancels,
+// and this client's slot and the process of its link, the server's first: two clients are logged in, of which the second has a link.
+#[test]
+fn who_cancelled_is_in_the_log(rt: HostRuntime) -> Result<(), Fail> {
+    let (port, log, server) = start_node(&rt)?;
+    let (_first, _key) = Client::log_in(&rt, port)?;
+    let (mut second, key) = Client::log_in(&rt, port)?;
+    second.expect_answer(&rt, "begin", &[BEGIN, OPEN])?;
+    let requester = requested(&rt, port, key.as_slice())?;
+    let line = format!(in rt.alloc();
+        "node=1 notice cancel_ended client={requester} slot=1 database=shop \
+        server=127.0.0.1:{server} pid=1 result=settled"
+    )?;
+    await_timed_line(&rt, &log, line.as_str())?;
+    expect_no_line(&rt, &log)
+}
+
+// A request with a key that no client has.
+#[test]
+fn a_refused_cancel_is_in_the_log(rt: HostRuntime) -> Result<(), Fail> {
+    let (port, log, _server) = start_node(&rt)?;
+    let requester = requested(&rt, port, UNKNOWN_KEY)?;
+    let line = format!(in rt.alloc();
+        "node=1 info cancel_refused client={requester} slot=5 reason=unknown"
+    )?;
+    await_line(&rt, &log, line.as_str())?;
+    let line = format!(in rt.alloc();
+        "node=1 notice cancel_ended client={requester} slot=5 result=nothing_sent"
+    )?;
+    await_timed_line(&rt, &log, line.as_str())?;
+    expect_no_line(&rt, &log)
 }

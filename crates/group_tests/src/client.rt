@@ -150,6 +150,11 @@ impl Client {
         Ok(Vec::from_slice(rt.alloc(), key)?)
     }
 
+    // Its own port, by which a log names it.
+    pub(crate) fn port(&self) -> Result<u16, Fail> {
+        Ok(self.stream.local_addr()?.port())
+    }
+
     pub(crate) fn send(&mut self, bytes: &[u8]) -> Result<(), Fail> {
         Ok(self.stream.write_all(bytes)?)
     }

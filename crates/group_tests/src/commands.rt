@@ -118,15 +118,25 @@ fn stand_ins_run(rt: HostRuntime) -> Result<(), Fail> {
 
 // A command that can't listen at this port prints this and the error, and nothing else.
 fn expect_taken<R: TestHost>(rt: &R, command: &Command, taken: u16) -> Result<(), Fail> {
+    let text = format!(in rt.alloc(); "cannot listen {taken}\n127.0.0.1:{taken}: {TAKEN}\n")?;
+    expect_error(rt, command, text.as_str(), 1)
+}
+
+// A command prints this error, and nothing else, and has this status.
+fn expect_error<R: TestHost>(
+    rt: &R,
+    command: &Command,
+    text: &str,
+    expected: u8,
+) -> Result<(), Fail> {
     let (mut out, mut err) = (Vec::new(rt.alloc()), Vec::new(rt.alloc()));
     let line = command.line.as_str();
     let status = run_line(rt, line, &command.texts, &mut out, &mut err).ok_or(
         "no command that runs, or no memory to read it",
     )?;
-    let text = format!(in rt.alloc(); "cannot listen {taken}\n127.0.0.1:{taken}: {TAKEN}\n")?;
     let said = std::str::from_utf8(err.as_slice()).ok().ok_or("no text")?;
-    assert_eq!(rt; said, text.as_str());
-    assert_eq!(rt; status, 1);
+    assert_eq!(rt; said, text);
+    assert_eq!(rt; status, expected);
     assert_eq!(rt; out.as_slice(), b"".as_slice());
     Ok(())
 }
@@ -152,4 +162,38 @@ fn taken_ports(rt: HostRuntime) -> Result<(), Fail> {
     let line = format!(in rt.alloc(); "stub {taken}")?;
     let texts = Vec::new(rt.alloc());
     expect_taken(&rt, &Command { line, texts }, taken)
+}
+
+// The port of a node is in line 8 of its file. Entries of the other nodes lead there.
+#[test]
+fn shared_addresses(rt: HostRuntime) -> Result<(), Fail> {
+    let ports = free_ports(&rt, 5)?;
+    if ports.len() < 5 {
+        return Err(Fail::from("no ports"));
+    }
+    let (one, two, three, front) = (ports[0], ports[1], ports[2], ports[3]);
+    let both = format!(in rt.alloc();
+        "--front {one} and one.ini:8 name one address: give each its own\n"
+    )?;
+    let command = group_command(rt.alloc(), &[one, two, three], one, ports[4])?;
+    expect_error(&rt, &command, both.as_str(), 2)?;
+    let nodes = "one.ini:8 and three.ini:8 name one address: give each its own\n";
+    let command = group_command(rt.alloc(), &[one, two, one], front, ports[4])?;
+    expect_error(&rt, &command, nodes, 2)
+}
+
+// No entry leads to the node, so the second socket can't be bound.
+#[test]
+fn a_node_at_the_front(rt: HostRuntime) -> Result<(), Fail> {
+    let ports = free_ports(&rt, 2)?;
+    if ports.len() < 2 {
+        return Err(Fail::from("no ports"));
+    }
+    let (node, server) = (ports[0], ports[1]);
+    let line = format!(in rt.alloc(); "serve --front {node} --seed {SEED} one.ini")?;
+    let texts = texts(rt.alloc(), &[node], &[server], &[&[]])?;
+    let text = format!(in rt.alloc();
+        "cannot listen {node}\n127.0.0.1:{node}: {TAKEN}\n--front {node} and one.ini:8 name one address: give each its own\n"
+    )?;
+    expect_error(&rt, &Command { line, texts }, text.as_str(), 1)
 }

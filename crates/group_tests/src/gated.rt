@@ -150,19 +150,24 @@ fn start_serving<R: TestHost>(
     Ok(())
 }
 
-// A client's socket.
+// A client's connection.
 #[derive(Drop)]
-struct Client<'a>(&'a TcpStream);
+struct Client<'a, R: TestHost> {
+    rt: &'a R,
+    connection: &'a Connection,
+}
 
-impl Read for Client<'_> {
+impl<R: TestHost> Read for Client<'_, R> {
     fn read(&mut self, buffer: &mut [u8]) -> io::Result<usize> {
-        self.0.read(buffer)
+        let mut socket = self.connection.socket();
+        socket.read(buffer)
     }
 }
 
-impl Write for Client<'_> {
+impl<R: TestHost> Write for Client<'_, R> {
     fn write(&mut self, bytes: &[u8]) -> io::Result<usize> {
-        self.0.write(bytes)
+        let mut socket = self.connection.socket();
+        socket.write(bytes)
     }
 
     fn flush(&mut self) -> io::Result<()> {
@@ -170,7 +175,7 @@ impl Write for Client<'_> {
     }
 }
 
-impl Requester for Client<'_> {
+impl<R: TestHost> Requester for Client<'_, R> {
     ghost use Rattle.std.specs.Prelude.{⊤};
 
     ghost saw = { λ _ _ _ _. ⊤ };
@@ -180,25 +185,28 @@ impl Requester for Client<'_> {
     ghost resets = { λ _ _. ⊤ };
 
     fn peek_once(&mut self, buffer: &mut [u8]) -> io::Result<usize> {
-        self.0.peek(buffer)
+        self.connection.socket().peek(buffer)
     }
 
     fn take_seen(&mut self) {
-        let mut socket = self.0;
+        let mut socket = self.connection.socket();
         let _ = socket.read(&mut [0]);
     }
 
     fn give_up(&mut self) {}
 }
 
-impl Arrival for Client<'_> {
+impl<R: TestHost> Arrival for Client<'_, R> {
     ghost use Rattle.std.specs.Prelude.{⊤};
 
     ghost admitted = { λ _ _ _ _. ⊤ };
 
     ghost refused = { λ _ _ _ _. ⊤ };
 
-    fn admits(&mut self, _asks: Asks) -> bool {
+    fn admits(&mut self, asks: Asks) -> bool {
+        if asks == Asks::Cancel {
+            self.connection.receive_cancel(self.rt);
+        }
         true
     }
 
@@ -215,7 +223,10 @@ fn serve<R: TestHost>(
 ) {
     let connection = Connection::new(socket);
     let opener = node.dialer.on_behalf(&connection);
-    let mut client = Client(connection.socket());
+    let mut client = Client {
+        rt,
+        connection: &connection,
+    };
     let context = Context {
         rt,
         gate: &*node.gate,

@@ -19,6 +19,8 @@ mod condemned;
 #[cfg(test)]
 mod console_client;
 #[cfg(test)]
+mod counted;
+#[cfg(test)]
 mod databases;
 #[cfg(test)]
 mod drains;
@@ -45,7 +47,11 @@ mod metrics;
 #[cfg(test)]
 mod reported;
 #[cfg(test)]
+mod rows;
+#[cfg(test)]
 mod scripted;
+#[cfg(test)]
+mod session_lines;
 #[cfg(test)]
 mod settings;
 #[cfg(test)]

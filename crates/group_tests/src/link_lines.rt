@@ -141,8 +141,11 @@ fn a_changed_link_is_in_the_log(rt: HostRuntime) -> Result<(), Fail> {
         let _count = link.read(&mut buffer)?;
         assert_eq!(&rt; caller.is_quiet(&link), is_quiet);
     }
-    let fields = "parameter=TimeZone reported=Europe/Paris told=UTC";
-    caller.expect_line(&rt, "notice link_closed", fields)
+    let client = caller.address();
+    let fields = format!(in rt.alloc();
+        "client={client} parameter=TimeZone reported=Europe/Paris told=UTC"
+    )?;
+    caller.expect_line(&rt, "warn link_closed", fields.as_str())
 }
 
 // A connection for a cancel request on which a byte comes, and one that ends cleanly.

@@ -27,6 +27,12 @@ pub(crate) const CANCEL: &[u8] = b"\0\0\0\x10\x04\xd2\x16\x2e";
 
 pub(crate) const LONG_CANCEL: &[u8] = b"\0\0\0\x20\x04\xd2\x16\x2e";
 
+// A key of node 1 that no client has: slot 5, secret 1 and 3 hops.
+pub(crate) const UNKNOWN_KEY: &[u8] = b"\0\x04\0\x14\0\0\0\x07";
+
+// Parse of a statement with the name `a`: an empty query, and no types of parameters.
+pub(crate) const PARSE_NAMED: &[u8] = b"P\0\0\0\x09a\0\0\0\0";
+
 // ReadyForQuery: no transaction is open, and one is.
 pub(crate) const IDLE: &[u8] = b"Z\0\0\0\x05I";
 
@@ -39,6 +45,15 @@ pub(crate) const COMMIT: &[u8] = b"C\0\0\0\x0bCOMMIT\0";
 
 // ErrorResponse: the query was canceled.
 pub(crate) const CANCELED: &[u8] = b"E\0\0\0\x2aSERROR\0VERROR\0C57014\0Mquery canceled\0\0";
+
+// ErrorResponse of a session that ends: the client's message isn't taken, isn't supported, and the
+// link was lost.
+pub(crate) const VIOLATION: &[u8] = b"E\0\0\0\x2eSFATAL\0VFATAL\0C08P01\0Mprotocol violation\0\0";
+
+pub(crate) const UNSUPPORTED: &[u8] =
+    b"E\0\0\0\x2fSFATAL\0VFATAL\0C0A000\0Mnot in this profile\0\0";
+
+pub(crate) const LOST: &[u8] = b"E\0\0\0\x32SFATAL\0VFATAL\0C08006\0Mserver connection lost\0\0";
 
 // The answer to `echo hi`, without ReadyForQuery.
 pub(crate) const HI: &[u8] =

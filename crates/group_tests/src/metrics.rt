@@ -3,7 +3,7 @@
 use crate::client::{Cancel, Client, Until};
 use crate::group::{ANY_PORT, Running, start_server};
 use crate::host::TestHost;
-use crate::messages::{BEGIN, COMMIT, HI, IDLE, OPEN};
+use crate::messages::{BEGIN, COMMIT, HI, IDLE, OPEN, PARSE_NAMED, UNKNOWN_KEY, UNSUPPORTED};
 use crate::reported::LOGIN;
 use crate::scripted::{Script, start};
 use std::net::TcpListener;
@@ -26,6 +26,9 @@ const ONE: &[u8] = b"C\0\0\0\x08ONE\0";
 // A request for the metrics.
 const GET: &[u8] = b"GET /metrics HTTP/1.1\r\nHost: here\r\n\r\n";
 
+// No client waits.
+const NO_WAIT: &str = "pgpeer_oldest_wait_seconds{node=\"1\",database=\"shop\"} 0.000000";
+
 // How often the metrics are read before a test gives up. They are made once a second.
 const READS: u32 = 20;
 
@@ -33,7 +36,7 @@ const READS: u32 = 20;
 const AGE: u64 = 1_100;
 
 // What comes back for a request.
-fn ask<R: TestHost>(rt: &R, port: u16, request: &[u8]) -> Result<Vec<u8>, Fail> {
+pub(crate) fn ask<R: TestHost>(rt: &R, port: u16, request: &[u8]) -> Result<Vec<u8>, Fail> {
     let mut client = Client::connect(rt, port)?;
     client.send(request)?;
     client.read(rt, Until::End, None)
@@ -83,6 +86,13 @@ fn transactions_and_bytes(rt: HostRuntime) -> Result<(), Fail> {
         "pgpeer_links{node=\"1\",database=\"shop\",place=\"held\"} 0",
         "pgpeer_wait_seconds_count{node=\"1\",database=\"shop\"} 1",
         "pgpeer_wait_seconds_count{node=\"1\"} 0",
+        "pgpeer_logins_total{node=\"1\",database=\"shop\"} 1",
+        "pgpeer_transaction_seconds_count{node=\"1\",database=\"shop\"} 2",
+        "pgpeer_link_open_seconds_count{node=\"1\",database=\"shop\"} 1",
+        NO_WAIT,
+        "# TYPE process_start_time_seconds gauge",
+        "# TYPE process_cpu_seconds_total counter",
+        "# TYPE process_max_fds gauge",
         "pgpeer_log_events_total{level=\"warn\",event=\"link_lost\"} 0",
     ];
     expect_lines(&rt, group.metrics(), &lines)
@@ -106,6 +116,8 @@ fn a_wait_is_measured(rt: HostRuntime) -> Result<(), Fail> {
         "pgpeer_links{node=\"1\",database=\"shop\",place=\"held\"} 1",
     ];
     expect_lines(&rt, group.metrics(), &waiting)?;
+    let answer = ask(&rt, group.metrics(), GET)?;
+    assert!(&rt; !has_line(answer.as_slice(), NO_WAIT));
     keeper.expect_answer(&rt, "commit", &[COMMIT, IDLE])?;
     client.expect(&rt, &[HI, IDLE], None)?;
     let ended = [
@@ -113,32 +125,54 @@ fn a_wait_is_measured(rt: HostRuntime) -> Result<(), Fail> {
         "pgpeer_wait_seconds_bucket{node=\"1\",database=\"shop\",le=\"1\"} 1",
         "pgpeer_wait_seconds_bucket{node=\"1\",database=\"shop\",le=\"+Inf\"} 2",
         "pgpeer_wait_seconds_count{node=\"1\",database=\"shop\"} 2",
+        NO_WAIT,
     ];
     expect_lines(&rt, group.metrics(), &ended)
 }
 
-// A key of node 1 that no client has: slot 0, secret 1 and 3 hops.
-const UNKNOWN: &[u8] = b"\0\x04\0\0\0\0\0\x07";
-
-// The end of a cancel request is an event of the log of the group that serves it.
+// The end of a cancel request, and why it was refused, are events of the log of the group that
+// serves it.
 #[test]
 fn the_end_of_a_cancel_is_counted(rt: HostRuntime) -> Result<(), Fail> {
     let server = start_server(&rt, TcpListener::bind(&rt, ANY_PORT)?, Mode::Honest)?;
     let group = Running::start_measured(&rt, &[server], &[&[]])?;
-    let mut requester = Cancel::new(&rt, group.node(1)?, UNKNOWN)?.send(&rt)?;
+    let mut requester = Cancel::new(&rt, group.node(1)?, UNKNOWN_KEY)?.send(&rt)?;
     requester.expect_end(&rt, b"")?;
     let lines = [
         "pgpeer_cancels_refused_total{node=\"1\",reason=\"unknown\"} 1",
-        "pgpeer_log_events_total{level=\"info\",event=\"cancel_ended\"} 1",
+        "pgpeer_log_events_total{level=\"info\",event=\"cancel_refused\"} 1",
+        "pgpeer_log_events_total{level=\"notice\",event=\"cancel_ended\"} 1",
+    ];
+    expect_lines(&rt, group.metrics(), &lines)
+}
+
+// So is the end of a session whose message was refused.
+#[test]
+fn the_end_of_a_session_is_counted(rt: HostRuntime) -> Result<(), Fail> {
+    let server = start(&rt, TcpListener::bind(&rt, ANY_PORT)?, &[])?;
+    let group = Running::start_measured(&rt, &[server], &[&[]])?;
+    let (mut client, _) = Client::log_in(&rt, group.node(1)?)?;
+    client.send(PARSE_NAMED)?;
+    client.expect_end(&rt, UNSUPPORTED)?;
+    let lines = [
+        "pgpeer_log_events_total{level=\"warn\",event=\"session_ended\"} 1",
+        "pgpeer_sessions_ended_total{node=\"1\",database=\"shop\",code=\"0A000\",refused=\"named_statement\"} 1",
+        "pgpeer_sessions_ended_total{node=\"1\",database=\"shop\",code=\"none\",refused=\"none\"} 0",
     ];
     expect_lines(&rt, group.metrics(), &lines)
 }
 
 // Requests, and how their answers begin.
-const REQUESTS: [(&[u8], &[u8]); 7] = [
+const REQUESTS: [(&[u8], &[u8]); 10] = [
     (b"GET /metrics?a=b HTTP/1.0\r\n\r\n", b"HTTP/1.1 200 OK\r\n"),
     (b"HEAD /metrics HTTP/1.1\r\n\r\n", b"HTTP/1.1 200 OK\r\n"),
     (b"GET / HTTP/1.1\r\n\r\n", b"HTTP/1.1 404 Not Found\r\n"),
+    (b"HEAD /clients HTTP/1.1\r\n\r\n", b"HTTP/1.1 200 OK\r\n"),
+    (b"HEAD /links HTTP/1.1\r\n\r\n", b"HTTP/1.1 200 OK\r\n"),
+    (
+        b"POST /clients HTTP/1.1\r\n\r\n",
+        b"HTTP/1.1 405 Method Not Allowed\r\n",
+    ),
     (
         b"GET /metricsx HTTP/1.1\r\n\r\n",
         b"HTTP/1.1 404 Not Found\r\n",

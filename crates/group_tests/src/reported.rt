@@ -3,7 +3,7 @@ use crate::client::Client;
 use crate::group::{ANY_PORT, Running, options};
 use crate::host::TestHost;
 use crate::log_lines::{expect_line, expect_no_line};
-use crate::messages::IDLE;
+use crate::messages::{IDLE, LOST};
 use crate::scripted::{Script, start};
 use group_server::write_start;
 use ini_config::Group;
@@ -46,9 +46,6 @@ const ONE: &[u8] = b"C\0\0\0\x08ONE\0";
 const TWO: &[u8] = b"C\0\0\0\x08TWO\0";
 
 const OPEN: &[u8] = b"Z\0\0\0\x05T";
-
-// ErrorResponse: the link was lost.
-pub(crate) const LOST: &[u8] = b"E\0\0\0\x32SFATAL\0VFATAL\0C08006\0Mserver connection lost\0\0";
 
 // The line of a start without reports.
 const MISSING: &str = "node=- warn report_missing parameter=standard_conforming_strings \

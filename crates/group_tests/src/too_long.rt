@@ -3,9 +3,9 @@ use crate::client::Client;
 use crate::gated::start_limited;
 use crate::group::ANY_PORT;
 use crate::host::TestHost;
-use crate::log_lines::{expect_line, expect_no_line};
-use crate::messages::{joined, put_message};
-use crate::reported::{LOGIN, LOST};
+use crate::log_lines::{await_line, expect_no_line};
+use crate::messages::{LOST, VIOLATION, joined, put_message};
+use crate::reported::LOGIN;
 use crate::scripted::{Script, start};
 use group_server::MessageLimit;
 use std::alloc::{AllocError, Global};
@@ -20,8 +20,14 @@ const ROW: &[Script] = &[Script {
     answers: &[b"D\0\0\x20\x01"],
 }];
 
-// ErrorResponse: the client's message isn't taken.
-const VIOLATION: &[u8] = b"E\0\0\0\x2eSFATAL\0VFATAL\0C08P01\0Mprotocol violation\0\0";
+// What comes of a message above the limit: the error that the client gets, how long the log says that
+// the message is, and why it says that the session ended.
+#[derive(Clone, Copy)]
+struct Refused<'a> {
+    error: &'a [u8],
+    length: &'a str,
+    why: &'a str,
+}
 
 // Starts a node before this server. Returns its port and its log.
 fn start_node<R: TestHost>(
@@ -34,20 +40,25 @@ fn start_node<R: TestHost>(
     start_limited(rt, server, limit)
 }
 
-// The session of a client that sends this ends with this error, and the log says why.
+// The session of a client that sends this ends so, and the log says why.
 fn expect_refused<R: TestHost>(
     rt: &R,
     node: &(u16, Arc<Log, Global>),
     request: &[u8],
-    error: &[u8],
-    fields: &str,
+    refused: Refused<'_>,
 ) -> Result<(), Fail> {
     let (port, log) = node;
     let (mut client, _) = Client::log_in(rt, *port)?;
     client.send(request)?;
-    client.expect_end(rt, error)?;
-    let line = format!(in rt.alloc(); "node=1 warn message_too_long database=shop {fields}")?;
-    expect_line(rt, log, line.as_str())?;
+    client.expect_end(rt, refused.error)?;
+    let (length, why) = (refused.length, refused.why);
+    let line = format!(in rt.alloc(); "node=1 warn message_too_long database=shop {length}")?;
+    await_line(rt, log, line.as_str())?;
+    let own = client.port()?;
+    let line = format!(in rt.alloc();
+        "node=1 warn session_ended client=127.0.0.1:{own} database=shop {why}"
+    )?;
+    await_line(rt, log, line.as_str())?;
     expect_no_line(rt, log)
 }
 
@@ -68,16 +79,24 @@ fn parse(alloc: Global, count: usize) -> Result<Vec<u8>, AllocError> {
 fn a_row_above_the_limit(rt: HostRuntime) -> Result<(), Fail> {
     let listener = TcpListener::bind(&rt, ANY_PORT)?;
     let node = start_node(&rt, listener, ROW)?;
-    let fields = "bytes=8193 limit=8192 from=server";
-    expect_refused(&rt, &node, b"Q\0\0\0\x06a\0", LOST, fields)
+    let refused = Refused {
+        error: LOST,
+        length: "bytes=8193 limit=8192 from=server",
+        why: "code=08006 refused=link_lost",
+    };
+    expect_refused(&rt, &node, b"Q\0\0\0\x06a\0", refused)
 }
 
 #[test]
 fn a_query_above_the_limit(rt: HostRuntime) -> Result<(), Fail> {
     let listener = TcpListener::bind(&rt, ANY_PORT)?;
     let node = start_node(&rt, listener, &[])?;
-    let fields = "bytes=8193 limit=8192 from=client";
-    expect_refused(&rt, &node, b"Q\0\0\x20\x01", VIOLATION, fields)
+    let refused = Refused {
+        error: VIOLATION,
+        length: "bytes=8193 limit=8192 from=client",
+        why: "code=08P01 refused=malformed",
+    };
+    expect_refused(&rt, &node, b"Q\0\0\x20\x01", refused)
 }
 
 // Two messages of an extended query with 4,097 bytes each.
@@ -87,6 +106,10 @@ fn messages_above_the_limit_together(rt: HostRuntime) -> Result<(), Fail> {
     let node = start_node(&rt, listener, &[])?;
     let part = parse(rt.alloc(), 4_088)?;
     let request = joined(rt.alloc(), &[part.as_slice(), part.as_slice()])?;
-    let fields = "bytes=8194 limit=8192 from=client";
-    expect_refused(&rt, &node, request.as_slice(), VIOLATION, fields)
+    let refused = Refused {
+        error: VIOLATION,
+        length: "bytes=8194 limit=8192 from=client",
+        why: "code=08P01 refused=too_long",
+    };
+    expect_refused(&rt, &node, request.as_slice(), refused)
 }

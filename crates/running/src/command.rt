@@ -3,6 +3,7 @@ ghost use Rattle.std.specs.Prelude.{◌≡◌, OnOk, OnErr};
 
 use crate::loops::refuse_loops;
 use crate::serving::serve;
+use crate::shared::shared_text;
 use crate::standing_in::stand_in;
 use answer::{Fault, Opener, answer, group_of, seed_of, usage_fault, write_fault};
 use command_line::{Running, ServeRequest};
@@ -47,15 +48,18 @@ pub fn run<H: Host, O: Opener, I: Read, W: Write, E: Write>(
     err: &mut E,
 ) -> u8 {
     let ended = match running {
-        Running::Serve(request) => match serve_files(host, alloc, opener, &request, input, out) {
-            Ok(ended) => ended,
-            Err(fault) => return write_fault(alloc, err, &fault),
-        },
-        Running::Stub(request) => stand_in(host, alloc, request, out),
+        Running::Serve(request) => {
+            match serve_files(host, alloc, opener, &request, input, out, err) {
+                Ok(ended) => ended,
+                Err(fault) => return write_fault(alloc, err, &fault),
+            }
+        }
+        Running::Stub(request) => {
+            let ended = stand_in(host, alloc, request, out);
+            write_end(err, &ended, "");
+            ended
+        }
     };
-    if let Err(error) = &ended {
-        let _ = write_error(err, error);
-    }
     status_of(&ended)
 }
 
@@ -70,24 +74,35 @@ fn status_of(ended: &Result<(), ServeError>) -> u8
     }
 }
 
-// Serves the group of these settings files. Fails if a file can't be used, or if an entry leads
-// back to this process.
-fn serve_files<H: Host, O: Opener, I: Read, W: Write>(
+// Serves the group of these settings files, and writes the error with which that ends. Fails if a
+// file can't be used, or if an entry leads back to this process.
+fn serve_files<H: Host, O: Opener, I: Read, W: Write, E: Write>(
     host: &H,
     alloc: Global,
     opener: &O,
     request: &ServeRequest<'_>,
     input: &mut I,
     out: &mut W,
+    err: &mut E,
 ) -> Result<Result<(), ServeError>, Fault> {
     let group = group_of(alloc, opener, &request.files)?;
     refuse_loops(host, alloc, opener, &group, request)?;
     let seed = seed_of(alloc, opener, request.seed)?;
-    Ok(serve(host, alloc, group, request, seed, input, out))
+    let shared = shared_text(host, alloc, opener, &group, request)?;
+    let ended = serve(host, alloc, group, request, seed, input, out);
+    write_end(err, &ended, shared.as_str());
+    Ok(ended)
 }
 
-// Writes the error of a command.
-fn write_error<E: Write>(err: &mut E, error: &ServeError) -> io::Result<()> {
+// Writes the error with which a command ended, if there is one. `shared` names parts of it that
+// listen at one address, if there are any.
+fn write_end<E: Write>(err: &mut E, ended: &Result<(), ServeError>, shared: &str) {
+    if let Err(error) = ended {
+        let _ = write_error(err, error, shared);
+    }
+}
+
+fn write_error<E: Write>(err: &mut E, error: &ServeError, shared: &str) -> io::Result<()> {
     match error {
         ServeError::Address(unbound) => {
             let Unbound {
@@ -96,7 +111,11 @@ fn write_error<E: Write>(err: &mut E, error: &ServeError) -> io::Result<()> {
                 error,
             } = unbound;
             writeln!(err, "cannot listen {port}")?;
-            writeln!(err, "{address}:{port}: {error}")
+            writeln!(err, "{address}:{port}: {error}")?;
+            if address.as_str().as_bytes().contains(&b',') {
+                writeln!(err, "listen_addr is one address: a list is not supported")?;
+            }
+            err.write_all(shared.as_bytes())
         }
         _ => writeln!(err, "{}", error.text()),
     }

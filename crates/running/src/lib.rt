@@ -4,6 +4,7 @@
 mod command;
 mod loops;
 mod serving;
+mod shared;
 mod standing_in;
 
 pub use command::{execute, run};

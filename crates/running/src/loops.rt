@@ -1,14 +1,16 @@
 //! Entries of settings that lead back to this process.
+use crate::shared::shared_text;
 use answer::{Fault, Input, Opener};
 use command_line::ServeRequest;
 use ini_config::{Group, trimmed};
 use pg_ids::{DatabaseNo, PeerNo};
 use sockets::Host;
 use std::alloc::{AllocError, Global};
+use std::io::{self, ErrorKind};
 use std::net::TcpListener;
 
-// The address of the group's port.
-const FRONT: &str = "127.0.0.1";
+/// The address of the group's port.
+pub(crate) const FRONT: &str = "127.0.0.1";
 
 // How many bytes of a file are read at a time.
 const CHUNK: usize = 4_096;
@@ -40,7 +42,8 @@ struct Line<'a> {
 }
 
 /// Fails if an entry of `[databases]` or `[peers]` leads to an address at which this process
-/// listens: requests would go round. An entry of `[peers]` may lead to the node that it names.
+/// listens: requests would go round. An entry of `[peers]` may lead to the node that it names. Where
+/// two parts of the process listen at one address, that is the fault.
 pub(crate) fn refuse_loops<H: Host, O: Opener>(
     host: &H,
     alloc: Global,
@@ -82,7 +85,7 @@ fn refuse_databases<H: Host, O: Opener>(
                 section: "[databases]",
                 key: entry.name,
             };
-            return Err(fault(alloc, opener, request, &line, listens));
+            return Err(fault(host, alloc, opener, group, request, &line, listens));
         }
     }
     Ok(())
@@ -118,7 +121,7 @@ fn refuse_peers<H: Host, O: Opener>(
                 section: "[peers]",
                 key: name.as_str(),
             };
-            return Err(fault(alloc, opener, request, &line, listens));
+            return Err(fault(host, alloc, opener, group, request, &line, listens));
         }
     }
     Ok(())
@@ -163,9 +166,9 @@ fn is_named(target: &Target<'_>, number: PeerNo) -> bool {
     }
 }
 
-// Whether a connection to a host reaches what listens at this address, at the same port. Names
-// aren't looked up.
-fn is_same<H: Host>(host: &H, to: &str, address: &str) -> bool {
+/// Whether a connection to a host reaches what listens at this address, at the same port. Names
+/// aren't looked up.
+pub(crate) fn is_same<H: Host>(host: &H, to: &str, address: &str) -> bool {
     if to == address {
         return true;
     }
@@ -208,57 +211,78 @@ fn is_own<H: Host>(host: &H, address: &str) -> bool {
 }
 
 // The fault of an entry that leads to what listens.
-fn fault<O: Opener>(
+fn fault<H: Host, O: Opener>(
+    host: &H,
     alloc: Global,
     opener: &O,
+    group: &Group,
     request: &ServeRequest<'_>,
     line: &Line<'_>,
     listens: Listens,
 ) -> Fault {
-    match text(alloc, opener, request, line, listens) {
+    match text(host, alloc, opener, group, request, line, listens) {
         Ok(text) => Fault::Explained(text),
         Err(AllocError) => Fault::Memory,
     }
 }
 
-// The text of this fault, which names both lines.
-fn text<O: Opener>(
+// The text of this fault, which names both lines, or the two parts that listen at one address.
+fn text<H: Host, O: Opener>(
+    host: &H,
     alloc: Global,
     opener: &O,
+    group: &Group,
     request: &ServeRequest<'_>,
     line: &Line<'_>,
     listens: Listens,
 ) -> Result<String, AllocError> {
+    let shared = shared_text(host, alloc, opener, group, request)?;
+    if !shared.is_empty() {
+        return Ok(shared);
+    }
     let entry = name_of(alloc, opener, line)?;
     let there = match listens {
         Listens::Front => {
             let front = request.front;
             format!(in alloc; "--front {front}")?
         }
-        Listens::Node(place) => {
-            let port = Line {
-                file: file_at(request, place),
-                section: "[pgbouncer]",
-                key: "listen_port",
-            };
-            name_of(alloc, opener, &port)?
-        }
+        Listens::Node(place) => port_name(alloc, opener, request, place)?,
     };
     let key = line.key;
     format!(in alloc; "{entry}: {key} leads to this process itself, which listens there: {there}\n")
 }
 
+/// The name of the line that says at which port the node at this place listens, or of its file
+/// where none does.
+pub(crate) fn port_name<O: Opener>(
+    alloc: Global,
+    opener: &O,
+    request: &ServeRequest<'_>,
+    place: usize,
+) -> Result<String, AllocError> {
+    let line = Line {
+        file: file_at(request, place),
+        section: "[pgbouncer]",
+        key: "listen_port",
+    };
+    name_of(alloc, opener, &line)
+}
+
 // The name of a line: its file and its number, if it is found.
 fn name_of<O: Opener>(alloc: Global, opener: &O, line: &Line<'_>) -> Result<String, AllocError> {
     let file = line.file;
-    match number_of(alloc, opener, line) {
+    match number_of(alloc, opener, line)? {
         Some(number) => format!(in alloc; "{file}:{number}"),
         None => String::from_str(alloc, file),
     }
 }
 
-// The number of a line, if the file can be read once more.
-fn number_of<O: Opener>(alloc: Global, opener: &O, line: &Line<'_>) -> Option<usize> {
+// The number of a line, if it is found when the file is read once more.
+fn number_of<O: Opener>(
+    alloc: Global,
+    opener: &O,
+    line: &Line<'_>,
+) -> Result<Option<usize>, AllocError> {
     let text = read(alloc, opener, line.file)?;
     let mut is_in_section = false;
     let mut number: usize = 0;
@@ -268,10 +292,10 @@ fn number_of<O: Opener>(alloc: Global, opener: &O, line: &Line<'_>) -> Option<us
         if found.starts_with('[') {
             is_in_section = found == line.section;
         } else if is_in_section && has_key(found, line.key) {
-            return Some(number);
+            return Ok(Some(number));
         }
     }
-    None
+    Ok(None)
 }
 
 // Whether a line gives a value to this key.
@@ -282,17 +306,29 @@ fn has_key(line: &str, key: &str) -> bool {
     }
 }
 
-// What the file holds, if it can be read.
-fn read<O: Opener>(alloc: Global, opener: &O, file: &str) -> Option<String> {
-    let mut reader = opener.open(file).ok()?;
+// What the file holds, as far as it can be read and is UTF-8.
+fn read<O: Opener>(alloc: Global, opener: &O, file: &str) -> Result<String, AllocError> {
     let mut bytes = Vec::new(alloc);
+    if let Err(error) = read_into(opener, file, &mut bytes) {
+        if error.kind() == ErrorKind::OutOfMemory {
+            return Err(AllocError);
+        }
+    }
+    match std::str::from_utf8(&bytes) {
+        Ok(text) => String::from_str(alloc, text),
+        Err(_) => Ok(String::new(alloc)),
+    }
+}
+
+fn read_into<O: Opener>(opener: &O, file: &str, bytes: &mut Vec<u8>) -> io::Result<()> {
+    let mut reader = opener.open(file)?;
     let mut chunk = [0; CHUNK];
     for _ in 0..u64::MAX {
-        let count = reader.read_once(&mut chunk).ok()?;
+        let count = reader.read_once(&mut chunk)?;
         if count == 0 {
-            return String::from_utf8(bytes).ok();
+            return Ok(());
         }
-        bytes.extend_from_slice(chunk.get(..count)?).ok()?;
+        bytes.extend_from_slice(chunk.split_at(count.min(CHUNK)).0)?;
     }
-    None
+    Ok(())
 }

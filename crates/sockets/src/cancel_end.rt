@@ -2,17 +2,7 @@
 ghost use Rattle.std.specs.Prelude.{◌≡◌};
 ghost use Rattle.sockets.specs.CancelEnds.{end_of};
 
-use crate::client_stream::LastCall;
-use pg_ids::{DatabaseNo, PeerNo};
-
-/// Where a cancel request is sent.
-#[derive(Clone, Copy, Debug, PartialEq, Eq)]
-pub enum Target {
-    /// To the server of this database.
-    Server(DatabaseNo),
-    /// To this peer.
-    Peer(PeerNo),
-}
+use peer_forward::{Outcome, Verdict};
 
 /// How a cancel request has ended.
 #[derive(Clone, Copy, Debug, PartialEq, Eq)]
@@ -28,15 +18,15 @@ pub enum CancelEnd {
 }
 
 impl CancelEnd {
-    /// Returns the end of a request that was sent there, or nowhere, by the last call of its sender's
-    /// stream: a byte is written only if the request failed.
-    pub fn of(target: Option<Target>, last: LastCall) -> CancelEnd
-        ensures { result ≡ end_of target last }
+    /// Returns the end of a request of which this became, or nothing.
+    pub fn of(verdict: Option<Verdict>) -> CancelEnd
+        ensures { result ≡ end_of verdict }
     {
-        match (target, last) {
-            (None, _) => CancelEnd::NothingSent,
-            (Some(_), LastCall::Read) => CancelEnd::Settled,
-            (Some(_), LastCall::Wrote | LastCall::Failed) => CancelEnd::Failed,
+        match verdict {
+            None => CancelEnd::NotServed,
+            Some(Verdict::Refused | Verdict::Unwaited) => CancelEnd::NothingSent,
+            Some(Verdict::Carried(Outcome::Ended)) => CancelEnd::Settled,
+            Some(Verdict::Carried(Outcome::Failed) | Verdict::NoConnect) => CancelEnd::Failed,
         }
     }
 

@@ -1,5 +1,4 @@
 //! Closes a client's connection.
-use crate::client_stream::LastCall;
 use crate::limits::{ENDING_MILLIS, ENDING_PAUSE_MILLIS, SENDING_PAUSE_MILLIS};
 use crate::poll::wait_readable;
 use crate::{ClientStream, Connection, Deadline, Machine};
@@ -26,7 +25,7 @@ pub fn end<M: Machine>(machine: &M, connection: &Connection, client: &mut Client
         return;
     }
     // A byte of a cancel request that wasn't taken stays unread: so the connection is reset.
-    if client.last_call() == LastCall::Wrote {
+    if client.wrote_last() {
         client.linger();
         let _ = finish_reading(machine, connection, client.is_sending());
     }

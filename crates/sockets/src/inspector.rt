@@ -6,6 +6,7 @@ use std::alloc::{AllocError, Global};
 use std::cell::Cell;
 use std::io;
 use std::io::ErrorKind;
+use std::net::SocketAddr;
 use std::sync::Wait;
 use std::time::Clock;
 use telemetry::Event;
@@ -136,8 +137,7 @@ impl Inspector {
         if let Some(watch) = &self.watch {
             if let Some(difference) = watch.differs() {
                 self.is_logged.set(true);
-                self.origin
-                    .write_difference(rt, Event::LinkLoginFailed, &difference);
+                self.origin.write_difference(rt, &difference);
                 return Err(io::Error::from(ErrorKind::InvalidData));
             }
         }
@@ -164,12 +164,11 @@ impl Inspector {
         self.origin.write_error(rt, self.event(), error);
     }
 
-    /// Logs why the link is closed before it is used again.
-    pub fn close<R: Wait + Clock>(&self, rt: &R) {
+    /// Logs why the link is closed before it is used again. The client with this address had it last.
+    pub fn close<R: Wait + Clock>(&self, rt: &R, client: Option<SocketAddr>) {
         if let Some(watch) = &self.watch {
             if let Some(difference) = watch.differs() {
-                self.origin
-                    .write_difference(rt, Event::LinkClosed, &difference);
+                self.origin.write_change(rt, client, &difference);
                 return;
             }
         }

@@ -27,11 +27,12 @@ mod resetting;
 mod retries;
 #[cfg(test)]
 mod tests;
+mod told_names;
 mod unserved;
 
 pub use accept_threads::AcceptThreads;
-pub use cancel_end::{CancelEnd, Target};
-pub use client_stream::{ClientStream, ConnectionContext, LastCall, Serves};
+pub use cancel_end::CancelEnd;
+pub use client_stream::{ClientStream, ConnectionContext, Serves};
 pub use connecting::connect;
 pub use connection::Connection;
 pub use connection_limit::ConnectionLimit;
@@ -49,4 +50,5 @@ pub use link_stream::LinkStream;
 pub use origin::Origin;
 pub use poll::wait_readable;
 pub use retries::Retries;
+pub use told_names::ToldNames;
 pub use unserved::{Unserved, UnservedEnd, refuse_accepted};

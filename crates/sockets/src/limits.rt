@@ -40,3 +40,9 @@ pub const CANCELS_PER_NODE: usize = 256;
 
 /// How many connections above the limit are admitted while evicted ones are still open.
 pub const SPARE_CONNECTIONS: usize = 8;
+
+/// After how long the log has a start-up parameter without effect again.
+pub const NAME_MILLIS: u64 = 60_000;
+
+/// How many such names are kept, at most.
+pub const NAMES_KEPT: usize = 64;

@@ -13,9 +13,11 @@ use std::alloc::Global;
 use std::cell::Cell;
 use std::io;
 use std::io::{ErrorKind, Read, Write};
-use std::net::TcpStream;
+use std::net::{SocketAddr, TcpStream};
 use std::os::fd::{AsRawFd, RawFd};
+use std::sync::Arc;
 use std::time::Duration;
+use telemetry::LinkRow;
 
 /// A connection to a server or a peer. A read fails at the deadline, if there is one, or when the
 /// client of the link closes its connection. A write doesn't block for long: what the socket doesn't
@@ -36,12 +38,16 @@ struct Inside<M: Machine> {
     deadline: Cell<Option<Deadline>>,
     // The socket of the client that has this link.
     client: Cell<Option<RawFd>>,
+    // The address of the client that has or had this link last.
+    last: Cell<Option<SocketAddr>>,
     // Buffered writes.
     unwritten: BytesMut,
     // Inspects what is received.
     inspector: Inspector,
     // The database of a link.
     database: Option<DatabaseNo>,
+    // The row of a link, if there is one.
+    row: Option<Arc<LinkRow, Global>>,
 }
 
 impl<M: Machine> LinkStream<M> {
@@ -65,13 +71,29 @@ impl<M: Machine> LinkStream<M> {
             socket,
             deadline: Cell::new(Some(deadline)),
             client: Cell::new(None),
+            last: Cell::new(None),
             unwritten: BytesMut::new(alloc),
             inspector,
             database,
+            row: None,
         };
         Ok(LinkStream {
             inside: Box::new(alloc, inside)?,
         })
+    }
+
+    /// Keeps its row, as long as it is open.
+    pub fn keep_row(&mut self, row: Option<Arc<LinkRow, Global>>) {
+        if let (Some(row), Ok(address)) = (&row, self.inside.socket.local_addr()) {
+            row.connect(address.port());
+        }
+        self.inside.row = row;
+    }
+
+    /// Returns its row, if there is one.
+    #[inline]
+    pub fn row(&self) -> Option<&Arc<LinkRow, Global>> {
+        self.inside.row.as_ref()
     }
 
     /// Returns whether the connection is open, no bytes are unread or unwritten, and the server reports
@@ -88,10 +110,11 @@ impl<M: Machine> LinkStream<M> {
         is_quiet
     }
 
-    /// Makes it the link of the client with this socket, without a deadline.
-    pub fn attach(&self, client: RawFd) {
+    /// Makes it the link of the client with this socket and this address, without a deadline.
+    pub fn attach(&self, client: RawFd, address: Option<SocketAddr>) {
         self.inside.deadline.set(None);
         self.inside.client.set(Some(client));
+        self.inside.last.set(address);
         self.inside.inspector.attach();
     }
 
@@ -116,7 +139,7 @@ impl<M: Machine> Inside<M> {
     // Logs that the link is closed before it is used again.
     #[inline(never)]
     fn log_close(&self) {
-        self.inspector.close(&self.machine);
+        self.inspector.close(&self.machine, self.last.get());
     }
 
     // Awaits the rest of an error for a short time.

@@ -1,8 +1,8 @@
 //! What the log names of a link or of a connection for a cancel request.
 use link_state::Difference;
-use startup::error_field;
 use std::alloc::{AllocError, Global};
 use std::io;
+use std::net::SocketAddr;
 use std::sync::{Arc, Wait};
 use std::time::Clock;
 use telemetry::{Event, Field, Log, Value, put_fields};
@@ -39,11 +39,12 @@ impl Origin {
         self.log.write_of(rt, Some(self.node), event, names, fields);
     }
 
-    /// Logs that the server refused the login of a link by an error with this body.
-    pub fn write_login_error<R: Wait + Clock>(&self, rt: &R, body: &[u8]) {
-        let code = Value::Bytes(error_field(body, b'C').unwrap_or(&[]));
-        let message = Value::Bytes(error_field(body, b'M').unwrap_or(&[]));
-        let fields = [("code", code), ("message", message)];
+    /// Logs that the server refused the login of a link by an error with this code and message.
+    pub fn write_login_error<R: Wait + Clock>(&self, rt: &R, code: &[u8], message: &[u8]) {
+        let fields = [
+            ("code", Value::Bytes(code)),
+            ("message", Value::Bytes(message)),
+        ];
         self.write(rt, Event::LinkLoginFailed, &fields);
     }
 
@@ -55,14 +56,22 @@ impl Origin {
         self.write(rt, Event::LinkLoginFailed, &fields);
     }
 
-    /// Logs that the server reports another value than clients get.
-    pub fn write_difference<R: Wait + Clock>(&self, rt: &R, event: Event, found: &Difference<'_>) {
-        let fields = [
-            ("parameter", Value::Text(found.name)),
-            ("reported", Value::Bytes(found.reported)),
-            ("told", Value::Text(found.told)),
-        ];
-        self.write(rt, event, &fields);
+    /// Logs that the server reports another value than clients get, at the login of a link.
+    pub fn write_difference<R: Wait + Clock>(&self, rt: &R, found: &Difference<'_>) {
+        self.write(rt, Event::LinkLoginFailed, &difference_fields(found));
+    }
+
+    /// Logs that the client with this address left a parameter of a link with another value than
+    /// clients get.
+    pub fn write_change<R: Wait + Clock>(
+        &self,
+        rt: &R,
+        client: Option<SocketAddr>,
+        found: &Difference<'_>,
+    ) {
+        let [parameter, reported, told] = difference_fields(found);
+        let client = ("client", Value::Peer(client));
+        self.write(rt, Event::LinkChanged, &[client, parameter, reported, told]);
     }
 
     /// Logs an error.
@@ -74,4 +83,13 @@ impl Origin {
     pub fn write_reason<R: Wait + Clock>(&self, rt: &R, event: Event, reason: &str) {
         self.write(rt, event, &[("error", Value::Text(reason))]);
     }
+}
+
+// Returns the fields that name a parameter, the value that the server reports and that of clients.
+fn difference_fields<'a>(found: &Difference<'a>) -> [Field<'a>; 3] {
+    [
+        ("parameter", Value::Text(found.name)),
+        ("reported", Value::Bytes(found.reported)),
+        ("told", Value::Text(found.told)),
+    ]
 }

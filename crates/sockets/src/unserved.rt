@@ -83,6 +83,15 @@ impl UnservedEnd {
         }
     }
 
+    /// Returns the code of the error that the client gets, if any.
+    pub fn code(self) -> Option<ErrorCode> {
+        match self {
+            UnservedEnd::Clean | UnservedEnd::Reset => None,
+            UnservedEnd::TooMany => Some(ErrorCode::TooManyConnections),
+            UnservedEnd::Shutdown => Some(ErrorCode::AdminShutdown),
+        }
+    }
+
     /// Returns the error that the client gets, if any. If there is no memory for it, it gets none.
     pub fn error(self, alloc: Global) -> Option<Vec<u8>> {
         match self {

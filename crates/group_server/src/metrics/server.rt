@@ -1,20 +1,19 @@
 //! The metrics port, over HTTP. Few connections are served at a time, each for a short time, and
-//! the page is cached for a second: so slow or frequent readers don't slow down the group. If as
+//! pages are cached for a second: so slow or frequent readers don't slow down the group. If as
 //! many are served as there may be, the oldest of which no request was received is closed.
 use crate::Serving;
 use crate::limits::{METRICS_AGE_MILLIS, METRICS_MILLIS, METRICS_READERS, METRICS_REQUEST_MILLIS};
-use crate::metrics::page::page_of;
-use crate::metrics::state::NodeState;
-use ini_config::Group;
+use crate::metrics::cache::{Cache, Page};
+use crate::metrics::making::{Maker, Sources};
 use sockets::{Capacity, ConnectionLimit, Deadline, Host, Machine, PendingId, wait_readable};
 use std::alloc::{AllocError, Global};
 use std::io::{ErrorKind, Read, Write};
 use std::net::{Shutdown, TcpListener, TcpStream};
 use std::os::fd::AsRawFd;
-use std::sync::{Arc, Mutex};
+use std::sync::Arc;
 use std::time::Duration;
 use std::{io, thread};
-use telemetry::{Answer, Counters, Log, answer_to};
+use telemetry::{Answer, Form, Resource, answer_to};
 
 // How many milliseconds pass after an error until accepting is tried again.
 const RETRY_MILLIS: u64 = 10;
@@ -26,12 +25,8 @@ const MOST_BYTES: usize = 8_192;
 #[derive(Drop)]
 pub struct Exporter<M: Machine> {
     listener: TcpListener,
-    version: String,
-    group: Arc<Group, Global>,
-    nodes: Vec<Arc<Serving<M>, Global>>,
-    counters: Arc<Counters, Global>,
-    log: Arc<Log, Global>,
-    last: Mutex<Option<Page>>,
+    maker: Maker<M>,
+    cache: Cache,
     // The connections. One is pending until its request was received.
     readers: ConnectionLimit,
 }
@@ -43,26 +38,8 @@ const READERS: Capacity = Capacity {
     kept: 0,
 };
 
-// The cached page, and when it was made.
-#[derive(Drop)]
-struct Page {
-    made: Duration,
-    text: Arc<Vec<u8>, Global>,
-}
-
-/// What the page is made from, beside the nodes.
-#[derive(Drop)]
-pub struct Sources {
-    /// The settings of the group.
-    pub group: Arc<Group, Global>,
-    /// The counters.
-    pub counters: Arc<Counters, Global>,
-    /// The log.
-    pub log: Arc<Log, Global>,
-}
-
 impl<M: Machine> Exporter<M> {
-    /// Returns an exporter without a cached page.
+    /// Returns an exporter without cached pages.
     pub fn new(
         alloc: Global,
         listener: TcpListener,
@@ -70,70 +47,32 @@ impl<M: Machine> Exporter<M> {
         nodes: Vec<Arc<Serving<M>, Global>>,
         sources: Sources,
     ) -> Exporter<M> {
-        let Sources {
-            group,
-            counters,
-            log,
-        } = sources;
         Exporter {
             listener,
-            version,
-            group,
-            nodes,
-            counters,
-            log,
-            last: Mutex::new(None),
+            maker: Maker::new(version, nodes, sources),
+            cache: Cache::new(),
             readers: ConnectionLimit::new(alloc, READERS),
         }
     }
 
     // Returns the cached page, or makes it if it is too old.
-    fn page(&self, machine: &M, alloc: Global) -> Result<Arc<Vec<u8>, Global>, AllocError> {
+    fn page(
+        &self,
+        machine: &M,
+        alloc: Global,
+        resource: Resource,
+    ) -> Result<Arc<Vec<u8>, Global>, AllocError> {
         let now = machine.monotonic().map_err(|_| AllocError)?;
-        let mut last = self.last.lock(machine);
+        let mut last = self.cache.last(resource).lock(machine);
         if let Some(page) = &*last {
             if now.saturating_sub(page.made) < Duration::from_millis(METRICS_AGE_MILLIS) {
                 return Arc::try_clone(&page.text).map_err(|_| AllocError);
             }
         }
-        let text = Arc::new(alloc, self.make(machine, alloc)?)?;
+        let text = Arc::new(alloc, self.maker.make(machine, alloc, resource)?)?;
         let theirs = Arc::try_clone(&text).map_err(|_| AllocError)?;
         *last = Some(Page { made: now, text });
         Ok(theirs)
-    }
-
-    // Makes the page.
-    fn make(&self, machine: &M, alloc: Global) -> Result<Vec<u8>, AllocError> {
-        let mut nodes = Vec::with_capacity(alloc, self.nodes.len())?;
-        for (place, node) in self.nodes.iter().enumerate() {
-            if let Some(state) = self.state(machine, alloc, place, node)? {
-                nodes.push(state)?;
-            }
-        }
-        page_of(
-            alloc,
-            self.version.as_str(),
-            &nodes,
-            &self.log.totals(machine),
-        )
-    }
-
-    // Returns the present state of a node.
-    fn state(
-        &self,
-        machine: &M,
-        alloc: Global,
-        place: usize,
-        node: &Serving<M>,
-    ) -> Result<Option<NodeState>, AllocError> {
-        let Some(settings) = self.group.get(place) else {
-            return Ok(None);
-        };
-        let Some(counters) = self.counters.node(place) else {
-            return Ok(None);
-        };
-        let census = node.census(machine, alloc)?;
-        Ok(Some(NodeState::new(alloc, settings, &census, counters)?))
     }
 
     // Serves a connection, and closes it. Until its request was received it may be evicted for
@@ -165,8 +104,12 @@ impl<M: Machine> Exporter<M> {
             let _ = self.readers.activate(machine, pending);
         }
         match answer {
-            Answer::Metrics => self.serve_page(machine, alloc, socket, deadline, true),
-            Answer::HeadOfMetrics => self.serve_page(machine, alloc, socket, deadline, false),
+            Answer::Whole(resource) => {
+                self.serve_page(machine, alloc, socket, deadline, resource, true)
+            }
+            Answer::Head(resource) => {
+                self.serve_page(machine, alloc, socket, deadline, resource, false)
+            }
             refusal => write_response(machine, socket, deadline, refusal_text(refusal)),
         }
     }
@@ -178,15 +121,17 @@ impl<M: Machine> Exporter<M> {
         alloc: Global,
         socket: &TcpStream,
         deadline: Deadline,
+        resource: Resource,
         with_text: bool,
     ) -> io::Result<()> {
-        let Ok(text) = self.page(machine, alloc) else {
+        let Ok(text) = self.page(machine, alloc, resource) else {
             return write_response(machine, socket, deadline, UNAVAILABLE);
         };
         let length = text.len();
+        let content = type_of(resource);
         let head = format!(in alloc;
             "HTTP/1.1 200 OK\r\n\
-            Content-Type: text/plain; version=0.0.4; charset=utf-8\r\n\
+            Content-Type: {content}\r\n\
             Content-Length: {length}\r\nConnection: close\r\n\r\n"
         )?;
         write_response(machine, socket, deadline, head.as_bytes())?;
@@ -194,6 +139,17 @@ impl<M: Machine> Exporter<M> {
             write_response(machine, socket, deadline, text.as_slice())?;
         }
         socket.shutdown(Shutdown::Write)
+    }
+}
+
+// Returns the type of a page (Prometheus manual, "Exposition formats"; RFC 8259).
+fn type_of(resource: Resource) -> &'static str {
+    match resource {
+        Resource::Metrics => "text/plain; version=0.0.4; charset=utf-8",
+        Resource::Clients(Form::Text) | Resource::Links(Form::Text) => {
+            "text/plain; charset=utf-8"
+        }
+        Resource::Clients(Form::Json) | Resource::Links(Form::Json) => "application/json",
     }
 }
 

@@ -1,7 +1,7 @@
 //! The first packets of a connection.
 ghost use Rattle.std.specs.Io.{ReadsAtMost};
 
-use super::{ClientStream, Serves, Stage};
+use super::{ClientStream, LastCall, Serves, Stage};
 use crate::poll::wait_readable;
 use crate::{Deadline, Machine, Unserved, UnservedEnd};
 use peer_forward::{Arrival, Asks, Requester};
@@ -58,9 +58,12 @@ impl<'a, M: Machine> ClientStream<'a, M> {
         Err(io::Error::from(ErrorKind::TimedOut))
     }
 
-    // Keeps what was read since the last answer, if the log needs it.
+    // Keeps what was read of a packet, if the log needs it. After a write another packet begins.
     fn keep(&mut self, bytes: &[u8]) {
         if self.context.log.has(Event::ParametersDropped) {
+            if self.is_idle {
+                self.packet = Vec::new(self.alloc);
+            }
             let _ = self.packet.extend_from_slice(bytes);
         }
     }
@@ -69,7 +72,10 @@ impl<'a, M: Machine> ClientStream<'a, M> {
     fn admit_session(&mut self, asks: Asks) -> bool {
         self.has_startup = true;
         match self.decide(asks) {
-            Ok(()) => true,
+            Ok(()) => {
+                self.keep_packet();
+                true
+            }
             Err(why) => {
                 self.end_unserved(why);
                 false
@@ -80,8 +86,7 @@ impl<'a, M: Machine> ClientStream<'a, M> {
     // Begins to serve a cancel request. It is given up if the connection was evicted.
     fn admit_cancel(&mut self) -> bool {
         self.stage = Stage::Session;
-        self.is_answered = true;
-        self.cancel_received = self.machine.monotonic().ok();
+        self.connection.receive_cancel(self.machine);
         let is_admitted = self.decide(Asks::Cancel).is_ok();
         if !is_admitted {
             self.give_up();
@@ -104,17 +109,26 @@ impl<'a, M: Machine> ClientStream<'a, M> {
         });
     }
 
+    // Logs that the first packets are refused for this reason, if the client gets an error for it,
+    // which is written next.
+    fn expect_error(&mut self, error: StartupError) {
+        if let Some(code) = error.error_code() {
+            self.write_refused(code);
+            self.is_refused = true;
+            self.last = LastCall::Read;
+        }
+    }
+
     /// Ends the connection, which isn't served for this reason. Logs that, unless the client has left
-    /// or the group drains.
+    /// or the group drains, or a refusal was logged for which there was no memory.
     #[inline(never)]
     pub fn dismiss(&self, why: Unserved) {
         let end = UnservedEnd::of(why, self.has_startup);
         let error = end.error(self.alloc);
-        // The client's address is known only until the connection is reset.
-        if let Some(reason) = why.reason() {
-            match &error {
-                Some(error) => self.write_refused(reason, error.as_slice()),
-                None => self.write_unserved(reason),
+        if !self.is_refused {
+            if let Some(reason) = why.reason() {
+                let code = if error.is_some() { end.code() } else { None };
+                self.write_unserved(reason, code);
             }
         }
         end.apply(self.connection.socket(), error);
@@ -136,7 +150,7 @@ impl<'a, M: Machine> Arrival for ClientStream<'a, M> {
     }
 
     fn refuse(&mut self, error: StartupError) -> bool {
-        match error {
+        let is_told = match error {
             // A whole StartupMessage was read: without a place its client isn't told what is wrong.
             StartupError::BadText | StartupError::NoUser => self.admit_session(Asks::Session),
             // The read that found the end has noted why, and without memory there was no place.
@@ -148,7 +162,11 @@ impl<'a, M: Machine> Arrival for ClientStream<'a, M> {
                 self.unserved = Some(Unserved::Refused);
                 true
             }
+        };
+        if is_told {
+            self.expect_error(error);
         }
+        is_told
     }
 }
 

@@ -7,7 +7,6 @@ mod lines;
 mod session;
 mod writing;
 
-use crate::cancel_end::CancelEnd;
 use crate::connection_limit::ConnectionLimit;
 use crate::connections::PendingId;
 use crate::error_kind::with_error;
@@ -51,15 +50,13 @@ pub struct ClientStream<'a, M: Machine> {
     stage: Stage,
     // Whether a whole StartupMessage was read.
     has_startup: bool,
-    // When its cancel request was received.
-    cancel_received: Option<Duration>,
     // What was read of the first packets since the last answer. Only kept if the log has lines about
     // parameters without effect.
     packet: Vec<u8>,
     // Why its first packets aren't served, if that is known.
     unserved: Option<Unserved>,
-    // Whether the client is logged in, was refused, or has sent a cancel request.
-    is_answered: bool,
+    // Whether its first packets were refused by an error, which is written next.
+    is_refused: bool,
     // Whether reads of the socket have a timeout.
     has_timeout: bool,
     // The last call.
@@ -102,14 +99,14 @@ enum Stage {
     Console,
 }
 
-/// The last call of a client's stream.
+// The last call of a client's stream.
 #[derive(Clone, Copy, Debug, PartialEq, Eq)]
-pub enum LastCall {
-    /// A read, or none.
+enum LastCall {
+    // A read, or none.
     Read,
-    /// A successful write.
+    // A successful write.
     Wrote,
-    /// A write that failed.
+    // A write that failed.
     Failed,
 }
 
@@ -128,10 +125,9 @@ impl<'a, M: Machine> ClientStream<'a, M> {
             context,
             stage: Stage::First(context.deadline),
             has_startup: false,
-            cancel_received: None,
             packet: Vec::new(alloc),
             unserved: None,
-            is_answered: false,
+            is_refused: false,
             has_timeout: false,
             last: LastCall::Read,
             is_idle: false,
@@ -160,25 +156,17 @@ impl<'a, M: Machine> ClientStream<'a, M> {
     /// error was written, or a write failed.
     pub fn unserved(&self) -> Option<Unserved> {
         let is_first = matches!(self.stage, Stage::First(..));
-        if !is_first || self.is_answered || self.last == LastCall::Failed {
+        let has_error = self.is_refused && self.last == LastCall::Wrote;
+        if !is_first || has_error || self.last == LastCall::Failed {
             return None;
         }
         // If the stream doesn't know why, there was no memory for the first packets.
         Some(self.unserved.unwrap_or(Unserved::Shortage))
     }
 
-    /// Returns how the client's cancel request has ended, and after how many milliseconds, if it sent
-    /// one.
-    pub fn cancel_end(&self) -> Option<(CancelEnd, u64)> {
-        let came = self.cancel_received?;
-        let now = self.machine.monotonic().ok()?;
-        let millis = now.saturating_sub(came).as_millis();
-        let end = if self.is_given_up {
-            CancelEnd::NotServed
-        } else {
-            CancelEnd::of(self.connection.target(), self.last)
-        };
-        Some((end, u64::try_from(millis).unwrap_or(u64::MAX)))
+    /// Returns whether its cancel request got no order.
+    pub fn is_given_up(&self) -> bool {
+        self.is_given_up
     }
 
     /// Returns whether the last read filled its buffer, so that more may follow.
@@ -186,9 +174,9 @@ impl<'a, M: Machine> ClientStream<'a, M> {
         self.is_sending
     }
 
-    /// Returns the last call.
-    pub fn last_call(&self) -> LastCall {
-        self.last
+    /// Returns whether the last call was a successful write.
+    pub fn wrote_last(&self) -> bool {
+        self.last == LastCall::Wrote
     }
 
     /// Takes the error to write to the client once nothing is held for it any more. From then on a
@@ -228,9 +216,6 @@ impl<'a, M: Machine> Read for ClientStream<'a, M> {
 impl<'a, M: Machine> Write for ClientStream<'a, M> {
     #[inline(always)]
     fn write(&mut self, bytes: &[u8]) -> io::Result<usize> {
-        if !self.is_answered {
-            self.look_at_answer(bytes);
-        }
         let mut socket = self.connection.socket();
         match socket.write(bytes) {
             Ok(count) if count == bytes.len() => {

@@ -12,7 +12,6 @@ use std::io;
 use std::io::{ErrorKind, Read};
 use std::os::fd::RawFd;
 use std::time::Duration;
-use telemetry::Event;
 
 impl<'a, M: Machine> ClientStream<'a, M> {
     // Reads the client's session.
@@ -211,7 +210,7 @@ impl<'a, M: Machine> ClientStream<'a, M> {
     fn lose_link(&mut self, link: RawFd) {
         self.final_error = final_error(self.alloc, link).ok();
         if let Some(error) = &self.final_error {
-            self.write_error(Event::LinkLost, error.as_slice());
+            self.write_lost(error.as_slice());
         }
     }
 

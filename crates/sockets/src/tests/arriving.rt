@@ -3,7 +3,7 @@ use crate::ClientStream;
 use crate::tests::host::TestHost;
 use peer_forward::{Arrival, Asks, Requester};
 use startup::{First, Opening, Wanted};
-use std::io::Read;
+use std::io::{Read, Write};
 use std::test::Fail;
 
 // Reads the first packet by at most this many reads, and asks whether what it asks for is admitted.
@@ -31,6 +31,10 @@ pub(crate) fn arrive<R: TestHost>(
                     return Ok(matches!(&peeked, Ok(1..)) && client.admits(Asks::Cancel));
                 }
             },
+            Ok(First::Ssl | First::Gss) => {
+                client.write_all(b"N")?;
+                text = Vec::new(rt.alloc());
+            }
             Ok(_) => return Ok(false),
             Err(error) => {
                 let _ = client.refuse(error);

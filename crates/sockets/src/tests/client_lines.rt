@@ -5,6 +5,8 @@ use crate::{
     Capacity, ClientStream, Connection, ConnectionContext, ConnectionLimit, Consoles, Deadline,
     Serves,
 };
+use peer_forward::Arrival;
+use startup::{ErrorCode, StartupError};
 use std::io::Write;
 use std::net::{TcpListener, TcpStream};
 use std::test::Fail;
@@ -15,34 +17,72 @@ const AUTHENTICATED: &[u8] = b"R\0\0\0\x08\0\0\0\0";
 
 const REFUSED: &[u8] = b"E\0\0\0\x2cSFATAL\0VFATAL\0C53300\0Mtoo many clients\0\0";
 
-// Writes these to a client of node 4. Expects a line of the log that it was refused, or none.
+// The refusals of first packets, with the code and the message that the client gets, if it gets
+// any (docs/OPERATING.md, "Errors").
+const REFUSALS: [(StartupError, Option<(&str, &str)>); 9] = [
+    (
+        StartupError::TooShort,
+        Some(("08P01", "\"protocol violation\"")),
+    ),
+    (
+        StartupError::TooLong,
+        Some(("08P01", "\"protocol violation\"")),
+    ),
+    (
+        StartupError::BadVersion,
+        Some(("0A000", "\"not in this profile\"")),
+    ),
+    (
+        StartupError::BadText,
+        Some(("08P01", "\"protocol violation\"")),
+    ),
+    (StartupError::NoUser, Some(("28000", "\"no user name\""))),
+    (StartupError::BadCancelLength, None),
+    (
+        StartupError::Repeated,
+        Some(("08P01", "\"protocol violation\"")),
+    ),
+    (StartupError::Truncated, None),
+    (StartupError::Memory, Some(("53200", "\"out of memory\""))),
+];
+
+// What happens at a client of node 4.
+#[derive(Clone, Copy)]
+enum Step<'a> {
+    // These bytes are written to it.
+    Write(&'a [u8]),
+    // Its first packets are refused.
+    Refuse(StartupError),
+}
+
+// Takes these steps with a client of node 4. Expects a line of the log that it was refused with this
+// code and message, or none.
 fn expect_refused<R: TestHost>(
     rt: &R,
     listener: &TcpListener,
-    writes: &[&[u8]],
-    is_refused: bool,
+    steps: &[Step<'_>],
+    told: Option<(&str, &str)>,
 ) -> Result<(), Fail> {
     let peer = TcpStream::connect(rt, ("127.0.0.1", listener.local_addr()?.port()))?;
     let (socket, _address) = listener.accept()?;
     let connection = Connection::new(socket);
     let log = Log::new(rt.alloc(), Level::Info);
-    write_all(rt, &connection, &log, writes)?;
-    if is_refused {
+    take(rt, &connection, &log, steps)?;
+    if let Some((code, message)) = told {
         let port = peer.local_addr()?.port();
         let line = format!(in rt.alloc();
-            "node=4 warn client_refused client=127.0.0.1:{port} code=53300 \
-            message=\"too many clients\""
+            "node=4 warn client_refused client=127.0.0.1:{port} code={code} message={message}"
         )?;
         expect_line(rt, &log, line.as_str())?;
     }
     expect_no_line(rt, &log)
 }
 
-fn write_all<R: TestHost>(
+fn take<R: TestHost>(
     rt: &R,
     connection: &Connection,
     log: &Log,
-    writes: &[&[u8]],
+    steps: &[Step<'_>],
 ) -> Result<(), Fail> {
     let capacity = Capacity {
         connections: 1,
@@ -64,8 +104,13 @@ fn write_all<R: TestHost>(
         node: 4,
     };
     let mut client = ClientStream::new(rt, rt.alloc(), connection, context);
-    for bytes in writes {
-        client.write_all(bytes)?;
+    for step in steps {
+        match *step {
+            Step::Write(bytes) => client.write_all(bytes)?,
+            Step::Refuse(error) => {
+                assert!(rt; client.refuse(error));
+            }
+        }
     }
     Ok(())
 }
@@ -75,7 +120,31 @@ fn write_all<R: TestHost>(
 #[test]
 fn a_refused_client_is_in_the_log(rt: HostRuntime) -> Result<(), Fail> {
     let listener = TcpListener::bind(&rt, ANY_PORT)?;
-    expect_refused(&rt, &listener, &[REFUSED], true)?;
-    expect_refused(&rt, &listener, &[b"N", REFUSED], true)?;
-    expect_refused(&rt, &listener, &[AUTHENTICATED, REFUSED], false)
+    for (error, told) in REFUSALS {
+        expect_refused(&rt, &listener, &[Step::Refuse(error)], told)?;
+        let steps = [Step::Write(b"N"), Step::Refuse(error)];
+        expect_refused(&rt, &listener, &steps, told)?;
+    }
+    let steps = [Step::Write(AUTHENTICATED), Step::Write(REFUSED)];
+    expect_refused(&rt, &listener, &steps, None)
+}
+
+// One that is refused once it is admitted.
+#[test]
+fn an_admitted_client_is_refused(rt: HostRuntime) -> Result<(), Fail> {
+    let listener = TcpListener::bind(&rt, ANY_PORT)?;
+    let peer = TcpStream::connect(&rt, ("127.0.0.1", listener.local_addr()?.port()))?;
+    let (socket, _address) = listener.accept()?;
+    let connection = Connection::new(socket);
+    let log = Log::new(rt.alloc(), Level::Warn);
+    let port = peer.local_addr()?.port();
+    // The address is known though the client has left.
+    drop(peer);
+    connection.write_refused(&rt, &log, 4, ErrorCode::InvalidCatalogName);
+    let line = format!(in rt.alloc();
+        "node=4 warn client_refused client=127.0.0.1:{port} code=3D000 \
+        message=\"no such database\""
+    )?;
+    expect_line(&rt, &log, line.as_str())?;
+    expect_no_line(&rt, &log)
 }

@@ -4,7 +4,7 @@ use crate::tests::arriving::arrive;
 use crate::tests::host::{ANY_PORT, TestHost};
 use crate::{
     Capacity, ClientStream, Connection, ConnectionContext, ConnectionLimit, Consoles, Deadline,
-    LastCall, Serves, end,
+    Serves, end,
 };
 use peer_forward::Requester;
 use std::io::{ErrorKind, Read, Write};
@@ -185,6 +185,8 @@ fn a_link_is_looked_at_though_its_client_does_not_read(rt: HostRuntime) -> Resul
     assert!(&rt; arrive(&rt, &mut client, READS)?);
     let (link, server) = place.connect(&rt, b"")?;
     connection.set_link(Some(link.socket().as_raw_fd()));
+    client.write_all(b"x")?;
+    assert!(&rt; client.wrote_last());
     drop(server);
     let mut failed = None;
     for _ in 0..10_000u32 {
@@ -194,7 +196,7 @@ fn a_link_is_looked_at_though_its_client_does_not_read(rt: HostRuntime) -> Resul
         }
     }
     assert_eq!(&rt; failed, Some(ErrorKind::ConnectionAborted));
-    assert_eq!(&rt; client.last_call(), LastCall::Failed);
+    assert!(&rt; !client.wrote_last(), "the last write failed");
     connection.set_link(None);
     drop(peer);
     Ok(())

@@ -23,8 +23,10 @@ pub enum Event {
     LinkLoginFailed,
     /// A server closed a link while a client had it.
     LinkLost,
-    /// An idle link is closed: its server has closed it, sent something, or reports another value.
+    /// An idle link is closed: its server has closed it, or sent something.
     LinkClosed,
+    /// An idle link is closed: its server reports another value than clients get.
+    LinkChanged,
     /// A server or a peer can't be connected to for a cancel request.
     CancelConnectFailed,
     /// A server or a peer didn't close the connection of a cancel request cleanly.
@@ -47,10 +49,14 @@ pub enum Event {
     Stopped,
     /// A message of a client or of a server is longer than the limit.
     MessageTooLong,
+    /// The session of a client that had logged in has ended with an error of its own.
+    SessionEnded,
+    /// A cancel request was refused, or no seat was free for it.
+    CancelRefused,
 }
 
 /// The number of kinds of events.
-pub const EVENTS: usize = 20;
+pub const EVENTS: usize = 23;
 
 /// The kinds of events.
 pub const KINDS: [Event; EVENTS] = [
@@ -74,6 +80,9 @@ pub const KINDS: [Event; EVENTS] = [
     Event::MessageTooLong,
     Event::ReportMissing,
     Event::LimitLow,
+    Event::SessionEnded,
+    Event::CancelRefused,
+    Event::LinkChanged,
 ];
 
 /// The importance of an event, in descending order.
@@ -113,7 +122,7 @@ impl Level {
 impl Event {
     /// Returns its position in `KINDS`.
     pub fn place(self) -> usize
-        ensures { result < 20 }
+        ensures { result < 23 }
     {
         match self {
             Event::Started => 0,
@@ -136,10 +145,13 @@ impl Event {
             Event::MessageTooLong => 17,
             Event::ReportMissing => 18,
             Event::LimitLow => 19,
+            Event::SessionEnded => 20,
+            Event::CancelRefused => 21,
+            Event::LinkChanged => 22,
         }
     }
 
-    /// Returns its name in the log.
+    /// Returns its name in the log. Events of one name have different levels.
     pub fn name(self) -> &'static str {
         match self {
             Event::Started => "started",
@@ -150,7 +162,7 @@ impl Event {
             Event::LinkConnectFailed => "link_connect_failed",
             Event::LinkLoginFailed => "link_login_failed",
             Event::LinkLost => "link_lost",
-            Event::LinkClosed => "link_closed",
+            Event::LinkClosed | Event::LinkChanged => "link_closed",
             Event::CancelConnectFailed => "cancel_connect_failed",
             Event::CancelFailed => "cancel_failed",
             Event::ClientRefused => "client_refused",
@@ -162,6 +174,8 @@ impl Event {
             Event::MessageTooLong => "message_too_long",
             Event::ReportMissing => "report_missing",
             Event::LimitLow => "limit_low",
+            Event::SessionEnded => "session_ended",
+            Event::CancelRefused => "cancel_refused",
         }
     }
 
@@ -172,9 +186,10 @@ impl Event {
             | Event::NodeListens
             | Event::LinkClosed
             | Event::ParametersDropped
+            | Event::CancelEnded
             | Event::Stopping
             | Event::Stopped => Level::Notice,
-            Event::CancelEnded => Level::Info,
+            Event::CancelRefused => Level::Info,
             _ => Level::Warn,
         }
     }

@@ -4,7 +4,7 @@ use crate::log::event::{Event, Level};
 use jiff::Timestamp;
 use std::alloc::{AllocError, Global};
 use std::io;
-use std::net::TcpStream;
+use std::net::SocketAddr;
 use std::time::Clock;
 use ucd_category::{GeneralCategory, GeneralCategoryGroup};
 
@@ -19,8 +19,8 @@ pub enum Value<'a> {
     Number(u64),
     /// A host and a port.
     Address(&'a str, u16),
-    /// The address of a connection's peer.
-    Peer(&'a TcpStream),
+    /// The address of a connection's peer, if it is known.
+    Peer(Option<SocketAddr>),
     /// An error.
     Error(&'a io::Error),
 }
@@ -108,10 +108,8 @@ fn put_value(alloc: Global, text: &mut String, value: Value<'_>) -> Result<(), A
         Value::Address(host, port) => {
             put_text(text, format!(in alloc; "{host}:{port}")?.as_str())
         }
-        Value::Peer(socket) => match socket.peer_addr() {
-            Ok(address) => put_text(text, format!(in alloc; "{address}")?.as_str()),
-            Err(_) => put_text(text, "-"),
-        },
+        Value::Peer(Some(address)) => put_text(text, format!(in alloc; "{address}")?.as_str()),
+        Value::Peer(None) => put_text(text, "-"),
         Value::Error(error) => put_text(text, format!(in alloc; "{error}")?.as_str()),
     }
 }

@@ -78,15 +78,16 @@ impl Log {
     }
 
     /// Queues the line of an event with these fields, if the log has lines of its level. It is left
-    /// out if its kind is at its limit, if the queue is full, or if memory runs out.
+    /// out if its kind is at its limit, if the queue is full, or if memory runs out. Returns whether it
+    /// is queued.
     pub fn write<R: Wait + Clock>(
         &self,
         rt: &R,
         node: Option<u16>,
         event: Event,
         fields: &[Field<'_>],
-    ) {
-        self.write_of(rt, node, event, "", fields);
+    ) -> bool {
+        self.write_of(rt, node, event, "", fields)
     }
 
     /// Like `write`, with fields before these that are already text, each after a space.
@@ -97,23 +98,24 @@ impl Log {
         event: Event,
         names: &str,
         fields: &[Field<'_>],
-    ) {
+    ) -> bool {
         if !self.has(event) {
-            return;
+            return false;
         }
         let Ok(now) = rt.monotonic() else {
-            return;
+            return false;
         };
         let verdict = self.queue.lock(rt).judge(event, now);
-        match verdict {
+        let is_queued = match verdict {
             Verdict::Write => {
                 let line = line_of(rt, self.alloc, node, event, names, fields);
-                self.queue.lock(rt).push(event, line.ok(), now);
+                self.queue.lock(rt).push(event, line.ok(), now)
             }
-            Verdict::LeaveOutFirst => {}
-            Verdict::LeaveOut => return,
-        }
+            Verdict::LeaveOutFirst => false,
+            Verdict::LeaveOut => return false,
+        };
         self.filled.notify_one();
+        is_queued
     }
 
     /// Returns the number of events of each kind, also of those whose lines were left out.
@@ -219,11 +221,14 @@ impl Queue {
         }
     }
 
-    // Queues a line. Counts it as left out if there is no memory for it or the queue is full.
-    fn push(&mut self, event: Event, line: Option<String>, now: Duration) {
-        if !self.keep(line) {
+    // Queues a line. Counts it as left out if there is no memory for it or the queue is full, and
+    // returns false.
+    fn push(&mut self, event: Event, line: Option<String>, now: Duration) -> bool {
+        let is_kept = self.keep(line);
+        if !is_kept {
             self.counts[event.place()].leave_out(now);
         }
+        is_kept
     }
 
     // Queues a line. Returns false if there is no memory for it or the queue is full.

@@ -1,3 +1,5 @@
-//! Tests of the log by public names alone.
+//! Tests by public names alone.
+mod board;
+mod counts;
 mod levels;
 mod log_lines;
