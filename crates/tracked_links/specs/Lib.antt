@@ -1,0 +1,3 @@
+pub mod Heard
+pub mod HeardInside
+pub mod Sets
