@@ -74,9 +74,10 @@ def columns(body):
     return tuple(values)
 
 
-def connect(port, timeout=10.0):
+def connect(port, timeout=10.0, source="127.0.0.1"):
+    """A connection from an address of this machine."""
     try:
-        stream = socket.create_connection(("127.0.0.1", port), timeout)
+        stream = socket.create_connection(("127.0.0.1", port), timeout, (source, 0))
     except TimeoutError as error:
         raise Late("connecting") from error
     except OSError as error:
@@ -132,9 +133,10 @@ class Client:
     """A client that is logged in, with further start-up parameters in pairs. `asides` are the kinds of
     messages that no query of it asked for."""
 
-    def __init__(self, port, database="shop", user="ann", code=STARTUP, timeout=10.0, parameters=()):
+    def __init__(self, port, database="shop", user="ann", code=STARTUP, timeout=10.0, parameters=(),
+                 source="127.0.0.1"):
         self.port, self.key, self.status, self.asides = port, b"", b"", []
-        self.stream = connect(port, timeout)
+        self.stream = connect(port, timeout, source)
         self.reader = Reader(self.stream)
         try:
             self.send(startup(database, user, code, parameters))
@@ -212,9 +214,9 @@ def outcome(call, *arguments):
         return f"late ({late})"
 
 
-def ask_cancel(port, key):
+def ask_cancel(port, key, source="127.0.0.1"):
     """Sends a cancel request. Returns its connection."""
-    stream = connect(port)
+    stream = connect(port, source=source)
     try:
         stream.sendall(cancel_request(key))
     except OSError:
