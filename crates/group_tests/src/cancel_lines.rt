@@ -10,12 +10,9 @@ use group_server::MessageLimit;
 use node_threads::CancelOrder;
 use peer_forward::{Outcome, Verdict};
 use pg_ids::{DatabaseNo, PeerNo};
-use std::alloc::Global;
 use std::net::TcpListener;
-use std::sync::Arc;
 use std::test::Fail;
 use stub_server::Mode;
-use telemetry::Log;
 
 // The server of a database, for its process 4711.
 const SERVER: CancelOrder = CancelOrder::Server(DatabaseNo(0), 4_711);
@@ -74,18 +71,12 @@ fn requested<R: TestHost>(rt: &R, port: u16, key: &[u8]) -> Result<String, Fail>
     Ok(format!(in rt.alloc(); "127.0.0.1:{own}")?)
 }
 
-// A node before a stand-in server, its log, and the port of the server.
-fn start_node<R: TestHost>(rt: &R) -> Result<(u16, Arc<Log, Global>, u16), Fail> {
-    let server = start_server(rt, TcpListener::bind(rt, ANY_PORT)?, Mode::Honest)?;
-    let (port, log) = start_limited(rt, server, MessageLimit::DEFAULT)?;
-    Ok((port, log, server))
-}
-
 // The line of a request names the address that it came from, not that of the client that it cancels,
 // and this client's slot and the process of its link, the server's first: two clients are logged in, of which the second has a link.
 #[test]
 fn who_cancelled_is_in_the_log(rt: HostRuntime) -> Result<(), Fail> {
-    let (port, log, server) = start_node(&rt)?;
+    let server = start_server(&rt, TcpListener::bind(&rt, ANY_PORT)?, Mode::Honest)?;
+    let (port, log) = start_limited(&rt, server, MessageLimit::DEFAULT)?;
     let (_first, _key) = Client::log_in(&rt, port)?;
     let (mut second, key) = Client::log_in(&rt, port)?;
     second.expect_answer(&rt, "begin", &[BEGIN, OPEN])?;
@@ -101,7 +92,8 @@ fn who_cancelled_is_in_the_log(rt: HostRuntime) -> Result<(), Fail> {
 // A request with a key that no client has.
 #[test]
 fn a_refused_cancel_is_in_the_log(rt: HostRuntime) -> Result<(), Fail> {
-    let (port, log, _server) = start_node(&rt)?;
+    let server = start_server(&rt, TcpListener::bind(&rt, ANY_PORT)?, Mode::Honest)?;
+    let (port, log) = start_limited(&rt, server, MessageLimit::DEFAULT)?;
     let requester = requested(&rt, port, UNKNOWN_KEY)?;
     let line = format!(in rt.alloc();
         "node=1 info cancel_refused client={requester} slot=5 reason=unknown"

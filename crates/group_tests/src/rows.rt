@@ -31,8 +31,8 @@ struct Scene {
 }
 
 impl Scene {
-    fn new<R: TestHost>(rt: &R) -> Result<Scene, Fail> {
-        let server = start_server(rt, TcpListener::bind(rt, ANY_PORT)?, Mode::Honest)?;
+    fn new<R: TestHost>(rt: &R, listener: TcpListener) -> Result<Scene, Fail> {
+        let server = start_server(rt, listener, Mode::Honest)?;
         let group = Running::start_measured(rt, &[server], &[&[]])?;
         let port = group.node(1)?;
         let (mut keeper, _key) = Client::log_in(rt, port)?;
@@ -95,7 +95,7 @@ fn expect_start<R: TestHost>(rt: &R, port: u16, request: &[u8], start: &str) -> 
 
 #[test]
 fn rows_are_text(rt: HostRuntime) -> Result<(), Fail> {
-    let mut scene = Scene::new(&rt)?;
+    let mut scene = Scene::new(&rt, TcpListener::bind(&rt, ANY_PORT)?)?;
     let port = scene.group.metrics();
     let (keeper, waiting) = (scene.keeper.port()?, scene.waiting.port()?);
     let keeper = format!(in rt.alloc(); "127.0.0.1:{keeper}")?;
@@ -140,7 +140,7 @@ fn rows_are_text(rt: HostRuntime) -> Result<(), Fail> {
 
 #[test]
 fn rows_are_json(rt: HostRuntime) -> Result<(), Fail> {
-    let mut scene = Scene::new(&rt)?;
+    let mut scene = Scene::new(&rt, TcpListener::bind(&rt, ANY_PORT)?)?;
     let port = scene.group.metrics();
     let (keeper, waiting) = (scene.keeper.port()?, scene.waiting.port()?);
     let row = format!(in rt.alloc();

@@ -10,14 +10,9 @@ use crate::messages::{
 use crate::reported::LOGIN;
 use crate::scripted::{Script, start};
 use group_server::MessageLimit;
-use std::alloc::Global;
 use std::net::TcpListener;
-use std::sync::Arc;
 use std::test::Fail;
 use telemetry::Log;
-
-// A node with its port and its log.
-type Node = (u16, Arc<Log, Global>);
 
 // A Query of the text `a`, one that has no end, Terminate, CopyData without data, and Flush.
 const QUERY: &[u8] = b"Q\0\0\0\x06a\0";
@@ -48,12 +43,6 @@ const NOTIFIES: &[Script] = &[Script {
     answers: &[b"A\0\0\0\x0b\0\0\0\x01n\0\0"],
 }];
 
-// Starts a node before this server.
-fn start_node<R: TestHost>(rt: &R, scripts: &'static [Script]) -> Result<Node, Fail> {
-    let server = start(rt, TcpListener::bind(rt, ANY_PORT)?, scripts)?;
-    start_limited(rt, server, MessageLimit::DEFAULT)
-}
-
 // The log says that the session of the client with this port ended, with these fields.
 fn expect_told<R: TestHost>(rt: &R, log: &Log, port: u16, fields: &str) -> Result<(), Fail> {
     let line = format!(in rt.alloc();
@@ -62,63 +51,71 @@ fn expect_told<R: TestHost>(rt: &R, log: &Log, port: u16, fields: &str) -> Resul
     await_line(rt, log, line.as_str())
 }
 
-// The session of a client that sends this ends with this error, and the log says why.
+// The session of a client of the node at this port that sends this ends with this error, and the log
+// says why.
 fn expect_end<R: TestHost>(
     rt: &R,
-    node: &Node,
+    node: u16,
+    log: &Log,
     request: &[u8],
     error: &[u8],
     fields: &str,
 ) -> Result<(), Fail> {
-    let (mut client, _key) = Client::log_in(rt, node.0)?;
+    let (mut client, _key) = Client::log_in(rt, node)?;
     client.send(request)?;
     client.expect_end(rt, error)?;
-    expect_told(rt, &node.1, client.port()?, fields)
+    expect_told(rt, log, client.port()?, fields)
 }
 
-// What a client sends that this pooler doesn't support, or that isn't of the protocol.
+// What a client sends that this pooler doesn't support, or that isn't of the protocol; the error that
+// it gets, and what the log says.
+const REFUSED: [(&[u8], &[u8], &str); 4] = [
+    (
+        PARSE_NAMED,
+        UNSUPPORTED,
+        "database=shop code=0A000 refused=named_statement",
+    ),
+    (
+        COPY_DATA,
+        UNSUPPORTED,
+        "database=shop code=0A000 refused=copy",
+    ),
+    (FLUSH, UNSUPPORTED, "database=shop code=0A000 refused=flush"),
+    (
+        CUT_QUERY,
+        VIOLATION,
+        "database=shop code=08P01 refused=malformed",
+    ),
+];
+
 #[test]
 fn refused_messages(rt: HostRuntime) -> Result<(), Fail> {
-    let node = start_node(&rt, &[])?;
-    for (request, error, fields) in [
-        (
-            PARSE_NAMED,
-            UNSUPPORTED,
-            "database=shop code=0A000 refused=named_statement",
-        ),
-        (
-            COPY_DATA,
-            UNSUPPORTED,
-            "database=shop code=0A000 refused=copy",
-        ),
-        (FLUSH, UNSUPPORTED, "database=shop code=0A000 refused=flush"),
-        (
-            CUT_QUERY,
-            VIOLATION,
-            "database=shop code=08P01 refused=malformed",
-        ),
-    ] {
-        expect_end(&rt, &node, request, error, fields)?;
+    let server = start(&rt, TcpListener::bind(&rt, ANY_PORT)?, &[])?;
+    let (port, log) = start_limited(&rt, server, MessageLimit::DEFAULT)?;
+    for (request, error, fields) in REFUSED {
+        expect_end(&rt, port, &log, request, error, fields)?;
     }
-    expect_no_line(&rt, &node.1)
+    expect_no_line(&rt, &log)
 }
 
 // A server that answers a query by the begin of a COPY.
 #[test]
 fn a_copy_is_refused(rt: HostRuntime) -> Result<(), Fail> {
-    let node = start_node(&rt, COPIES)?;
+    let server = start(&rt, TcpListener::bind(&rt, ANY_PORT)?, COPIES)?;
+    let (port, log) = start_limited(&rt, server, MessageLimit::DEFAULT)?;
     let fields = "database=shop code=0A000 refused=copy";
-    expect_end(&rt, &node, QUERY, UNSUPPORTED, fields)?;
-    expect_no_line(&rt, &node.1)
+    expect_end(&rt, port, &log, QUERY, UNSUPPORTED, fields)?;
+    expect_no_line(&rt, &log)
 }
 
 // A server that sends what nobody asked for.
 #[test]
 fn a_notification_is_refused(rt: HostRuntime) -> Result<(), Fail> {
-    let node = start_node(&rt, NOTIFIES)?;
+    let server = start(&rt, TcpListener::bind(&rt, ANY_PORT)?, NOTIFIES)?;
+    let (port, log) = start_limited(&rt, server, MessageLimit::DEFAULT)?;
     let fields = "database=shop code=08006 refused=notification";
-    expect_end(&rt, &node, QUERY, LOST, fields)?;
-    expect_no_line(&rt, &node.1)
+    expect_end(&rt, port, &log, QUERY, LOST, fields)?;
+    expect_no_line(&rt, &log)
 }
 
 // A server that ends the link: the log says so of the link, too.
@@ -142,7 +139,8 @@ fn a_link_is_lost(rt: HostRuntime) -> Result<(), Fail> {
 // The console takes no message but Query and Terminate.
 #[test]
 fn a_console_session_is_refused(rt: HostRuntime) -> Result<(), Fail> {
-    let (port, log) = start_node(&rt, &[])?;
+    let server = start(&rt, TcpListener::bind(&rt, ANY_PORT)?, &[])?;
+    let (port, log) = start_limited(&rt, server, MessageLimit::DEFAULT)?;
     let mut client = Client::connect(&rt, port)?;
     client.send(CONSOLE_STARTUP)?;
     client.expect(&rt, &[GREETING, IDLE], None)?;
@@ -156,16 +154,17 @@ fn a_console_session_is_refused(rt: HostRuntime) -> Result<(), Fail> {
 // them.
 #[test]
 fn clients_leave(rt: HostRuntime) -> Result<(), Fail> {
-    let node = start_node(&rt, &[])?;
+    let server = start(&rt, TcpListener::bind(&rt, ANY_PORT)?, &[])?;
+    let (port, log) = start_limited(&rt, server, MessageLimit::DEFAULT)?;
     for startup in [STARTUP, CONSOLE_STARTUP] {
-        let mut client = Client::connect(&rt, node.0)?;
+        let mut client = Client::connect(&rt, port)?;
         client.send(startup)?;
         client.read(&rt, Until::Bytes(IDLE), None)?;
         client.send(TERMINATE)?;
         client.expect_end(&rt, b"")?;
     }
-    drop(Client::log_in(&rt, node.0)?);
+    drop(Client::log_in(&rt, port)?);
     let fields = "database=shop code=0A000 refused=flush";
-    expect_end(&rt, &node, FLUSH, UNSUPPORTED, fields)?;
-    expect_no_line(&rt, &node.1)
+    expect_end(&rt, port, &log, FLUSH, UNSUPPORTED, fields)?;
+    expect_no_line(&rt, &log)
 }
