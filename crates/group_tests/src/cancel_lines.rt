@@ -70,38 +70,3 @@ fn requested<R: TestHost>(rt: &R, port: u16, key: &[u8]) -> Result<String, Fail>
     let own = requester.port()?;
     Ok(format!(in rt.alloc(); "127.0.0.1:{own}")?)
 }
-
-// The line of a request names the address that it came from, not that of the client that it cancels,
-// and this client's slot and the process of its link, the server's first: two clients are logged in, of which the second has a link.
-#[test]
-fn who_cancelled_is_in_the_log(rt: HostRuntime) -> Result<(), Fail> {
-    let server = start_server(&rt, TcpListener::bind(&rt, ANY_PORT)?, Mode::Honest)?;
-    let (port, log) = start_limited(&rt, server, MessageLimit::DEFAULT)?;
-    let (_first, _key) = Client::log_in(&rt, port)?;
-    let (mut second, key) = Client::log_in(&rt, port)?;
-    second.expect_answer(&rt, "begin", &[BEGIN, OPEN])?;
-    let requester = requested(&rt, port, key.as_slice())?;
-    let line = format!(in rt.alloc();
-        "node=1 notice cancel_ended client={requester} slot=1 database=shop \
-        server=127.0.0.1:{server} pid=1 result=settled"
-    )?;
-    await_timed_line(&rt, &log, line.as_str())?;
-    expect_no_line(&rt, &log)
-}
-
-// A request with a key that no client has.
-#[test]
-fn a_refused_cancel_is_in_the_log(rt: HostRuntime) -> Result<(), Fail> {
-    let server = start_server(&rt, TcpListener::bind(&rt, ANY_PORT)?, Mode::Honest)?;
-    let (port, log) = start_limited(&rt, server, MessageLimit::DEFAULT)?;
-    let requester = requested(&rt, port, UNKNOWN_KEY)?;
-    let line = format!(in rt.alloc();
-        "node=1 info cancel_refused client={requester} slot=5 reason=unknown"
-    )?;
-    await_line(&rt, &log, line.as_str())?;
-    let line = format!(in rt.alloc();
-        "node=1 notice cancel_ended client={requester} slot=5 result=nothing_sent"
-    )?;
-    await_timed_line(&rt, &log, line.as_str())?;
-    expect_no_line(&rt, &log)
-}

@@ -47,11 +47,7 @@ mod metrics;
 #[cfg(test)]
 mod reported;
 #[cfg(test)]
-mod rows;
-#[cfg(test)]
 mod scripted;
-#[cfg(test)]
-mod session_lines;
 #[cfg(test)]
 mod settings;
 #[cfg(test)]
